@@ -1,0 +1,14 @@
+//! The outside as traits: where bytes come from and where they go, each with its count of faults.
+//! A call answers `Failed` only where the count of the object that it was called on rose (clause `cause`), so a body over these traits can't give up by itself.
+//! What stands behind a trait, a file, a stream or a list in memory, is left to the crate that implements it.
+#![tactic(auto)]
+
+mod failed;
+mod sink;
+mod source;
+mod writing;
+
+pub use failed::Failed;
+pub use sink::Sink;
+pub use source::Source;
+pub use writing::write_all;
