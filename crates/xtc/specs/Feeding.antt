@@ -1,0 +1,82 @@
+-- Where a script stands between two pieces of its input, and what a step that takes a piece leaves.
+use Rattle.std.specs.Prelude.{◌≡◌, ℕ, suc, ◌+◌, ◌≤◌, ◌<◌, ◌≢◌, List, [], ◌∷◌, ◌++◌, length, take, drop, Option, Some, None, Result, Ok, Err}
+use Rattle.outside_traits.specs.Bytes.{TookAllBut, TookFront}
+use Rattle.outside_traits.specs.Faults.{Rose}
+use Rattle.xtc.specs.Lines.{ended, unended, last_line}
+use Rattle.xtc.specs.Session.{State}
+use Rattle.xtc.specs.ScriptText.{answers, state_after}
+use Rattle.xtc.specs.declared.feeding.Stop.{Stop}
+use Rattle.xtc.specs.declared.feeding.Stop.TheVariants.{LineTooLong, WriteFault, NoMemory}
+
+-- the session, how many lines have ended, what has come of the next one, and the replies that aren't written yet
+pub record Standing : Type 0 where
+  pub state : State
+  pub lines : ℕ
+  pub unended : List ℕ
+  pub pending : List ℕ
+
+abbrev pub start : State → Standing
+start s = record { state = s; lines = 0; unended = []; pending = [] }
+
+-- no line ends in the bytes
+abbrev pub IsInLine : List ℕ → Type 0
+IsInLine [] = Unit {0}
+IsInLine (b ∷ bytes) = (b ≢ 10) × IsInLine bytes
+
+-- the first end of a line stands at place i
+pub record EndsAt (bytes : List ℕ) (i : ℕ) : Type 0 where
+  pub cut : bytes ≡ take i bytes ++ 10 ∷ drop (suc i) bytes
+  pub in_line : IsInLine (take i bytes)
+  pub within : i < length bytes
+
+abbrev pub IsFirstEnd : List ℕ → Option ℕ → Type 0
+IsFirstEnd bytes None = IsInLine bytes
+IsFirstEnd bytes (Some i) = EndsAt bytes i
+
+-- each line has at most `limit` bytes
+abbrev pub AllShort : ℕ → List (List ℕ) → Type 0
+AllShort limit [] = Unit {0}
+AllShort limit (line ∷ lines) = (length line ≤ limit) × AllShort limit lines
+
+-- the replies that the bytes bring
+abbrev pub brought : Standing → List ℕ → List ℕ
+brought s bytes = answers s.state s.lines (ended s.unended bytes)
+
+-- the bytes were taken, and of what was pending and what they brought the sink took all but what is pending now
+pub record Fed (limit : ℕ) (old new : Standing) (before now : Option (List ℕ)) (bytes : List ℕ) : Type 0 where
+  pub state : new.state ≡ state_after old.state (ended old.unended bytes)
+  pub lines : new.lines ≡ old.lines + length (ended old.unended bytes)
+  pub unended : new.unended ≡ unended old.unended bytes
+  pub short : AllShort limit (ended old.unended bytes)
+  pub wrote : TookAllBut before now (old.pending ++ brought old bytes) new.pending
+
+-- the bytes were taken up to a line of more than `limit` bytes
+pub record Overran (limit : ℕ) (old new : Standing) (before now : Option (List ℕ)) (bytes : List ℕ) : Type 0 where
+  pub done : List ℕ
+  pub part : List ℕ
+  pub more : List ℕ
+  pub cut : bytes ≡ done ++ part ++ more
+  pub fed : Fed limit old new before now done
+  pub in_line : IsInLine part
+  pub long : limit < length (new.unended ++ part)
+
+-- what a step that was to take these bytes leaves where it stops
+abbrev pub Stops : ℕ → Standing → Standing → Option (List ℕ) → Option (List ℕ) → List ℕ → Stop → Type 0
+Stops limit old new before now bytes LineTooLong = Overran limit old new before now bytes
+Stops limit old new before now bytes WriteFault = TookFront before now (old.pending ++ brought old bytes)
+Stops limit old new before now bytes NoMemory = TookFront before now (old.pending ++ brought old bytes)
+
+-- what a step that takes these bytes leaves, by its answer
+abbrev pub Leaves : ℕ → Standing → Standing → Option (List ℕ) → Option (List ℕ) → List ℕ → Result (Unit {0}) Stop → Type 0
+Leaves limit old new before now bytes (Ok done) = Fed limit old new before now bytes
+Leaves limit old new before now bytes (Err stop) = Stops limit old new before now bytes stop
+
+-- what the end of the input leaves: the sink took all, or a front of it
+abbrev pub EndsInput : Standing → Option (List ℕ) → Option (List ℕ) → Result (Unit {0}) Stop → Type 0
+EndsInput s before now (Ok done) = TookAllBut before now (s.pending ++ answers s.state s.lines (last_line s.unended)) []
+EndsInput s before now (Err stop) = TookFront before now (s.pending ++ answers s.state s.lines (last_line s.unended))
+
+-- the sink's count hasn't fallen, and it rose where a write failed
+pub record HasWriteCause {T : Type 0} (before now : ℕ) (result : Result T Stop) : Type 0 where
+  pub later : before ≤ now
+  pub failed : result ≡ Err WriteFault → Rose before now

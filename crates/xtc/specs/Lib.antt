@@ -1,0 +1,9 @@
+pub mod Words
+pub mod Statuses
+pub mod ScriptLine
+pub mod Session
+pub mod Replies
+pub mod Lines
+pub mod ScriptText
+pub mod Feeding
+pub mod TopCall

@@ -1,0 +1,281 @@
+ghost use Rattle.std.specs.Prelude.{None};
+
+use crate::line::What;
+use crate::memory::{MemSink, MemSource};
+use crate::session::{Session, SessionError};
+use crate::status::Status;
+use crate::top_call::xtc;
+use outside_traits::{Failed, Sink, Source};
+use std::alloc::{AllocError, Global};
+use std::cell::Cell;
+use std::test::Fail;
+
+const SCRIPT: &[u8] =
+    b"{\"s\":1,\"call\":\"begin\"}\n \t\r\n{\"call\":\"begin\",\"s\":1}\r\n{\"s\":1,\"call\":\"commit\"}\n{\"s\":1,\"call\":\"commit\"}\n{\"s\":2,\"call\":\"begin\"}\nnope";
+
+const TEXT: &[u8] =
+    b"{\"ok\":1,\"s\":1}\n{\"err\":{\"name\":\"InTransaction\"},\"s\":1}\n{\"ok\":1,\"s\":1}\n{\"err\":{\"name\":\"NoTransaction\"},\"s\":1}\n{\"bad\":\"later\",\"line\":6}\n{\"bad\":\"later\",\"line\":7}\n";
+
+/// The words of a command line.
+fn words_of(alloc: Global, text: &str) -> Result<Vec<String>, AllocError> {
+    let mut words = Vec::new(alloc);
+    for word in text.split_ascii_whitespace() {
+        words.push(String::from_str(alloc, word)?)?;
+    }
+    Ok(words)
+}
+
+/// What a run of the script gives.
+#[derive(Drop)]
+struct Outcome {
+    status: Status,
+    text: Vec<u8>,
+}
+
+/// Runs `run` on a script that comes and goes in pieces of at most `piece` bytes; the listed calls fail.
+fn run_script(
+    alloc: Global,
+    script: &[u8],
+    piece: usize,
+    reads: &[u64],
+    writes: &[u64],
+) -> Result<Outcome, AllocError> {
+    let words = words_of(alloc, "run")?;
+    let mut source = MemSource::new(
+        Vec::from_slice(alloc, script)?,
+        piece,
+        Vec::from_slice(alloc, reads)?,
+    );
+    let mut sink = MemSink::new(alloc, piece, Vec::from_slice(alloc, writes)?);
+    let status = xtc(alloc, &words, &mut source, &mut sink);
+    let text = Vec::from_slice(alloc, sink.bytes())?;
+    Ok(Outcome { status, text })
+}
+
+#[test]
+fn pieces_of_any_length_give_the_same_text(rt: HostRuntime) -> Result<(), Fail> {
+    for piece in [1, 3, 24, 4096] {
+        let outcome = run_script(rt.alloc(), SCRIPT, piece, &[], &[])?;
+        assert_eq!(rt; outcome.status, Status::Done, "pieces of {piece}");
+        assert_eq!(rt; outcome.text.as_slice(), TEXT, "pieces of {piece}");
+    }
+    Ok(())
+}
+
+#[test]
+fn a_failed_read_leaves_the_replies_of_the_lines_before(rt: HostRuntime) -> Result<(), Fail> {
+    // Five reads give 30 bytes or less: lines end after 23, 27, 51, 75, 99 and 122 bytes.
+    for (call, written) in [(1, 0), (2, 15), (3, 54), (4, 69), (5, 108), (6, 133)] {
+        let outcome = run_script(rt.alloc(), SCRIPT, 30, &[call], &[])?;
+        assert_eq!(rt; outcome.status, Status::ReadFault, "read {call}");
+        assert_eq!(rt;
+            Some(outcome.text.as_slice()),
+            TEXT.get(..written),
+            "read {call}"
+        );
+    }
+    Ok(())
+}
+
+#[test]
+fn a_failed_write_leaves_a_front_of_the_text(rt: HostRuntime) -> Result<(), Fail> {
+    // Each read of 30 bytes is followed by the replies of the lines that it ended, at most 30 bytes a write.
+    let rows = [
+        (1, 0),
+        (2, 15),
+        (3, 45),
+        (4, 54),
+        (5, 69),
+        (6, 99),
+        (7, 108),
+        (8, 133),
+    ];
+    for (call, written) in rows {
+        let outcome = run_script(rt.alloc(), SCRIPT, 30, &[], &[call])?;
+        assert_eq!(rt; outcome.status, Status::WriteFault, "write {call}");
+        assert_eq!(rt;
+            Some(outcome.text.as_slice()),
+            TEXT.get(..written),
+            "write {call}"
+        );
+    }
+    Ok(())
+}
+
+#[test]
+fn a_line_of_the_limit_passes_and_a_longer_one_is_named(rt: HostRuntime) -> Result<(), Fail> {
+    let rows = [
+        (
+            0,
+            1_048_576,
+            Status::Done,
+            b"{\"bad\":\"later\",\"line\":1}\n".as_slice(),
+        ),
+        (
+            0,
+            1_048_577,
+            Status::LineTooLong { line: 1 },
+            b"".as_slice(),
+        ),
+        (
+            1,
+            1_048_577,
+            Status::LineTooLong { line: 2 },
+            b"{\"bad\":\"later\",\"line\":1}\n".as_slice(),
+        ),
+    ];
+    for (lines_before, length, status, text) in rows {
+        let mut script = Vec::new(rt.alloc());
+        for _ in 0..lines_before {
+            script.extend_from_slice(b"x\n")?;
+        }
+        script.extend_from_slice(&Vec::from_elem(rt.alloc(), b'x', length)?)?;
+        let outcome = run_script(rt.alloc(), &script, 65_536, &[], &[])?;
+        assert_eq!(rt; outcome.status, status);
+        assert_eq!(rt; outcome.text.as_slice(), text);
+    }
+    Ok(())
+}
+
+#[test]
+fn only_run_is_a_command(rt: HostRuntime) -> Result<(), Fail> {
+    for text in ["", "Run", "run x", "run run", "--help"] {
+        let words = words_of(rt.alloc(), text)?;
+        let mut source = MemSource::new(
+            Vec::from_slice(rt.alloc(), SCRIPT)?,
+            9,
+            Vec::new(rt.alloc()),
+        );
+        let mut sink = MemSink::new(rt.alloc(), 9, Vec::new(rt.alloc()));
+        assert_eq!(rt;
+            xtc(rt.alloc(), &words, &mut source, &mut sink),
+            Status::Usage,
+            "{text}"
+        );
+        assert_eq!(rt; sink.bytes(), b"".as_slice(), "{text}");
+    }
+    Ok(())
+}
+
+#[test]
+fn the_third_begin_passes_a_limit_of_two(rt: HostRuntime) {
+    let mut session = Session::new(0, 2);
+    assert_eq!(rt; session.ask(What::Begin), Ok(1));
+    assert_eq!(rt; session.ask(What::Commit), Ok(1));
+    assert_eq!(rt; session.ask(What::Begin), Ok(2));
+    assert_eq!(rt; session.ask(What::Begin), Err(SessionError::InTransaction));
+    assert_eq!(rt; session.ask(What::Commit), Ok(2));
+    assert_eq!(rt; session.ask(What::Begin), Err(SessionError::TxLimit));
+    assert_eq!(rt; session.ask(What::Commit), Err(SessionError::NoTransaction));
+}
+
+#[test]
+fn a_status_has_its_number_and_text(rt: HostRuntime) -> Result<(), Fail> {
+    let rows = [
+        (Status::Done, 0, ""),
+        (Status::Usage, 2, "xtc: usage"),
+        (
+            Status::LineTooLong { line: 7 },
+            3,
+            "xtc: line 7 is too long",
+        ),
+        (Status::ReadFault, 5, "xtc: input failed"),
+        (Status::WriteFault, 6, "xtc: output failed"),
+        (Status::NoMemory, 8, "xtc: no memory"),
+    ];
+    for (status, number, text) in rows {
+        assert_eq!(rt; status.number(), number);
+        assert_eq!(rt; format!(in rt.alloc(); "{status}")?.as_str(), text);
+    }
+    Ok(())
+}
+
+/// A client that writes one line a read, and notes at each read how many bytes of replies it has seen.
+#[derive(Drop)]
+struct Client<'a> {
+    rest: &'a [u8],
+    given: u64,
+    seen: &'a Cell<usize>,
+    notes: Vec<usize>,
+    faults: u64,
+}
+
+impl Source for Client<'_> {
+    ghost left = { λ _. None };
+
+    ghost given = { λ c. c.given };
+
+    ghost faults = { λ c. c.faults };
+
+    fn read(&mut self, buf: &mut [u8]) -> Result<usize, Failed> {
+        let line = self
+            .rest
+            .iter()
+            .position(|b| *b == b'\n')
+            .map_or(self.rest.len(), |end| end + 1);
+        let count = line.min(buf.len());
+        let (front, rest) = self.rest.split_at(count);
+        if self.notes.push(self.seen.get()).is_ok() {
+            if let Some(given) = self.given.checked_add(count as u64) {
+                buf[..count].copy_from_slice(front);
+                self.given = given;
+                self.rest = rest;
+                return Ok(count);
+            }
+        }
+        self.faults = self.faults.saturating_add(1);
+        Err(Failed)
+    }
+
+    fn faults(&self) -> u64 {
+        self.faults
+    }
+}
+
+/// The client's side of the replies: counts their bytes.
+#[derive(Drop)]
+struct Seen<'a> {
+    bytes: &'a Cell<usize>,
+}
+
+impl Sink for Seen<'_> {
+    ghost held = { λ _. None };
+
+    ghost faults = { λ _. 0 };
+
+    fn write(&mut self, piece: &[u8]) -> Result<usize, Failed> {
+        self.bytes.set(self.bytes.get().saturating_add(piece.len()));
+        Ok(piece.len())
+    }
+
+    fn faults(&self) -> u64 {
+        0
+    }
+}
+
+#[test]
+fn a_client_has_the_reply_of_each_line_before_the_next_is_read(
+    rt: HostRuntime,
+) -> Result<(), Fail> {
+    let seen = Cell::new(0);
+    let words = words_of(rt.alloc(), "run")?;
+    let mut client = Client {
+        rest: SCRIPT,
+        given: 0,
+        seen: &seen,
+        notes: Vec::new(rt.alloc()),
+        faults: 0,
+    };
+    let mut replies = Seen { bytes: &seen };
+    assert_eq!(rt;
+        xtc(rt.alloc(), &words, &mut client, &mut replies),
+        Status::Done
+    );
+    // Seven lines and the end of the input, which ends the last line.
+    assert_eq!(rt;
+        client.notes.as_slice(),
+        [0, 15, 15, 54, 69, 108, 133, 133].as_slice()
+    );
+    assert_eq!(rt; seen.get(), TEXT.len());
+    Ok(())
+}
