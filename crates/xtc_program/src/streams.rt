@@ -1,0 +1,108 @@
+ghost use Rattle.std.specs.Prelude.{◌≡◌, None};
+
+use outside_traits::{Failed, Sink, Source};
+use std::io::{Read, Write};
+
+/// A source over a stream. It can't tell what is left; it counts the bytes given and the reads that failed.
+#[derive(Drop)]
+pub struct StdSource<R> {
+    inner: R,
+    given: u64,
+    faults: u64,
+}
+
+impl<R: Read> StdSource<R> {
+    pub fn new(inner: R) -> StdSource<R> {
+        StdSource {
+            inner,
+            given: 0,
+            faults: 0,
+        }
+    }
+}
+
+impl<R: Read> Source for StdSource<R> {
+    ghost left = { λ _. None };
+
+    ghost given = { λ s. s.given };
+
+    ghost faults = { λ s. s.faults };
+
+    fn read(&mut self, buf: &mut [u8]) -> Result<usize, Failed> {
+        // A read that could bring the count of bytes past the greatest `u64` isn't made.
+        if buf.len() as u64 <= u64::MAX - self.given {
+            if let Ok(count) = self.inner.read(buf) {
+                self.given += count as u64;
+                return Ok(count);
+            }
+        }
+        self.faults = self.faults.saturating_add(1);
+        Err(Failed)
+    }
+
+    fn faults(&self) -> u64 {
+        self.faults
+    }
+}
+
+/// A sink over a stream. It can't tell what it holds; it counts the writes that failed or took nothing.
+#[derive(Drop)]
+pub struct StdSink<W> {
+    inner: W,
+    faults: u64,
+}
+
+impl<W: Write> StdSink<W> {
+    pub fn new(inner: W) -> StdSink<W> {
+        StdSink { inner, faults: 0 }
+    }
+}
+
+impl<W: Write> Sink for StdSink<W> {
+    ghost held = { λ _. None };
+
+    ghost faults = { λ s. s.faults };
+
+    fn write(&mut self, piece: &[u8]) -> Result<usize, Failed> {
+        if let Ok(count) = self.inner.write(piece) {
+            if count > 0 {
+                return Ok(count);
+            }
+        }
+        self.faults = self.faults.saturating_add(1);
+        Err(Failed)
+    }
+
+    fn faults(&self) -> u64 {
+        self.faults
+    }
+}
+
+#[cfg(test)]
+mod tests {
+    use super::*;
+    use std::test::Fail;
+
+    #[test]
+    fn a_stream_gives_its_bytes_in_order_and_then_none(rt: HostRuntime) -> Result<(), Fail> {
+        let mut source = StdSource::new(b"abcde".as_slice());
+        let mut buf = [0; 3];
+        for (want, bytes) in [(3, b"abc"), (2, b"dec"), (0, b"dec")] {
+            assert_eq!(rt; source.read(&mut buf), Ok(want));
+            assert_eq!(rt; &buf, bytes);
+        }
+        assert_eq!(rt; source.faults(), 0);
+        Ok(())
+    }
+
+    #[test]
+    fn a_stream_takes_bytes_until_it_is_full(rt: HostRuntime) -> Result<(), Fail> {
+        let mut room = [0; 4];
+        let mut sink = StdSink::new(room.as_mut_slice());
+        assert_eq!(rt; sink.write(b"abc"), Ok(3));
+        assert_eq!(rt; sink.write(b"def"), Ok(1));
+        assert_eq!(rt; sink.write(b"ef"), Err(Failed));
+        assert_eq!(rt; sink.faults(), 1);
+        Ok(())
+    }
+}
