@@ -1,0 +1,14 @@
+pub mod Codes
+pub mod Decimals
+pub mod Fill
+pub mod LabelOf
+mod LabelRows
+pub mod LabelTexts
+pub mod Labels
+pub mod NewCodes
+mod NewLabelCalls
+mod NewLabelRows
+pub mod NewLabels
+pub mod Reading
+pub mod Sides
+pub mod Toward

@@ -1,0 +1,62 @@
+-- The label of a new node, from its parent and its neighbours (docs/PROFILE.md, "New labels").
+-- l is the code of the neighbour to the left, r that of the one to the right.
+use Rattle.std.specs.Prelude.{ℕ, ◌+◌, ◌-◌, Bool, ◌&&◌, ◌==◌, nat_le, nat_lt, if◌then◌else◌, List, [], ◌∷◌, ◌++◌, length, Option, Some, None, option_map, ◌≤◌, IsTrue}
+use Rattle.std.specs.List.{AllByRecursion, list_all}
+use Rattle.dewey_labels.specs.Labels.{Label, greatest, most_divisions, is_odd, is_code}
+use Rattle.dewey_labels.specs.Sides.{rest}
+
+-- a code with no division above the greatest
+abbrev pub IsCode : List ℕ → Type 0
+IsCode c = IsTrue (is_code c) × AllByRecursion (λ d. d ≤ greatest) c
+
+-- the code of a child with no neighbour
+abbrev pub alone : List ℕ
+alone = 1001 ∷ []
+
+-- the least odd number above a
+abbrev pub odd_above : ℕ → ℕ
+odd_above a = if is_odd a then a + 2 else a + 1
+
+-- the code behind l, where no neighbour stands to the right
+abbrev pub after : List ℕ → List ℕ
+after [] = []
+after (a ∷ l) = odd_above a ∷ []
+
+-- the code before r, where no neighbour stands to the left
+abbrev pub before : List ℕ → List ℕ
+before [] = []
+before (b ∷ r) =
+    if is_odd b && nat_le 5 b then (b - 2) ∷ []
+    else if b == 3 then 2 ∷ 1001 ∷ []
+    else if nat_le 4 b then (b - 1) ∷ []
+    else 2 ∷ before r
+
+-- the code between l and r
+abbrev pub between : List ℕ → List ℕ → List ℕ
+between [] r = []
+between (a ∷ l) [] = []
+between (a ∷ l) (b ∷ r) =
+    if a == b then a ∷ between l r
+    else if nat_lt (odd_above a) b then odd_above a ∷ []
+    else if is_odd a && b == a + 2 then (a + 1) ∷ 1001 ∷ []
+    else if is_odd a then b ∷ before r
+    else a ∷ after l
+
+-- the code between two neighbours, each of which may be missing
+abbrev pub new_code : Option (List ℕ) → Option (List ℕ) → List ℕ
+new_code None None = alone
+new_code (Some l) None = after l
+new_code None (Some r) = before r
+new_code (Some l) (Some r) = between l r
+
+-- the divisions of a new child of p between the labels of its neighbours
+abbrev pub new_divisions : Label → Option Label → Option Label → List ℕ
+new_divisions p left right = p ++ new_code (option_map (rest p) left) (option_map (rest p) right)
+
+-- the limits on divisions, as a test
+abbrev pub is_within : List ℕ → Bool
+is_within l = nat_le (length l) most_divisions && list_all (λ d. nat_le d greatest) l
+
+-- the label of a new child of p between the labels of its neighbours; None where it would pass a limit
+abbrev pub new_label : Label → Option Label → Option Label → Option Label
+new_label p left right = if is_within (new_divisions p left right) then Some (new_divisions p left right) else None

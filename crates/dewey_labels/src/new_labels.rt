@@ -1,0 +1,195 @@
+ghost use Rattle.std.specs.Prelude.{◌≡◌, ◌≢◌, ◌↔◌, ◌≤◌, ◌++◌, if◌then◌else◌, Some, None, IsTrue, IfOk, OnOk};
+ghost use Rattle.std.specs.declared.cmp.Ordering.TheVariants.{Less};
+ghost use Rattle.std.specs.Ordering.{nat_cmp};
+ghost use Rattle.std.specs.Cmp.Lexicographic.{slice_cmp};
+ghost use Rattle.dewey_labels.specs.Labels.{greatest, is_child, is_label, IsLabel};
+ghost use Rattle.dewey_labels.specs.Sides.{rest as rest_behind};
+ghost use Rattle.dewey_labels.specs.NewLabels.{IsCode, odd_above as least_odd_above, after, before, between, is_within, new_label};
+
+use crate::{Label, List, NoMemory};
+use std::alloc::Global;
+
+/// The odd division with which a code begins that has room on both sides.
+const MIDDLE: u32 = 1001;
+
+/// Why there is no new label.
+#[derive(Debug, Drop, Clone, Copy, PartialEq, Eq)]
+pub enum LabelError {
+    /// The label would have more than 255 divisions, or one above 4,294,967,291.
+    LabelLimit,
+    NoMemory,
+}
+
+impl From<NoMemory> for LabelError {
+    ghost use Rattle.std.specs.Prelude.{◌≡◌};
+    ghost use Rattle.dewey_labels.specs.declared.new_labels.LabelError.TheVariants.{NoMemory};
+
+    ghost from_gives = { λ _ e. e ≡ NoMemory };
+
+    fn from(_refused: NoMemory) -> LabelError {
+        LabelError::NoMemory
+    }
+}
+
+/// The label of a new child of `parent`, which has no other one.
+pub fn child_first(alloc: Global, parent: &Label) -> Result<Label, LabelError>
+    ensures ok { IfOk result (λ new. new_label parent.now None None ≡ Some new) }
+    ensures limit { let new = new_label parent.now None None in
+        (result ≡ Err LabelError.LabelLimit) ↔ ((new ≡ None) × (result ≢ Err LabelError.NoMemory)) }
+    ensures label { IfOk result IsLabel }
+    ensures child { IfOk result (λ new. IsTrue (is_child parent.now new)) }
+{
+    let mut divisions = divisions_of(alloc, parent)?;
+    divisions.push(MIDDLE)?;
+    within_limits(divisions)
+}
+
+/// The label of a new child of `parent` behind `left`, its last one.
+pub fn child_after(alloc: Global, parent: &Label, left: &Label) -> Result<Label, LabelError>
+    requires { IsTrue (is_child parent.now left.now) }
+    ensures ok { IfOk result (λ new. new_label parent.now (Some left.now) None ≡ Some new) }
+    ensures limit { let new = new_label parent.now (Some left.now) None in
+        (result ≡ Err LabelError.LabelLimit) ↔ ((new ≡ None) × (result ≢ Err LabelError.NoMemory)) }
+    ensures label { IfOk result IsLabel }
+    ensures child { IfOk result (λ new. IsTrue (is_child parent.now new)) }
+    ensures behind { IfOk result (λ new. slice_cmp nat_cmp left.now new ≡ Less) }
+{
+    let mut divisions = divisions_of(alloc, parent)?;
+    push_after(&mut divisions, code(parent, left))?;
+    within_limits(divisions)
+}
+
+/// The label of a new child of `parent` before `right`, its first one.
+pub fn child_before(alloc: Global, parent: &Label, right: &Label) -> Result<Label, LabelError>
+    requires { IsTrue (is_child parent.now right.now) }
+    ensures ok { IfOk result (λ new. new_label parent.now None (Some right.now) ≡ Some new) }
+    ensures limit { let new = new_label parent.now None (Some right.now) in
+        (result ≡ Err LabelError.LabelLimit) ↔ ((new ≡ None) × (result ≢ Err LabelError.NoMemory)) }
+    ensures label { IfOk result IsLabel }
+    ensures child { IfOk result (λ new. IsTrue (is_child parent.now new)) }
+    ensures ahead { IfOk result (λ new. slice_cmp nat_cmp new right.now ≡ Less) }
+{
+    let mut divisions = divisions_of(alloc, parent)?;
+    push_before(&mut divisions, code(parent, right))?;
+    within_limits(divisions)
+}
+
+/// The label of a new child of `parent` between its neighbours `left` and `right`,
+/// whose own labels stay as they are.
+pub fn child_between(
+    alloc: Global,
+    parent: &Label,
+    left: &Label,
+    right: &Label,
+) -> Result<Label, LabelError>
+    requires left_child { IsTrue (is_child parent.now left.now) }
+    requires right_child { IsTrue (is_child parent.now right.now) }
+    requires order { slice_cmp nat_cmp left.now right.now ≡ Less }
+    ensures ok { IfOk result (λ new.
+        new_label parent.now (Some left.now) (Some right.now) ≡ Some new) }
+    ensures limit { let new = new_label parent.now (Some left.now) (Some right.now) in
+        (result ≡ Err LabelError.LabelLimit) ↔ ((new ≡ None) × (result ≢ Err LabelError.NoMemory)) }
+    ensures label { IfOk result IsLabel }
+    ensures child { IfOk result (λ new. IsTrue (is_child parent.now new)) }
+    ensures behind { IfOk result (λ new. slice_cmp nat_cmp left.now new ≡ Less) }
+    ensures ahead { IfOk result (λ new. slice_cmp nat_cmp new right.now ≡ Less) }
+{
+    let mut divisions = divisions_of(alloc, parent)?;
+    push_between(&mut divisions, code(parent, left), code(parent, right))?;
+    within_limits(divisions)
+}
+
+fn divisions_of(alloc: Global, label: &Label) -> Result<List<u32>, NoMemory>
+    ensures divisions { IfOk result (λ l. l ≡ label.now) }
+    ensures label { IsLabel label.now }
+{
+    Ok(List::from_vec(Vec::from_slice(alloc, label.divisions())?))
+}
+
+/// The code of a child: its divisions behind those of its parent.
+fn code<'a>(parent: &Label, child: &'a Label) -> &'a [u32]
+    requires { IsTrue (is_child parent.now child.now) }
+    ensures rest { result.now ≡ rest_behind parent.now child.now }
+    ensures code { IsCode result.now }
+{
+    &child.divisions()[parent.divisions().len()..]
+}
+
+/// Puts the code behind `left` at the end.
+fn push_after(divisions: &mut List<u32>, left: &[u32]) -> Result<(), NoMemory>
+    requires { IsCode left.now }
+    ensures { OnOk result (divisions.new ≡ divisions.old ++ after left.now) }
+{
+    match left {
+        [] => unreachable!(),
+        [first, ..] => divisions.push(odd_above(*first)),
+    }
+}
+
+/// Puts the code before `right` at the end.
+fn push_before(divisions: &mut List<u32>, right: &[u32]) -> Result<(), NoMemory>
+    requires { IsCode right.now }
+    ensures { OnOk result (divisions.new ≡ divisions.old ++ before right.now) }
+{
+    match right {
+        [] => unreachable!(),
+        [first, ..] if first % 2 == 1 && *first >= 5 => divisions.push(first - 2),
+        [3, ..] => {
+            divisions.push(2)?;
+            divisions.push(MIDDLE)
+        }
+        [first, ..] if *first >= 4 => divisions.push(first - 1),
+        [_, rest @ ..] => {
+            divisions.push(2)?;
+            push_before(divisions, rest)
+        }
+    }
+}
+
+/// Puts the code between `left` and `right` at the end.
+fn push_between(divisions: &mut List<u32>, left: &[u32], right: &[u32]) -> Result<(), NoMemory>
+    requires left_code { IsCode left.now }
+    requires right_code { IsCode right.now }
+    requires order { slice_cmp nat_cmp left.now right.now ≡ Less }
+    ensures { OnOk result (divisions.new ≡ divisions.old ++ between left.now right.now) }
+{
+    let ([a, after_a @ ..], [b, after_b @ ..]) = (left, right) else {
+        unreachable!()
+    };
+    if a == b {
+        divisions.push(*a)?;
+        push_between(divisions, after_a, after_b)
+    } else if odd_above(*a) < *b {
+        divisions.push(odd_above(*a))
+    } else if a % 2 == 1 && *b == a + 2 {
+        divisions.push(a + 1)?;
+        divisions.push(MIDDLE)
+    } else if a % 2 == 1 {
+        divisions.push(*b)?;
+        push_before(divisions, after_b)
+    } else {
+        divisions.push(*a)?;
+        push_after(divisions, after_a)
+    }
+}
+
+/// The least odd number above a division.
+fn odd_above(division: u32) -> u32
+    requires { division ≤ greatest }
+    ensures { result ≡ least_odd_above division }
+{
+    if division % 2 == 1 {
+        division + 2
+    } else {
+        division + 1
+    }
+}
+
+/// The label with these divisions, unless they pass a limit.
+#[tactic(auto, using(crate::proofs::NewLabelCalls::found_within))]
+fn within_limits(divisions: List<u32>) -> Result<Label, LabelError>
+    requires { IsTrue (is_label divisions) }
+    ensures { result ≡ (if is_within divisions then Ok divisions else Err LabelError.LabelLimit) }
+{
+    Label::of_divisions(divisions).ok_or(LabelError::LabelLimit)
+}

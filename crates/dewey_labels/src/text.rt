@@ -1,0 +1,97 @@
+ghost use Rattle.std.specs.Prelude.{◌≡◌, nat_eq, IfOk, Some, refl, string_bytes};
+ghost use Rattle.std.specs.Ordering.{nat_cmp};
+ghost use Rattle.std.specs.Cmp.{partial_equiv_from_equiv};
+ghost use Rattle.std.specs.Cmp.Lexicographic.{pointwise, slice_cmp, nat_list_eq_equiv, nat_list_cmp_total, texts_ties, texts_po};
+
+use crate::{Copied, NoMemory};
+use std::alloc::Global;
+use std::cmp::Ordering;
+use std::marker::Model;
+
+/// A text, seen as the bytes of its UTF-8.
+#[derive(Debug, Drop)]
+pub struct Text {
+    chars: String,
+}
+
+impl Model for Text {
+    ghost use Rattle.std.specs.Prelude as p;
+
+    ghost Value = { p.List p.ℕ };
+
+    ghost view = { λ t. p.string_bytes t.chars };
+}
+
+impl Text {
+    /// The text of `s`.
+    pub fn of(alloc: Global, s: &str) -> Result<Text, NoMemory>
+        ensures { IfOk result (λ t. t ≡ s.now) }
+    {
+        let chars = String::from_str(alloc, s)?;
+        Ok(Text { chars })
+    }
+
+    /// The text of a string. It takes no memory.
+    pub(crate) fn from_string(chars: String) -> Text
+        ensures { result ≡ string_bytes chars }
+    {
+        Text { chars }
+    }
+
+    pub fn as_str(&self) -> &str
+        ensures { result.now ≡ self.now }
+    {
+        self.chars.as_str()
+    }
+
+    pub fn copy(&self, alloc: Global) -> Result<Text, NoMemory>
+        ensures { IfOk result (λ t. t ≡ self.now) }
+    {
+        Text::of(alloc, self.as_str())
+    }
+}
+
+impl Copied for Text {
+    fn copy(&self, alloc: Global) -> Result<Text, NoMemory> {
+        Text::copy(self, alloc)
+    }
+}
+
+impl PartialEq for Text {
+    ghost eq = { pointwise nat_eq };
+
+    ghost laws = { partial_equiv_from_equiv nat_list_eq_equiv };
+
+    fn eq(&self, other: &Text) -> bool {
+        self.as_str() == other.as_str()
+    }
+}
+
+impl Eq for Text {
+    ghost laws = { nat_list_eq_equiv };
+}
+
+/// The order of the texts' bytes.
+impl Ord for Text {
+    ghost cmp = { slice_cmp nat_cmp };
+
+    ghost total = { nat_list_cmp_total };
+
+    ghost matches_partial_cmp = { λ x y. refl };
+
+    ghost matches_eq = { texts_ties };
+
+    fn cmp(&self, other: &Text) -> Ordering {
+        self.as_str().cmp(other.as_str())
+    }
+}
+
+impl PartialOrd for Text {
+    ghost partial_cmp = { λ x y. Some (slice_cmp nat_cmp x y) };
+
+    ghost laws = { texts_po };
+
+    fn partial_cmp(&self, other: &Text) -> Option<Ordering> {
+        Some(self.cmp(other))
+    }
+}
