@@ -1,0 +1,27 @@
+-- A call's fragment as plain trees, level by level.
+use Rattle.std.proofs.Common.{◌≡◌, List, map, ℕ, rules}
+use Rattle.tree_model.specs.declared.fragment.Fragment.{Fragment, the_lemmas}
+use Rattle.tree_model.specs.declared.fragment.Fragment.TheVariants.{Element, Text}
+use Rattle.tree_model.specs.Names.{Name}
+use Rattle.tree_model.specs.Tree.{Attributes}
+use Rattle.tree_model.specs.Fragments.{Fragments, no_more, element, text, before_row, in_a_row, plain}
+
+-- fragments in a row
+abbrev pub plain_row : List Fragment → Fragments
+plain_row fs = in_a_row (map before_row fs)
+
+-- an element before others
+pub before_row-Element : (n : Name) (ats : Attributes) (ch : List Fragment) (nx : Fragments) → before_row (Element n ats ch) nx ≡ element n ats (plain_row ch) nx
+before_row-Element n ats ch nx = search (rules, the_lemmas)
+
+-- a text before others
+pub before_row-Text : (t : List ℕ) (nx : Fragments) → before_row (Text t) nx ≡ text t nx
+before_row-Text t nx = search (rules, the_lemmas)
+
+-- an element by itself
+pub plain-Element : (n : Name) (ats : Attributes) (ch : List Fragment) → plain (Element n ats ch) ≡ element n ats (plain_row ch) no_more
+plain-Element n ats ch = before_row-Element n ats ch no_more
+
+-- a text by itself
+pub plain-Text : (t : List ℕ) → plain (Text t) ≡ text t no_more
+plain-Text t = before_row-Text t no_more

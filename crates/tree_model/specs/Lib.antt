@@ -1,0 +1,14 @@
+pub mod DomCalls
+pub mod DomReads
+pub mod DomWrites
+pub mod Entries
+pub mod Fragments
+pub mod Graft
+pub mod Keys
+pub mod Limits
+pub mod Names
+pub mod Outcomes
+pub mod Seeks
+pub mod Tree
+pub mod WellFormed
+pub mod Serial

@@ -1,0 +1,24 @@
+//! What the store keeps and is asked: keys and records, fragments, the DOM calls with their replies, and the changes that a call makes.
+//! The definitions of this crate say what a tree is, which map of keys and records it stands for, and what each call does to it; `is_name` is exactly the Names of XML 1.0.
+//! Reading and changing a map is left to the crates above.
+#![tactic(auto)]
+
+mod change;
+mod dom_call;
+mod fragment;
+mod key;
+mod names;
+mod record;
+mod refusal;
+mod reply;
+#[cfg(test)]
+mod tests;
+
+pub use change::{Change, Changes};
+pub use dom_call::DomCall;
+pub use fragment::Fragment;
+pub use key::Key;
+pub use names::is_name;
+pub use record::Record;
+pub use refusal::Refusal;
+pub use reply::{Hit, Reply};

@@ -1,0 +1,269 @@
+use crate::{Change, DomCall, Fragment, Hit, Key, Record, Refusal, Reply, is_name};
+use dewey_labels::{Label, List, NoMemory, Text};
+use std::alloc::Global;
+use std::cmp::Ordering;
+use std::test::Fail;
+
+#[test]
+fn names_have_the_characters_of_xml(rt: HostRuntime) -> Result<(), Fail> {
+    // XML 1.0, fifth edition, section 2.3: the ends of each range and the characters beside them;
+    // whether a Name may begin with the character, and whether it may go on with it.
+    let alloc = rt.alloc();
+    for (character, begins, goes_on) in [
+        (',', false, false),
+        ('-', false, true),
+        ('.', false, true),
+        ('/', false, false),
+        ('0', false, true),
+        ('9', false, true),
+        (':', true, true),
+        (';', false, false),
+        ('@', false, false),
+        ('A', true, true),
+        ('Z', true, true),
+        ('[', false, false),
+        ('^', false, false),
+        ('_', true, true),
+        ('`', false, false),
+        ('a', true, true),
+        ('z', true, true),
+        ('{', false, false),
+        ('\u{B6}', false, false),
+        ('\u{B7}', false, true),
+        ('\u{B8}', false, false),
+        ('\u{BF}', false, false),
+        ('\u{C0}', true, true),
+        ('\u{D6}', true, true),
+        ('\u{D7}', false, false),
+        ('\u{D8}', true, true),
+        ('\u{F6}', true, true),
+        ('\u{F7}', false, false),
+        ('\u{F8}', true, true),
+        ('\u{2FF}', true, true),
+        ('\u{300}', false, true),
+        ('\u{36F}', false, true),
+        ('\u{370}', true, true),
+        ('\u{37D}', true, true),
+        ('\u{37E}', false, false),
+        ('\u{37F}', true, true),
+        ('\u{1FFF}', true, true),
+        ('\u{2000}', false, false),
+        ('\u{200B}', false, false),
+        ('\u{200C}', true, true),
+        ('\u{200D}', true, true),
+        ('\u{200E}', false, false),
+        ('\u{203E}', false, false),
+        ('\u{203F}', false, true),
+        ('\u{2040}', false, true),
+        ('\u{2041}', false, false),
+        ('\u{206F}', false, false),
+        ('\u{2070}', true, true),
+        ('\u{218F}', true, true),
+        ('\u{2190}', false, false),
+        ('\u{2BFF}', false, false),
+        ('\u{2C00}', true, true),
+        ('\u{2FEF}', true, true),
+        ('\u{2FF0}', false, false),
+        ('\u{3000}', false, false),
+        ('\u{3001}', true, true),
+        ('\u{D7FF}', true, true),
+        ('\u{E000}', false, false),
+        ('\u{F8FF}', false, false),
+        ('\u{F900}', true, true),
+        ('\u{FDCF}', true, true),
+        ('\u{FDD0}', false, false),
+        ('\u{FDEF}', false, false),
+        ('\u{FDF0}', true, true),
+        ('\u{FFFD}', true, true),
+        ('\u{FFFE}', false, false),
+        ('\u{10000}', true, true),
+        ('\u{EFFFF}', true, true),
+        ('\u{F0000}', false, false),
+        ('\u{10FFFF}', false, false),
+    ] {
+        let first = format!(in alloc; "{character}")?;
+        let second = format!(in alloc; "a{character}")?;
+        assert_eq!(rt;
+            is_name(&Text::of(alloc, &first)?),
+            begins,
+            "begins with {character:?}"
+        );
+        assert_eq!(rt;
+            is_name(&Text::of(alloc, &second)?),
+            goes_on,
+            "goes on with {character:?}"
+        );
+    }
+    Ok(())
+}
+
+#[test]
+fn names_have_1_to_1024_bytes(rt: HostRuntime) -> Result<(), Fail> {
+    let alloc = rt.alloc();
+    // One byte and two bytes a character.
+    for (character, count, want) in [
+        ('a', 0, false),
+        ('a', 1, true),
+        ('a', 1024, true),
+        ('a', 1025, false),
+        ('\u{E9}', 512, true),
+        ('\u{E9}', 513, false),
+    ] {
+        let mut name = String::new(alloc);
+        for _ in 0..count {
+            name.push(character)?;
+        }
+        assert_eq!(rt;
+            is_name(&Text::of(alloc, &name)?),
+            want,
+            "{count} times {character:?}"
+        );
+    }
+    Ok(())
+}
+
+fn label(alloc: Global, divisions: &[u32]) -> Result<Label, Fail> {
+    let divisions = List::from_vec(Vec::from_slice(alloc, divisions)?);
+    match Label::of_divisions(divisions) {
+        Some(label) => Ok(label),
+        None => Err(Fail::from("no label")),
+    }
+}
+
+#[test]
+fn keys_rise_by_label_and_then_by_name(rt: HostRuntime) -> Result<(), Fail> {
+    // A prefix comes first, among labels and among names.
+    let alloc = rt.alloc();
+    let rows: [(&[u32], &str); 12] = [
+        (&[1], ""),
+        (&[1], "x"),
+        (&[1, 1001], ""),
+        (&[1, 1001], "a"),
+        (&[1, 1001], "ab"),
+        (&[1, 1001], "b"),
+        (&[1, 1001], "\u{10FFFF}"),
+        (&[1, 1001, 2, 1001], ""),
+        (&[1, 1001, 3], ""),
+        (&[1, 1001, 1001], "b"),
+        (&[1, 1002, 1001], "a"),
+        (&[1, 1003], ""),
+    ];
+    for (i, (left_label, left_name)) in rows.iter().enumerate() {
+        let left = Key::of_attribute(alloc, &label(alloc, left_label)?, left_name)?;
+        for (j, (right_label, right_name)) in rows.iter().enumerate() {
+            let right = Key::of_attribute(alloc, &label(alloc, right_label)?, right_name)?;
+            assert_eq!(rt; left.cmp(&right), i.cmp(&j), "{left:?} and {right:?}");
+            assert_eq!(rt; left == right, i == j, "{left:?} and {right:?}");
+        }
+    }
+    Ok(())
+}
+
+#[test]
+fn a_trees_end_lies_behind_all_of_it(rt: HostRuntime) -> Result<(), Fail> {
+    let alloc = rt.alloc();
+    let at = label(alloc, &[1, 1001])?;
+    let start = Key::behind_attributes(alloc, &at)?;
+    let end = Key::behind_tree(alloc, &at)?;
+    let rows: [(&[u32], &str, Ordering, Ordering); 5] = [
+        (&[1, 1001], "z", Ordering::Less, Ordering::Less),
+        (&[1, 1001, 3], "", Ordering::Greater, Ordering::Less),
+        (
+            &[1, 1001, 4_294_967_291],
+            "z",
+            Ordering::Greater,
+            Ordering::Less,
+        ),
+        (&[1, 1002, 3], "", Ordering::Greater, Ordering::Greater),
+        (&[1, 1003], "", Ordering::Greater, Ordering::Greater),
+    ];
+    for (divisions, name, from_start, from_end) in rows {
+        let key = Key::of_attribute(alloc, &label(alloc, divisions)?, name)?;
+        assert_eq!(rt; key.cmp(&start), from_start, "{key:?}");
+        assert_eq!(rt; key.cmp(&end), from_end, "{key:?}");
+    }
+    Ok(())
+}
+
+#[test]
+fn a_lawful_key_has_a_name_or_none_and_level_101_at_most(rt: HostRuntime) -> Result<(), Fail> {
+    let alloc = rt.alloc();
+    for (codes, name, want) in [
+        (0, "x", true),
+        (1, "", true),
+        (101, "", true),
+        (102, "", false),
+        (1, "1a", false),
+        (1, "\u{10FFFF}", false),
+    ] {
+        let mut divisions = Vec::from_slice(alloc, &[1])?;
+        for _ in 0..codes {
+            divisions.push(1001)?;
+        }
+        let key = Key::of_attribute(alloc, &label(alloc, &divisions)?, name)?;
+        assert_eq!(rt; key.is_lawful(), want, "{codes} codes, {name:?}");
+    }
+    Ok(())
+}
+
+/// The element `a` with an attribute, an element and a text.
+fn sample(alloc: Global) -> Result<Fragment, NoMemory> {
+    let mut attrs = List::new(alloc);
+    attrs.push((Text::of(alloc, "n")?, Text::of(alloc, "5")?))?;
+    let mut children = List::new(alloc);
+    children.push(Fragment::Element {
+        name: Text::of(alloc, "b")?,
+        attrs: List::new(alloc),
+        children: List::new(alloc),
+    })?;
+    children.push(Fragment::Text(Text::of(alloc, "t")?))?;
+    Ok(Fragment::Element {
+        name: Text::of(alloc, "a")?,
+        attrs,
+        children,
+    })
+}
+
+#[test]
+fn copies_read_as_their_originals(rt: HostRuntime) -> Result<(), Fail> {
+    let alloc = rt.alloc();
+    let at = Label::root(alloc)?;
+    let fragment = sample(alloc)?;
+    assert_eq!(rt;
+        format!(in alloc; "{:?}", fragment.copy(alloc)?)?,
+        format!(in alloc; "{fragment:?}")?
+    );
+    let change = Change {
+        key: Key::of_attribute(alloc, &at, "x")?,
+        now: Some(Record::Attr(Text::of(alloc, "1.1001")?)),
+    };
+    assert_eq!(rt;
+        format!(in alloc; "{:?}", change.copy(alloc)?)?,
+        format!(in alloc; "{change:?}")?
+    );
+    let call = DomCall::Insert(
+        at.copy(alloc)?,
+        Some(at.copy(alloc)?),
+        fragment.copy(alloc)?,
+    );
+    assert_eq!(rt;
+        format!(in alloc; "{:?}", call.copy(alloc)?)?,
+        format!(in alloc; "{call:?}")?
+    );
+    let mut hits = List::new(alloc);
+    hits.push(Hit {
+        label: at,
+        attr: Some(Text::of(alloc, "n")?),
+    })?;
+    for reply in [
+        Reply::Found(hits),
+        Reply::Tree(Some(fragment)),
+        Reply::Refused(Refusal::Dom(8)),
+    ] {
+        assert_eq!(rt;
+            format!(in alloc; "{:?}", reply.copy(alloc)?)?,
+            format!(in alloc; "{reply:?}")?
+        );
+    }
+    Ok(())
+}
