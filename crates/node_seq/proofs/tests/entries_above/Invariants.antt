@@ -1,0 +1,17 @@
+use Rattle.std.proofs.Common.{◌≡◌, ◌≤◌, ◌++◌, Some, None}
+use Rattle.tree_model.specs.Entries.{Entries}
+use Rattle.tree_model.proofs.Entries.{beyond}
+use Rattle.node_seq.specs.Told.{LiesAtLawfulKey}
+use Rattle.node_seq.proofs.Walks.{from_found, left_upwards}
+use Rattle.node_seq.proofs.tests.entries_above.Given as goal
+
+abbrev pub invariant-loop-found : goal.invariant-loop-found
+invariant-loop-found g l = record {
+  same : g.S.NodeRead.stays l.fn.seq l.seq;
+  later : g.S.NodeRead.count l.fn.seq ≤ g.S.NodeRead.count l.seq;
+  lawful : g.S.NodeRead.told l.fn.seq ≡ None → LiesAtLawfulKey l.found;
+  walked : (es : Entries) → g.S.NodeRead.told l.fn.seq ≡ Some es → l.out ++ from_found l.found es ≡ beyond l.key es;
+}
+
+abbrev pub decreases-loop-found : goal.decreases-loop-found
+decreases-loop-found g l = left_upwards (g.S.NodeRead.told l.fn.seq) l.found
