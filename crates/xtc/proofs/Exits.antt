@@ -6,7 +6,7 @@ use Rattle.outside_traits.specs.Bytes.{Gave, Took, TookAllBut, TookFront}
 use Rattle.xtc.specs.Lines.{ended, unended, last_line, lines_of, first_long}
 use Rattle.xtc.specs.Session.{State}
 use Rattle.xtc.specs.ScriptText.{answers, state_after, text_of, script_text}
-use Rattle.xtc.specs.Feeding.{Standing, start, IsInLine, AllShort, brought, Fed, Overran, Stops}
+use Rattle.xtc.specs.Feeding.{Script, with_state, IsNew, StopsFrom, Standing, start, IsInLine, AllShort, brought, Fed, Overran}
 use Rattle.xtc.specs.TopCall.{bytes_read}
 use Rattle.xtc.specs.declared.feeding.Stop.{Stop}
 use Rattle.xtc.specs.declared.feeding.Stop.TheVariants.{LineTooLong, WriteFault, NoMemory}
@@ -118,14 +118,21 @@ module _ (limit : ℕ) (s : State) where
   long_front b h i j read p q =
       subst (λ x. TookFront h j (script_text s x)) (sym (p.cut ∙ append_assoc p.done p.part p.more)) (flush_front b h i j p.done (p.part ++ p.more) p.fed q)
 
+-- a script that is new stands at the start
+pub at_start : (k : Script) (s : State) → IsNew k s → with_state k s ≡ start s
+at_start k s new = λ i. record { state = s; lines = new.lines i; unended = new.unended i; pending = new.pending i }
+
+pub from_start : (limit : ℕ) (s : State) (k b : Script) (t : State) (h i : Option (List ℕ)) (read : List ℕ) → IsNew k s → Fed limit (with_state k s) (with_state b t) h i read → Fed limit (start s) (with_state b t) h i read
+from_start limit s k b t h i read new p = subst (λ a. Fed limit a (with_state b t) h i read) (at_start k s new) p
+
 abbrev as_error : Stop → Result (Unit {0}) Stop
 as_error e = Err e
 
 -- a flush stopped only at a write
-pub flush_began : (limit : ℕ) (b c : Standing) (i j : Option (List ℕ)) (e : Stop) → as_error e ≡ as_error WriteFault → Stops limit b c i j [] e → TookFront i j (b.pending ++ brought b [])
-flush_began limit b c i j LineTooLong h q = cc
-flush_began limit b c i j WriteFault h q = q
-flush_began limit b c i j NoMemory h q = q
+pub flush_began : (limit : ℕ) (s : State) (b c : Script) (i j : Option (List ℕ)) (e : Stop) → as_error e ≡ as_error WriteFault → StopsFrom limit s b c i j [] e → TookFront i j (b.pending ++ brought (with_state b s) [])
+flush_began limit s b c i j LineTooLong h q = cc
+flush_began limit s b c i j WriteFault h q = q
+flush_began limit s b c i j NoMemory h q = q
 
 -- at the end of the input the bytes read are all of it
 pub whole_is : (before now : Option (List ℕ)) (m n : ℕ) (read : List ℕ) → Gave before now read → n ≡ m + length read → IfSome now (λ rest. rest ≡ []) → bytes_read before m n ≡ before

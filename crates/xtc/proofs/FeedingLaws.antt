@@ -9,7 +9,8 @@ use Rattle.xtc.specs.ScriptLine.{line_of}
 use Rattle.xtc.specs.Session.{State}
 use Rattle.xtc.specs.Replies.{line_text}
 use Rattle.xtc.specs.ScriptText.{after_line, answers, state_after}
-use Rattle.xtc.specs.Feeding.{Standing, IsInLine, AllShort, brought, Fed, Overran, Stops, Leaves, EndsInput}
+use Rattle.xtc.specs.Kept.{Stands}
+use Rattle.xtc.specs.Feeding.{Script, with_state, StopsFrom, FedFrom, LeavesFrom, EndsInputFrom, Standing, IsInLine, AllShort, brought, Fed, Overran, Leaves}
 use Rattle.xtc.specs.declared.feeding.Stop.{Stop}
 use Rattle.xtc.specs.declared.feeding.Stop.TheVariants.{LineTooLong, WriteFault, NoMemory}
 use Rattle.outside_traits.proofs.Laws.{took_nothing, took_more, front_more}
@@ -113,31 +114,12 @@ module _ (limit : ℕ) where
   began_on a b h i j x y p q =
       (q.0, subst (λ t. TookAllBut h j t q.0) (append_assoc a.pending (brought a x) (brought b y) ∙ ap (λ t. a.pending ++ t) (sym (brought_on a b x y p.state p.lines p.unended))) (took_more h i j _ b.pending (brought b y) q.0 p.wrote q.1))
 
-  -- the bytes x were taken, and a step that was to take y stopped
-  pub stops_on : (a b c : Standing) (h i j : Option (List ℕ)) (x y : List ℕ) (e : Stop) → Fed limit a b h i x → Stops limit b c i j y e → Stops limit a c h j (x ++ y) e
-  stops_on a b c h i j x y LineTooLong p q = overran_on a b c h i j x y p q
-  stops_on a b c h i j x y WriteFault p q = began_on a b h i j x y p q
-  stops_on a b c h i j x y NoMemory p q = began_on a b h i j x y p q
-
-  pub leaves_on : (a b c : Standing) (h i j : Option (List ℕ)) (x y : List ℕ) (r : Result (Unit {0}) Stop) → Fed limit a b h i x → Leaves limit b c i j y r → Leaves limit a c h j (x ++ y) r
-  leaves_on a b c h i j x y (Ok u) p q = fed_on a b c h i j x y p q
-  leaves_on a b c h i j x y (Err e) p q = stops_on a b c h i j x y e p q
-
-  -- a flush after the bytes x
-  pub fed_flush : (a b c : Standing) (h i j : Option (List ℕ)) (x : List ℕ) → Fed limit a b h i x → Fed limit b c i j [] → Fed limit a c h j x
-  fed_flush a b c h i j x p q = subst (Fed limit a c h j) (append-nil x) (fed_on a b c h i j x [] p q)
-
-  -- the bytes x were taken, and a flush stopped
-  pub stops_flush : (a b c : Standing) (h i j : Option (List ℕ)) (x : List ℕ) (e : Stop) → Fed limit a b h i x → Stops limit b c i j [] e → Stops limit a c h j x e
-  stops_flush a b c h i j x e p q = subst (λ y. Stops limit a c h j y e) (append-nil x) (stops_on a b c h i j x [] e p q)
-
   began_stop : (a : Standing) (h i : Option (List ℕ)) (x y : List ℕ) → TookFront h i (a.pending ++ brought a x) → TookFront h i (a.pending ++ brought a (x ++ y))
   began_stop a h i x y q =
       subst (TookFront h i) (append_assoc a.pending (brought a x) _ ∙ ap (λ t. a.pending ++ t) (sym (ap (answers a.state a.lines) (ended_on a.unended x y) ∙ answers_on a.state a.lines (ended a.unended x) (ended (unended a.unended x) y)))) (front_more h i (a.pending ++ brought a x) (answers (state_after a.state (ended a.unended x)) (a.lines + length (ended a.unended x)) (ended (unended a.unended x) y)) q)
 
-  -- a step stopped within x, so it stopped within x and y
-  pub stops_more : (a b : Standing) (h i : Option (List ℕ)) (x y : List ℕ) (e : Stop) → Stops limit a b h i x e → Stops limit a b h i (x ++ y) e
-  stops_more a b h i x y LineTooLong q = record {
+  overran_more : (a b : Standing) (h i : Option (List ℕ)) (x y : List ℕ) → Overran limit a b h i x → Overran limit a b h i (x ++ y)
+  overran_more a b h i x y q = record {
     done = q.done;
     part = q.part;
     more = q.more ++ y;
@@ -146,15 +128,43 @@ module _ (limit : ℕ) where
     in_line = q.in_line;
     long = q.long;
   }
-  stops_more a b h i x y WriteFault q = began_stop a h i x y q
-  stops_more a b h i x y NoMemory q = began_stop a h i x y q
+
+  -- a flush after the bytes x
+  pub fed_flush : (a b c : Standing) (h i j : Option (List ℕ)) (x : List ℕ) → Fed limit a b h i x → Fed limit b c i j [] → Fed limit a c h j x
+  fed_flush a b c h i j x p q = subst (Fed limit a c h j) (append-nil x) (fed_on a b c h i j x [] p q)
+
+  -- ---- the same of what a script keeps
+
+  pub none_from : (s : State) (k : Script) (held : Option (List ℕ)) → Stands k.session s → FedFrom limit s k k held held []
+  none_from s k held stands = (s, stands, fed_none (with_state k s) held)
+
+  -- the bytes x were taken, and a step that was to take y stopped
+  pub stops_on : (s : State) (a b c : Script) (h i j : Option (List ℕ)) (x y : List ℕ) (e : Stop) → FedFrom limit s a b h i x → ((t : State) → Stands b.session t → StopsFrom limit t b c i j y e) → StopsFrom limit s a c h j (x ++ y) e
+  stops_on s a b c h i j x y LineTooLong p q = let r = q p.0 p.1 in (r.0, r.1, overran_on (with_state a s) (with_state b p.0) (with_state c r.0) h i j x y p.2 r.2)
+  stops_on s a b c h i j x y WriteFault p q = began_on (with_state a s) (with_state b p.0) h i j x y p.2 (q p.0 p.1)
+  stops_on s a b c h i j x y NoMemory p q = began_on (with_state a s) (with_state b p.0) h i j x y p.2 (q p.0 p.1)
+
+  -- the bytes x were taken, and then a step took y or stopped
+  pub leaves_on : (s : State) (a b c : Script) (h i j : Option (List ℕ)) (x y : List ℕ) (r : Result (Unit {0}) Stop) → FedFrom limit s a b h i x → Leaves limit b c i j y r → LeavesFrom limit s a c h j (x ++ y) r
+  leaves_on s a b c h i j x y (Ok u) p q = let r = q p.0 p.1 in (r.0, r.1, fed_on (with_state a s) (with_state b p.0) (with_state c r.0) h i j x y p.2 r.2)
+  leaves_on s a b c h i j x y (Err e) p q = stops_on s a b c h i j x y e p q
+
+  -- the bytes x were taken, and a flush followed or stopped
+  pub flushed_on : (s : State) (a b c : Script) (h i j : Option (List ℕ)) (x : List ℕ) (r : Result (Unit {0}) Stop) → FedFrom limit s a b h i x → Leaves limit b c i j [] r → LeavesFrom limit s a c h j x r
+  flushed_on s a b c h i j x r p q = subst (λ y. LeavesFrom limit s a c h j y r) (append-nil x) (leaves_on s a b c h i j x [] r p q)
+
+  -- a step stopped within x, so it stopped within x and y
+  pub stops_more : (s : State) (a b : Script) (h i : Option (List ℕ)) (x y : List ℕ) (e : Stop) → StopsFrom limit s a b h i x e → StopsFrom limit s a b h i (x ++ y) e
+  stops_more s a b h i x y LineTooLong q = (q.0, q.1, overran_more (with_state a s) (with_state b q.0) h i x y q.2)
+  stops_more s a b h i x y WriteFault q = began_stop (with_state a s) h i x y q
+  stops_more s a b h i x y NoMemory q = began_stop (with_state a s) h i x y q
 
   -- the input ended, and these bytes bring the answers of its last line
-  pub ends_as : (a b : Standing) (h i : Option (List ℕ)) (x : List ℕ) (r : Result (Unit {0}) Stop) → ended a.unended x ≡ last_line a.unended → Leaves limit a b h i x r → OnOk r (b.pending ≡ []) → (r ≡ Err LineTooLong → ⊥) → EndsInput a h i r
-  ends_as a b h i x (Ok u) lines p empty apart = subst (λ ls. TookAllBut h i (a.pending ++ answers a.state a.lines ls) []) lines (subst (λ k. TookAllBut h i (a.pending ++ brought a x) k) empty p.wrote)
-  ends_as a b h i x (Err LineTooLong) lines p empty apart = absurd (apart refl)
-  ends_as a b h i x (Err WriteFault) lines p empty apart = subst (λ ls. TookFront h i (a.pending ++ answers a.state a.lines ls)) lines p
-  ends_as a b h i x (Err NoMemory) lines p empty apart = subst (λ ls. TookFront h i (a.pending ++ answers a.state a.lines ls)) lines p
+  pub ends_as : (s : State) (a b : Script) (h i : Option (List ℕ)) (x : List ℕ) (r : Result (Unit {0}) Stop) → ended a.unended x ≡ last_line a.unended → LeavesFrom limit s a b h i x r → OnOk r (b.pending ≡ []) → (r ≡ Err LineTooLong → ⊥) → EndsInputFrom (with_state a s) h i r
+  ends_as s a b h i x (Ok u) lines p empty apart = subst (λ ls. TookAllBut h i (a.pending ++ answers s a.lines ls) []) lines (subst (λ k. TookAllBut h i (a.pending ++ brought (with_state a s) x) k) empty p.2.wrote)
+  ends_as s a b h i x (Err LineTooLong) lines p empty apart = absurd (apart refl)
+  ends_as s a b h i x (Err WriteFault) lines p empty apart = subst (λ ls. TookFront h i (a.pending ++ answers s a.lines ls)) lines p
+  ends_as s a b h i x (Err NoMemory) lines p empty apart = subst (λ ls. TookFront h i (a.pending ++ answers s a.lines ls)) lines p
 
 pub ended_at_end : (line : List ℕ) → (line ≡ [] → ⊥) → ended line (10 ∷ []) ≡ last_line line
 ended_at_end [] h = absurd (h refl)

@@ -4,6 +4,7 @@ use Rattle.outside_traits.specs.Bytes.{TookAllBut, TookFront}
 use Rattle.outside_traits.specs.Faults.{Rose}
 use Rattle.xtc.specs.Lines.{ended, unended, last_line}
 use Rattle.xtc.specs.Session.{State}
+use Rattle.xtc.specs.Kept.{Kept, Stands}
 use Rattle.xtc.specs.ScriptText.{answers, state_after}
 use Rattle.xtc.specs.declared.feeding.Stop.{Stop}
 use Rattle.xtc.specs.declared.feeding.Stop.TheVariants.{LineTooLong, WriteFault, NoMemory}
@@ -17,6 +18,23 @@ pub record Standing : Type 0 where
 
 abbrev pub start : State → Standing
 start s = record { state = s; lines = 0; unended = []; pending = [] }
+
+-- what a script keeps: the same, with the session's maps in place of its state
+pub record Script : Type 0 where
+  pub session : Kept
+  pub lines : ℕ
+  pub unended : List ℕ
+  pub pending : List ℕ
+
+-- a script before its first byte, over a session that stands in this state
+pub record IsNew (k : Script) (s : State) : Type 0 where
+  pub stands : Stands k.session s
+  pub lines : k.lines ≡ 0
+  pub unended : k.unended ≡ []
+  pub pending : k.pending ≡ []
+
+abbrev pub with_state : Script → State → Standing
+with_state k s = record { state = s; lines = k.lines; unended = k.unended; pending = k.pending }
 
 -- no line ends in the bytes
 abbrev pub IsInLine : List ℕ → Type 0
@@ -60,21 +78,32 @@ pub record Overran (limit : ℕ) (old new : Standing) (before now : Option (List
   pub in_line : IsInLine part
   pub long : limit < length (new.unended ++ part)
 
--- what a step that was to take these bytes leaves where it stops
-abbrev pub Stops : ℕ → Standing → Standing → Option (List ℕ) → Option (List ℕ) → List ℕ → Stop → Type 0
-Stops limit old new before now bytes LineTooLong = Overran limit old new before now bytes
-Stops limit old new before now bytes WriteFault = TookFront before now (old.pending ++ brought old bytes)
-Stops limit old new before now bytes NoMemory = TookFront before now (old.pending ++ brought old bytes)
+-- what a step that was to take these bytes leaves where it stops, from a state
+abbrev pub StopsFrom : ℕ → State → Script → Script → Option (List ℕ) → Option (List ℕ) → List ℕ → Stop → Type 0
+StopsFrom limit s old new before now bytes LineTooLong = (t : State) × Stands new.session t × Overran limit (with_state old s) (with_state new t) before now bytes
+StopsFrom limit s old new before now bytes WriteFault = TookFront before now (old.pending ++ brought (with_state old s) bytes)
+StopsFrom limit s old new before now bytes NoMemory = TookFront before now (old.pending ++ brought (with_state old s) bytes)
+
+-- the bytes were taken from a state, and the session stands in the state after them
+abbrev pub FedFrom : ℕ → State → Script → Script → Option (List ℕ) → Option (List ℕ) → List ℕ → Type 0
+FedFrom limit s old new before now bytes = (t : State) × Stands new.session t × Fed limit (with_state old s) (with_state new t) before now bytes
 
 -- what a step that takes these bytes leaves, by its answer
-abbrev pub Leaves : ℕ → Standing → Standing → Option (List ℕ) → Option (List ℕ) → List ℕ → Result (Unit {0}) Stop → Type 0
-Leaves limit old new before now bytes (Ok done) = Fed limit old new before now bytes
-Leaves limit old new before now bytes (Err stop) = Stops limit old new before now bytes stop
+abbrev pub LeavesFrom : ℕ → State → Script → Script → Option (List ℕ) → Option (List ℕ) → List ℕ → Result (Unit {0}) Stop → Type 0
+LeavesFrom limit s old new before now bytes (Ok done) = FedFrom limit s old new before now bytes
+LeavesFrom limit s old new before now bytes (Err stop) = StopsFrom limit s old new before now bytes stop
+
+-- from whichever state the session stands in
+abbrev pub Leaves : ℕ → Script → Script → Option (List ℕ) → Option (List ℕ) → List ℕ → Result (Unit {0}) Stop → Type 0
+Leaves limit old new before now bytes result = (s : State) → Stands old.session s → LeavesFrom limit s old new before now bytes result
 
 -- what the end of the input leaves: the sink took all, or a front of it
-abbrev pub EndsInput : Standing → Option (List ℕ) → Option (List ℕ) → Result (Unit {0}) Stop → Type 0
-EndsInput s before now (Ok done) = TookAllBut before now (s.pending ++ answers s.state s.lines (last_line s.unended)) []
-EndsInput s before now (Err stop) = TookFront before now (s.pending ++ answers s.state s.lines (last_line s.unended))
+abbrev pub EndsInputFrom : Standing → Option (List ℕ) → Option (List ℕ) → Result (Unit {0}) Stop → Type 0
+EndsInputFrom s before now (Ok done) = TookAllBut before now (s.pending ++ answers s.state s.lines (last_line s.unended)) []
+EndsInputFrom s before now (Err stop) = TookFront before now (s.pending ++ answers s.state s.lines (last_line s.unended))
+
+abbrev pub EndsInput : Script → Option (List ℕ) → Option (List ℕ) → Result (Unit {0}) Stop → Type 0
+EndsInput old before now result = (s : State) → Stands old.session s → EndsInputFrom (with_state old s) before now result
 
 -- the sink's count hasn't fallen, and it rose where a write failed
 pub record HasWriteCause {T : Type 0} (before now : ℕ) (result : Result T Stop) : Type 0 where

@@ -2,8 +2,12 @@ pub mod Words
 pub mod Statuses
 pub mod ScriptLine
 pub mod Session
+pub mod Calls
+pub mod OwnView
+pub mod Kept
 pub mod Replies
 pub mod Lines
 pub mod ScriptText
+pub mod Commits
 pub mod Feeding
 pub mod TopCall

@@ -1,12 +1,14 @@
 ghost use Rattle.std.specs.Prelude.{◌≡◌, ◌==◌, position, ◌≢◌, ℕ, ◌+◌, ◌<◌, ◌≤◌, ◌^◌, List, [], ◌∷◌, ◌++◌, length, Option, Err, OnOk, OnErr};
 ghost use Rattle.outside_traits.specs.Faults.{HasCause};
-ghost use Rattle.xtc.specs.Feeding.{Standing, start, EndsInput, IsInLine, IsFirstEnd, Fed, Leaves, HasWriteCause};
+ghost use Rattle.xtc.specs.Session.{State};
+ghost use Rattle.xtc.specs.Kept.{Stands};
+ghost use Rattle.xtc.specs.Feeding.{EndsInput, IsInLine, IsFirstEnd, IsNew, FedFrom, Leaves, HasWriteCause};
 
-use crate::line::{Line, read_line};
-use crate::reply::{write_answer, write_bad};
+use crate::line::read_line;
 use crate::session::Session;
+use dewey_labels::NoMemory;
 use outside_traits::{Sink, write_all};
-use std::alloc::{AllocError, Global};
+use std::alloc::Global;
 use std::marker::Model;
 
 /// The most bytes of a line before its end.
@@ -34,19 +36,19 @@ pub struct Script {
 
 impl Model for Script {
     ghost use Rattle.std.specs.Prelude.{◌≤◌, length};
-    ghost use Rattle.xtc.specs.Feeding.{Standing};
+    ghost use Rattle.xtc.specs.Feeding.{Script as Kept};
     ghost use Rattle.xtc.specs.declared.feeding.TheConstants.{LINE_LIMIT};
 
-    ghost Value = { Standing };
+    ghost Value = { Kept };
 
-    ghost view = { λ s. record { state = s.session; lines = s.lines; unended = s.unended.items; pending = s.pending.items } };
+    ghost view = { λ s. record { session = s.session; lines = s.lines; unended = s.unended.items; pending = s.pending.items } };
 
     ghost invariant = { λ s. length s.unended.items ≤ LINE_LIMIT };
 }
 
 impl Script {
     pub fn new(alloc: Global, session: Session) -> Script
-        ensures { result ≡ start session }
+        ensures { (s : State) → Stands session s → IsNew result s }
     {
         Script {
             session,
@@ -164,21 +166,15 @@ impl Script {
     }
 
     /// Does the line that has ended.
-    fn do_line(&mut self, alloc: Global) -> Result<(), AllocError>
+    fn do_line(&mut self, alloc: Global) -> Result<(), NoMemory>
         requires { self.old.lines + 1 < 2 ^ 64 }
-        ensures fed { OnOk result ((held : Option (List ℕ)) → Fed LINE_LIMIT self.old self.new held held (10 ∷ [])) }
+        ensures fed { OnOk result ((held : Option (List ℕ)) (s : State) → Stands self.old.session s → FedFrom LINE_LIMIT s self.old self.new held held (10 ∷ [])) }
         ensures lines { self.new.lines ≤ self.old.lines + 1 }
     {
         let line = read_line(alloc, &self.unended)?;
         self.lines += 1;
-        match line {
-            Line::Blank => {}
-            Line::Ask(what) => {
-                let answer = self.session.ask(what);
-                write_answer(alloc, answer, &mut self.pending)?;
-            }
-            Line::Later => write_bad(alloc, self.lines, &mut self.pending)?,
-        }
+        self.session
+            .answer(alloc, self.lines, line, &mut self.pending)?;
         self.unended.clear();
         Ok(())
     }

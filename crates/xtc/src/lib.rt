@@ -4,10 +4,16 @@
 #![tactic(auto)]
 
 mod bounded;
+mod calls;
+#[cfg(test)]
+mod calls_tests;
 mod feeding;
 mod line;
 #[cfg(test)]
 mod memory;
+mod own_view;
+#[cfg(test)]
+mod own_view_tests;
 mod reply;
 mod session;
 mod status;

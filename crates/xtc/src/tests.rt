@@ -2,13 +2,14 @@ ghost use Rattle.std.specs.Prelude.{None};
 
 use crate::line::What;
 use crate::memory::{MemSink, MemSource};
-use crate::session::{Session, SessionError};
+use crate::session::{Answer, Session, SessionError};
 use crate::status::Status;
 use crate::top_call::xtc;
 use outside_traits::{Failed, Sink, Source};
 use std::alloc::{AllocError, Global};
 use std::cell::Cell;
 use std::test::Fail;
+use tree_model::Reply;
 
 const SCRIPT: &[u8] =
     b"{\"s\":1,\"call\":\"begin\"}\n \t\r\n{\"call\":\"begin\",\"s\":1}\r\n{\"s\":1,\"call\":\"commit\"}\n{\"s\":1,\"call\":\"commit\"}\n{\"s\":2,\"call\":\"begin\"}\nnope";
@@ -157,16 +158,148 @@ fn only_run_is_a_command(rt: HostRuntime) -> Result<(), Fail> {
     Ok(())
 }
 
+/// A session's answer to a request is that number.
+fn is_number(answer: &Answer, number: u32) -> bool {
+    match answer {
+        Ok(Reply::Number(answered)) => *answered == number,
+        _ => false,
+    }
+}
+
+fn is_refusal(answer: &Answer, why: SessionError) -> bool {
+    match answer {
+        Err(answered) => *answered == why,
+        _ => false,
+    }
+}
+
 #[test]
-fn the_third_begin_passes_a_limit_of_two(rt: HostRuntime) {
-    let mut session = Session::new(0, 2);
-    assert_eq!(rt; session.ask(What::Begin), Ok(1));
-    assert_eq!(rt; session.ask(What::Commit), Ok(1));
-    assert_eq!(rt; session.ask(What::Begin), Ok(2));
-    assert_eq!(rt; session.ask(What::Begin), Err(SessionError::InTransaction));
-    assert_eq!(rt; session.ask(What::Commit), Ok(2));
-    assert_eq!(rt; session.ask(What::Begin), Err(SessionError::TxLimit));
-    assert_eq!(rt; session.ask(What::Commit), Err(SessionError::NoTransaction));
+fn the_third_begin_passes_a_limit_of_two(rt: HostRuntime) -> Result<(), Fail> {
+    let alloc = rt.alloc();
+    let mut session = Session::new(alloc, 0, 2);
+    assert!(rt; is_number(&session.ask(alloc, What::Begin)?, 1));
+    assert!(rt; is_number(&session.ask(alloc, What::Commit)?, 1));
+    assert!(rt; is_number(&session.ask(alloc, What::Begin)?, 2));
+    assert!(rt;
+        is_refusal(
+            &session.ask(alloc, What::Begin)?,
+            SessionError::InTransaction
+        )
+    );
+    assert!(rt; is_number(&session.ask(alloc, What::Commit)?, 2));
+    assert!(rt; is_refusal(&session.ask(alloc, What::Begin)?, SessionError::TxLimit));
+    assert!(rt;
+        is_refusal(
+            &session.ask(alloc, What::Commit)?,
+            SessionError::NoTransaction
+        )
+    );
+    Ok(())
+}
+
+/// Lines and the reply to each.
+const ROWS: &[(&str, &str)] = &[
+    (
+        r#"{"s":1,"call":"first","at":"1.1001"}"#,
+        r#"{"err":{"name":"NoTransaction"},"s":1}"#,
+    ),
+    (
+        r#"{"s":1,"call":"create","name":"x","tree":["a"]}"#,
+        r#"{"err":{"name":"NoTransaction"},"s":1}"#,
+    ),
+    (r#"{"s":1,"call":"begin"}"#, r#"{"ok":1,"s":1}"#),
+    (
+        r#"{"s":1,"call":"first","at":"1.1001"}"#,
+        r#"{"err":{"code":8,"name":"NOT_FOUND_ERR"},"s":1}"#,
+    ),
+    (
+        r#"{"s":1,"call":"create","name":"1x","tree":["a"]}"#,
+        r#"{"err":{"code":5,"name":"INVALID_CHARACTER_ERR"},"s":1}"#,
+    ),
+    (
+        r#"{"s":1,"call":"create","name":"x","tree":["a"]}"#,
+        r#"{"ok":"1.1001","s":1}"#,
+    ),
+    (
+        r#"{"tree":["b"],"call":"create","s":1,"name":"\u00e9"}"#,
+        r#"{"ok":"1.1003","s":1}"#,
+    ),
+    (
+        r#"{"s":1,"call":"create","name":"x","tree":["c"]}"#,
+        r#"{"err":{"name":"DocumentExists"},"s":1}"#,
+    ),
+    (
+        r#"{"s":1,"call":"first","at":"1.1001"}"#,
+        r#"{"ok":"1.1001.1001","s":1}"#,
+    ),
+    (
+        r#"{"s":1,"call":"first","at":"1.1003"}"#,
+        r#"{"ok":"1.1003.1001","s":1}"#,
+    ),
+    (
+        r#"{"s":1,"call":"first","at":"1.1003.1001"}"#,
+        r#"{"ok":null,"s":1}"#,
+    ),
+    (
+        r#"{"s":1,"call":"first","at":"1.1002.3"}"#,
+        r#"{"err":{"code":8,"name":"NOT_FOUND_ERR"},"s":1}"#,
+    ),
+    (r#"{"s":1,"call":"commit"}"#, r#"{"ok":1,"s":1}"#),
+    (r#"{"s":1,"call":"begin"}"#, r#"{"ok":2,"s":1}"#),
+    (
+        r#"{"s":1,"call":"create","name":"z","tree":["a"]}"#,
+        r#"{"ok":"1.1005","s":1}"#,
+    ),
+    (
+        r#"{"s":1,"call":"first","at":"1.1003"}"#,
+        r#"{"ok":"1.1003.1001","s":1}"#,
+    ),
+    (r#"{"s":1,"call":"commit"}"#, r#"{"ok":2,"s":1}"#),
+    // What isn't one of the four forms.
+    (
+        r#"{"s":1,"call":"first","at":"1"}"#,
+        r#"{"bad":"later","line":18}"#,
+    ),
+    (
+        r#"{"s":1,"call":"first","at":"01.3"}"#,
+        r#"{"bad":"later","line":19}"#,
+    ),
+    (
+        r#"{"s":1,"call":"first","at":"1.2"}"#,
+        r#"{"bad":"later","line":20}"#,
+    ),
+    (
+        r#"{"s":1,"call":"first","at":7}"#,
+        r#"{"bad":"later","line":21}"#,
+    ),
+    (
+        r#"{"s":1,"call":"create","name":"y","tree":["a","b"]}"#,
+        r#"{"bad":"later","line":22}"#,
+    ),
+    (
+        r#"{"s":1,"call":"create","name":"y","tree":["1"]}"#,
+        r#"{"bad":"later","line":23}"#,
+    ),
+    (
+        r#"{"s":1,"call":"create","name":"y","tree":"a"}"#,
+        r#"{"bad":"later","line":24}"#,
+    ),
+];
+
+#[test]
+fn each_line_has_its_reply(rt: HostRuntime) -> Result<(), Fail> {
+    let mut script = String::new(rt.alloc());
+    let mut replies = String::new(rt.alloc());
+    for (line, reply) in ROWS {
+        script.push_str(line)?;
+        script.push('\n')?;
+        replies.push_str(reply)?;
+        replies.push('\n')?;
+    }
+    let outcome = run_script(rt.alloc(), script.as_bytes(), 100, &[], &[])?;
+    assert_eq!(rt; outcome.status, Status::Done);
+    assert_eq!(rt; outcome.text.as_slice(), replies.as_bytes());
+    Ok(())
 }
 
 #[test]

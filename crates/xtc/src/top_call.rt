@@ -2,8 +2,11 @@ ghost use Rattle.std.specs.Prelude.{◌≡◌, ◌≢◌, ◌↔◌, ◌+◌, �
 ghost use Rattle.outside_traits.specs.Bytes.{Gave, Took};
 ghost use Rattle.outside_traits.specs.Faults.{Rose};
 ghost use Rattle.xtc.specs.Words.{are_run};
+ghost use Rattle.tree_model.specs.Tree.{empty_tree};
 ghost use Rattle.xtc.specs.Session.{fresh};
-ghost use Rattle.xtc.specs.Feeding.{start, Fed, Stops, HasWriteCause};
+ghost use Rattle.xtc.specs.Feeding.{IsNew, FedFrom, StopsFrom, HasWriteCause};
+ghost use Rattle.xtc.specs.Lines.{lines_of};
+ghost use Rattle.xtc.specs.Commits.{IsSerial};
 ghost use Rattle.xtc.specs.TopCall.{bytes_read, Writes, ReadCause};
 
 use crate::bounded::{Bounded, INPUT_LIMIT};
@@ -36,8 +39,9 @@ pub fn xtc<S: Source, K: Sink>(
     sink: &mut K,
 ) -> Status
     ensures text { IfSome (bytes_read (S.left source.old) (S.given source.old) (S.given source.new))
-        (λ read. Writes LINE_LIMIT (fresh 0 TX_LIMIT) result read (K.held sink.old) (K.held sink.new)) }
+        (λ read. Writes LINE_LIMIT (fresh empty_tree 0 TX_LIMIT) result read (K.held sink.old) (K.held sink.new)) }
     ensures whole { result ≡ Status.Done → bytes_read (S.left source.old) (S.given source.old) (S.given source.new) ≡ S.left source.old }
+    ensures serial { IfSome (bytes_read (S.left source.old) (S.given source.old) (S.given source.new)) (λ read. IsSerial (fresh empty_tree 0 TX_LIMIT) (lines_of read)) }
     ensures usage { (result ≡ Status.Usage) ↔ (are_run words.now.items ≡ false) }
     ensures nothing { result ≡ Status.Usage → K.held sink.new ≡ K.held sink.old }
     ensures read { result ≡ Status.ReadFault → ReadCause INPUT_LIMIT (S.faults source.old) (S.faults source.new) (S.given source.old) (S.given source.new) }
@@ -62,13 +66,13 @@ fn buffer(alloc: Global) -> Result<Vec<u8>, AllocError>
 fn run<S: Source, K: Sink>(alloc: Global, source: &mut S, sink: &mut K, buffer: &mut [u8]) -> Status
     requires { 0 < length buffer.old }
     ensures text { (read : List ℕ) × Gave (S.left source.old) (S.left source.new) read × (S.given source.new ≡ S.given source.old + length read)
-        × Writes LINE_LIMIT (fresh 0 TX_LIMIT) result read (K.held sink.old) (K.held sink.new) }
+        × Writes LINE_LIMIT (fresh empty_tree 0 TX_LIMIT) result read (K.held sink.old) (K.held sink.new) }
     ensures whole { result ≡ Status.Done → IfSome (S.left source.new) (λ rest. rest ≡ []) }
     ensures usage { result ≢ Status.Usage }
     ensures read { result ≡ Status.ReadFault → ReadCause INPUT_LIMIT (S.faults source.old) (S.faults source.new) (S.given source.old) (S.given source.new) }
     ensures write { result ≡ Status.WriteFault → Rose (K.faults sink.old) (K.faults sink.new) }
 {
-    let mut script = Script::new(alloc, Session::new(0, TX_LIMIT));
+    let mut script = Script::new(alloc, Session::new(alloc, 0, TX_LIMIT));
     match take_all(&mut script, alloc, source, sink, buffer) {
         Ok(Input::Ended) => match script.finish(alloc, sink) {
             Ok(()) => Status::Done,
@@ -96,10 +100,10 @@ fn take_all<S: Source, K: Sink>(
     sink: &mut K,
     buffer: &mut [u8],
 ) -> Result<Input, Stop>
-    requires fresh { script.old ≡ start (fresh 0 TX_LIMIT) }
+    requires fresh { IsNew script.old (fresh empty_tree 0 TX_LIMIT) }
     requires some { 0 < length buffer.old }
     ensures leaves { (read : List ℕ) × Gave (S.left source.old) (S.left source.new) read × (S.given source.new ≡ S.given source.old + length read)
-        × MatchResult result (λ _. Fed LINE_LIMIT (start (fresh 0 TX_LIMIT)) script.new (K.held sink.old) (K.held sink.new) read) (λ stop. Stops LINE_LIMIT (start (fresh 0 TX_LIMIT)) script.new (K.held sink.old) (K.held sink.new) read stop) }
+        × MatchResult result (λ _. FedFrom LINE_LIMIT (fresh empty_tree 0 TX_LIMIT) script.old script.new (K.held sink.old) (K.held sink.new) read) (λ stop. StopsFrom LINE_LIMIT (fresh empty_tree 0 TX_LIMIT) script.old script.new (K.held sink.old) (K.held sink.new) read stop) }
     ensures lines { script.new.lines ≤ INPUT_LIMIT }
     ensures written { OnOk result (script.new.pending ≡ []) }
     ensures ended { result ≡ Ok Input.Ended → IfSome (S.left source.new) (λ rest. rest ≡ []) }
@@ -118,11 +122,11 @@ fn take_pieces<S: Source, K: Sink>(
     sink: &mut K,
     buffer: &mut [u8],
 ) -> Result<Input, Stop>
-    requires fresh { script.old ≡ start (fresh 0 TX_LIMIT) }
+    requires fresh { IsNew script.old (fresh empty_tree 0 TX_LIMIT) }
     requires room { source.old.room ≡ INPUT_LIMIT }
     requires some { 0 < length buffer.old }
     ensures leaves { (read : List ℕ) × Gave (S.left source.old.inner.now) (S.left source.new.inner.now) read × (S.given source.new.inner.now ≡ S.given source.old.inner.now + length read)
-        × MatchResult result (λ _. Fed LINE_LIMIT (start (fresh 0 TX_LIMIT)) script.new (K.held sink.old) (K.held sink.new) read) (λ stop. Stops LINE_LIMIT (start (fresh 0 TX_LIMIT)) script.new (K.held sink.old) (K.held sink.new) read stop) }
+        × MatchResult result (λ _. FedFrom LINE_LIMIT (fresh empty_tree 0 TX_LIMIT) script.old script.new (K.held sink.old) (K.held sink.new) read) (λ stop. StopsFrom LINE_LIMIT (fresh empty_tree 0 TX_LIMIT) script.old script.new (K.held sink.old) (K.held sink.new) read stop) }
     ensures same_reference { source.new.inner.ghost_name ≡ source.old.inner.ghost_name }
     ensures lines { script.new.lines ≤ INPUT_LIMIT }
     ensures written { OnOk result (script.new.pending ≡ []) }

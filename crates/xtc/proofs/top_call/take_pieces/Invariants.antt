@@ -1,7 +1,8 @@
 use Rattle.std.proofs.Common.{◌≡◌, ◌+◌, ◌≤◌, List, ℕ, length}
 use Rattle.outside_traits.specs.Bytes.{Gave}
 use Rattle.xtc.specs.Session.{fresh}
-use Rattle.xtc.specs.Feeding.{start, Fed}
+use Rattle.tree_model.specs.Tree.{empty_tree}
+use Rattle.xtc.specs.Feeding.{FedFrom}
 use Rattle.xtc.specs.declared.feeding.TheConstants.{LINE_LIMIT}
 use Rattle.xtc.specs.declared.top_call.TheConstants.{TX_LIMIT}
 use Rattle.xtc.specs.declared.bounded.TheConstants.{INPUT_LIMIT}
@@ -9,7 +10,7 @@ use Rattle.xtc.proofs.top_call.take_pieces.Given as goal
 
 abbrev pub invariant-pieces : goal.invariant-pieces
 invariant-pieces g l = record {
-  so_far : (read : List ℕ) × Gave (g.S.Source.left l.fn.source.inner.now) (g.S.Source.left l.source.inner.now) read × (g.S.Source.given l.source.inner.now ≡ g.S.Source.given l.fn.source.inner.now + length read) × Fed LINE_LIMIT (start (fresh 0 TX_LIMIT)) l.script (g.K.Sink.held l.fn.sink) (g.K.Sink.held l.sink) read;
+  so_far : (read : List ℕ) × Gave (g.S.Source.left l.fn.source.inner.now) (g.S.Source.left l.source.inner.now) read × (g.S.Source.given l.source.inner.now ≡ g.S.Source.given l.fn.source.inner.now + length read) × FedFrom LINE_LIMIT (fresh empty_tree 0 TX_LIMIT) l.fn.script l.script (g.K.Sink.held l.fn.sink) (g.K.Sink.held l.sink) read;
   same_reference : l.source.inner.ghost_name ≡ l.fn.source.inner.ghost_name;
   used : g.S.Source.given l.source.inner.now + l.source.room ≡ g.S.Source.given l.fn.source.inner.now + INPUT_LIMIT;
   lines : l.script.lines + l.source.room ≤ INPUT_LIMIT;

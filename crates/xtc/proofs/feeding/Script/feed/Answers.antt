@@ -1,8 +1,8 @@
-use Rattle.std.proofs.Common.{arith, ◌≡◌, ◌+◌, ℕ, suc, List, [], ◌∷◌, ◌++◌, drop, ap, sym, ◌∙◌, refl, subst, append_assoc}
+use Rattle.std.proofs.Common.{arith, ◌≡◌, ◌+◌, ℕ, suc, List, [], ◌∷◌, ◌++◌, drop, ap, sym, ◌∙◌, refl, subst, append_assoc, Ok}
 use Rattle.std.proofs.lemmas.List.{drop-drop}
-use Rattle.xtc.specs.Feeding.{Leaves, Stops, IsInLine}
+use Rattle.xtc.specs.Feeding.{LeavesFrom, StopsFrom, IsInLine}
 use Rattle.xtc.specs.declared.feeding.TheConstants.{LINE_LIMIT}
-use Rattle.xtc.proofs.FeedingLaws.{fed_on, stops_on, leaves_on, stops_more}
+use Rattle.xtc.proofs.FeedingLaws.{none_from, stops_on, leaves_on, stops_more}
 use Rattle.xtc.proofs.feeding.Script.feed.Goals as goal
 
 -- the line and its end come off the front of what is left
@@ -16,20 +16,23 @@ take_line-requires-clause-in_line g c = subst IsInLine (sym c.split_at.ensures.f
 pub extend-requires : goal.extend-requires
 extend-requires g c = c.in_default.ensures
 
+pub loop-place-init : goal.loop-place-init
+loop-place-init g c = record { so_far = ([], refl, λ s stands. none_from LINE_LIMIT s c.args.self.now (g.K.Sink.held c.args.sink.now) stands); room = omega arith; later = omega arith }
+
 pub returns-in-Err-clause-leaves : goal.returns-in-Err-clause-leaves
-returns-in-Err-clause-leaves g c =
-    let s = c.loop-place.invariant.so_far in
+returns-in-Err-clause-leaves g c = λ s stands.
+    let so = c.loop-place.invariant.so_far in
     let place = c.in-Some.place in
     let rest = c.loop-place.rest.now in
     let line_is : rest ≡ c.split_at.result.0.now ++ 10 ∷ drop (suc place) rest = c.in-Some.ensures.cut ∙ ap (λ t. t ++ 10 ∷ drop (suc place) rest) (sym c.split_at.ensures.front) in
     let j = g.K.Sink.held c.take_line.new.sink in
-    let stopped = stops_on LINE_LIMIT _ _ _ _ _ j _ _ c.in-Err.stop s.2 c.in-Err.ensures.leaves in
-    subst (λ x. Stops LINE_LIMIT c.args.self.now c.take_line.new.self (g.K.Sink.held c.args.sink.now) j x c.in-Err.stop) (sym (off_front _ s.0 rest c.split_at.result.0.now (drop (suc place) rest) _ s.1 line_is refl))
-    (stops_more LINE_LIMIT _ _ _ _ _ (drop (suc place) rest) c.in-Err.stop stopped)
+    let stopped = stops_on LINE_LIMIT s c.args.self.now c.loop-place.self c.take_line.new.self _ _ j so.0 (c.split_at.result.0.now ++ 10 ∷ []) c.in-Err.stop (so.2 s stands) c.in-Err.ensures.leaves in
+    subst (λ x. StopsFrom LINE_LIMIT s c.args.self.now c.take_line.new.self (g.K.Sink.held c.args.sink.now) j x c.in-Err.stop) (sym (off_front _ so.0 rest c.split_at.result.0.now (drop (suc place) rest) _ so.1 line_is refl))
+    (stops_more LINE_LIMIT s c.args.self.now c.take_line.new.self (g.K.Sink.held c.args.sink.now) j (so.0 ++ (c.split_at.result.0.now ++ 10 ∷ [])) (drop (suc place) rest) c.in-Err.stop stopped)
 
 pub loop-place-preserved : goal.loop-place-preserved
 loop-place-preserved g c =
-    let s = c.loop-place.invariant.so_far in
+    let so = c.loop-place.invariant.so_far in
     let place = c.in-Some.place in
     let rest = c.loop-place.rest.now in
     let line = c.split_at.result.0.now in
@@ -37,14 +40,13 @@ loop-place-preserved g c =
     let line_is : rest ≡ line ++ 10 ∷ drop (suc place) rest = c.in-Some.ensures.cut ∙ ap (λ t. t ++ 10 ∷ drop (suc place) rest) (sym c.split_at.ensures.front) in
     let one : place + 1 ≡ suc place = omega arith in
     let next_is : next ≡ drop (suc place) rest = c.split_at-in-Some.ensures.back ∙ ap (drop 1) c.split_at.ensures.back ∙ drop-drop 1 place rest ∙ ap (λ k. drop k rest) one in
-    let cut = off_front _ s.0 rest line next (drop (suc place) rest) s.1 line_is next_is in
     record {
-      so_far = (s.0 ++ (line ++ 10 ∷ []), cut, fed_on LINE_LIMIT _ _ _ _ _ _ s.0 (line ++ 10 ∷ []) s.2 c.in_default-take_line.ensures.leaves);
+      so_far = (so.0 ++ (line ++ 10 ∷ []), off_front _ so.0 rest line next (drop (suc place) rest) so.1 line_is next_is, λ s stands. leaves_on LINE_LIMIT s c.args.self.now c.loop-place.self c.take_line.new.self (g.K.Sink.held c.args.sink.now) (g.K.Sink.held c.loop-place.sink) (g.K.Sink.held c.take_line.new.sink) so.0 (line ++ 10 ∷ []) (Ok tt) (so.2 s stands) c.in_default-take_line.ensures.leaves);
       room = omega (arith, c.loop-place.invariant.room, c.in_default-take_line.ensures.lines, c.split_at.ensures.back_len, c.split_at-in-Some.ensures.back_len);
       later = omega (arith, c.loop-place.invariant.later, c.in_default-take_line.ensures.cause.later);
     }
 
 pub returns-clause-leaves : goal.returns-clause-leaves
-returns-clause-leaves g c =
-    let s = c.loop-place.invariant.so_far in
-    subst (λ x. Leaves LINE_LIMIT c.args.self.now c.extend.new.self (g.K.Sink.held c.args.sink.now) (g.K.Sink.held c.loop-place.sink) x c.extend.result) (sym s.1) (leaves_on _ _ _ _ _ _ _ _ _ c.extend.result s.2 (c.extend.ensures.leaves (g.K.Sink.held c.loop-place.sink)))
+returns-clause-leaves g c = λ s stands.
+    let so = c.loop-place.invariant.so_far in
+    subst (λ x. LeavesFrom LINE_LIMIT s c.args.self.now c.extend.new.self (g.K.Sink.held c.args.sink.now) (g.K.Sink.held c.loop-place.sink) x c.extend.result) (sym so.1) (leaves_on LINE_LIMIT s c.args.self.now c.loop-place.self c.extend.new.self _ _ _ so.0 c.loop-place.rest.now c.extend.result (so.2 s stands) (c.extend.ensures.leaves (g.K.Sink.held c.loop-place.sink)))

@@ -1,20 +1,23 @@
-use Rattle.std.proofs.Common.{[], ◌∷◌, subst, append-nil}
-use Rattle.xtc.specs.Feeding.{Leaves}
+use Rattle.std.proofs.Common.{[], ◌∷◌, ◌++◌, Ok}
 use Rattle.xtc.specs.declared.feeding.TheConstants.{LINE_LIMIT}
-use Rattle.xtc.proofs.FeedingLaws.{fed_on, stops_on, leaves_on, stops_more}
+use Rattle.xtc.proofs.FeedingLaws.{stops_on, leaves_on, flushed_on, stops_more}
 use Rattle.xtc.proofs.feeding.Script.take_line.Goals as goal
 
 pub returns-in-Err-clause-leaves : goal.returns-in-Err-clause-leaves
-returns-in-Err-clause-leaves g c = stops_more _ _ _ _ _ _ _ _ (c.in-Err.ensures.leaves (g.K.Sink.held c.args.sink.now))
+returns-in-Err-clause-leaves g c = λ s stands. stops_more LINE_LIMIT s c.args.self.now c.extend.new.self (g.K.Sink.held c.args.sink.now) (g.K.Sink.held c.args.sink.now) c.args.line.now (10 ∷ []) c.in-Err.stop (c.in-Err.ensures.leaves (g.K.Sink.held c.args.sink.now) s stands)
 
 pub returns-in-Err-end_line-clause-leaves : goal.returns-in-Err-end_line-clause-leaves
-returns-in-Err-end_line-clause-leaves g c = let h = g.K.Sink.held c.args.sink.now in stops_on LINE_LIMIT _ c.extend.new.self c.end_line.new.self h h h c.args.line.now (10 ∷ []) c.in-Err-end_line.stop (c.in_default.ensures.leaves h) (c.in-Err-end_line.ensures.leaves h)
+returns-in-Err-end_line-clause-leaves g c = λ s stands.
+    let h = g.K.Sink.held c.args.sink.now in
+    stops_on LINE_LIMIT s c.args.self.now c.extend.new.self c.end_line.new.self h h h c.args.line.now (10 ∷ []) c.in-Err-end_line.stop (c.in_default.ensures.leaves h s stands) (c.in-Err-end_line.ensures.leaves h)
 
 pub returns-then-len-ge-LARGE-clause-leaves : goal.returns-then-len-ge-LARGE-clause-leaves
-returns-then-len-ge-LARGE-clause-leaves g c =
+returns-then-len-ge-LARGE-clause-leaves g c = λ s stands.
     let h = g.K.Sink.held c.args.sink.now in
-    let ended = fed_on _ _ _ _ h h h _ _ (c.in_default.ensures.leaves h) (c.in_default-end_line.ensures.leaves h) in
-    subst (λ x. Leaves LINE_LIMIT c.args.self.now c.flush.new.self h (g.K.Sink.held c.flush.new.sink) x c.flush.result) (append-nil _) (leaves_on _ _ _ _ _ _ _ _ _ c.flush.result ended c.flush.ensures.leaves)
+    let ended = leaves_on LINE_LIMIT s c.args.self.now c.extend.new.self c.end_line.new.self h h h c.args.line.now (10 ∷ []) (Ok tt) (c.in_default.ensures.leaves h s stands) (c.in_default-end_line.ensures.leaves h) in
+    flushed_on LINE_LIMIT s c.args.self.now c.end_line.new.self c.flush.new.self h h _ (c.args.line.now ++ 10 ∷ []) c.flush.result ended c.flush.ensures.leaves
 
 pub returns-clause-leaves : goal.returns-clause-leaves
-returns-clause-leaves g c = let h = g.K.Sink.held c.args.sink.now in fed_on _ _ _ _ h h h _ _ (c.in_default.ensures.leaves h) (c.in_default-end_line.ensures.leaves h)
+returns-clause-leaves g c = λ s stands.
+    let h = g.K.Sink.held c.args.sink.now in
+    leaves_on LINE_LIMIT s c.args.self.now c.extend.new.self c.end_line.new.self h h h c.args.line.now (10 ∷ []) (Ok tt) (c.in_default.ensures.leaves h s stands) (c.in_default-end_line.ensures.leaves h)
