@@ -1,8 +1,9 @@
 ghost use Rattle.std.specs.Prelude.{None};
+ghost use Rattle.xtc.specs.ScriptLine.{IsLawfulRequest};
 
 use crate::line::What;
 use crate::memory::{MemSink, MemSource};
-use crate::session::{Answer, Session, SessionError};
+use crate::session::{Session, SessionError};
 use crate::status::Status;
 use crate::top_call::xtc;
 use outside_traits::{Failed, Sink, Source};
@@ -158,18 +159,28 @@ fn only_run_is_a_command(rt: HostRuntime) -> Result<(), Fail> {
     Ok(())
 }
 
-/// A session's answer to a request is that number.
-fn is_number(answer: &Answer, number: u32) -> bool {
-    match answer {
-        Ok(Reply::Number(answered)) => *answered == number,
-        _ => false,
+/// Asks a session for what is answered by that number.
+fn ask_number(alloc: Global, session: &mut Session, what: What, number: u32) -> Result<(), Fail>
+    requires { IsLawfulRequest what }
+{
+    match session.ask(alloc, what)? {
+        Ok(Reply::Number(answered)) if answered == number => Ok(()),
+        _ => Err(Fail::from("another answer")),
     }
 }
 
-fn is_refusal(answer: &Answer, why: SessionError) -> bool {
-    match answer {
-        Err(answered) => *answered == why,
-        _ => false,
+/// Asks a session for what it refuses so.
+fn ask_refused(
+    alloc: Global,
+    session: &mut Session,
+    what: What,
+    why: SessionError,
+) -> Result<(), Fail>
+    requires { IsLawfulRequest what }
+{
+    match session.ask(alloc, what)? {
+        Err(answered) if answered == why => Ok(()),
+        _ => Err(Fail::from("another answer")),
     }
 }
 
@@ -177,24 +188,23 @@ fn is_refusal(answer: &Answer, why: SessionError) -> bool {
 fn the_third_begin_passes_a_limit_of_two(rt: HostRuntime) -> Result<(), Fail> {
     let alloc = rt.alloc();
     let mut session = Session::new(alloc, 0, 2);
-    assert!(rt; is_number(&session.ask(alloc, What::Begin)?, 1));
-    assert!(rt; is_number(&session.ask(alloc, What::Commit)?, 1));
-    assert!(rt; is_number(&session.ask(alloc, What::Begin)?, 2));
-    assert!(rt;
-        is_refusal(
-            &session.ask(alloc, What::Begin)?,
-            SessionError::InTransaction
-        )
-    );
-    assert!(rt; is_number(&session.ask(alloc, What::Commit)?, 2));
-    assert!(rt; is_refusal(&session.ask(alloc, What::Begin)?, SessionError::TxLimit));
-    assert!(rt;
-        is_refusal(
-            &session.ask(alloc, What::Commit)?,
-            SessionError::NoTransaction
-        )
-    );
-    Ok(())
+    ask_number(alloc, &mut session, What::Begin, 1)?;
+    ask_number(alloc, &mut session, What::Commit, 1)?;
+    ask_number(alloc, &mut session, What::Begin, 2)?;
+    ask_refused(
+        alloc,
+        &mut session,
+        What::Begin,
+        SessionError::InTransaction,
+    )?;
+    ask_number(alloc, &mut session, What::Commit, 2)?;
+    ask_refused(alloc, &mut session, What::Begin, SessionError::TxLimit)?;
+    ask_refused(
+        alloc,
+        &mut session,
+        What::Commit,
+        SessionError::NoTransaction,
+    )
 }
 
 /// Lines and the reply to each.
