@@ -28,6 +28,7 @@ pub mod Seeks
 pub mod Sorted
 pub mod Split
 pub mod Steps
+mod StoredTreeRows
 pub mod Stretches
 pub mod TreeReads
 pub mod Walks

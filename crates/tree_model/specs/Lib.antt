@@ -9,6 +9,7 @@ pub mod Limits
 pub mod Names
 pub mod Outcomes
 pub mod Seeks
+pub mod StoredTree
 pub mod Tree
 pub mod WellFormed
 pub mod Serial
