@@ -24,12 +24,17 @@ pub mod PutTrees
 pub mod Refusals
 pub mod Removals
 pub mod Rows
+pub mod SameMaps
 pub mod Seeks
 pub mod Sorted
 pub mod Split
 pub mod Steps
+pub mod StoredCatalogues
+pub mod StoredMaps
 mod StoredTreeRows
+pub mod StoredTrees
 pub mod Stretches
 pub mod TreeReads
+pub mod UnbrokenTrees
 pub mod Walks
 pub mod WholeTree

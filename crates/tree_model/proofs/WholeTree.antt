@@ -93,7 +93,7 @@ lies_in_tree l m r ats ch nx t w e = with_root (up l root t.documents) l r ats c
 -- ---- single reads
 
 -- no catalogue entry is a node's
-get_past_root : (l lo : Label) (cat : Catalogue) (es : Entries) → NamesRise lo cat → get (node_key l) (catalogue_entries cat ++ es) ≡ get (node_key l) es
+pub get_past_root : (l lo : Label) (cat : Catalogue) (es : Entries) → NamesRise lo cat → get (node_key l) (catalogue_entries cat ++ es) ≡ get (node_key l) es
 get_past_root l lo [] es w = refl
 get_past_root l lo (c ∷ cat) es w = named c.0 (above_start lo c.0 w.0) ∙ get_past_root l c.0 cat es w.2
   where

@@ -11,6 +11,7 @@ mod names;
 mod record;
 mod refusal;
 mod reply;
+mod stored_tree;
 #[cfg(test)]
 mod tests;
 
@@ -22,3 +23,4 @@ pub use names::is_name;
 pub use record::Record;
 pub use refusal::Refusal;
 pub use reply::{Hit, Reply};
+pub use stored_tree::{trees_have_unbroken_maps, unbroken_maps_are_trees};
