@@ -32,6 +32,7 @@ pub mod Steps
 pub mod StoredCatalogues
 pub mod StoredMaps
 mod StoredTreeRows
+pub mod StoredReads
 pub mod StoredTrees
 pub mod Stretches
 pub mod TreeReads

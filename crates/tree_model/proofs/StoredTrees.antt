@@ -348,7 +348,7 @@ pub record Divided (es : Entries) : Type 0 where
   pub tree : Grown (catalogue_in roots) docs
 
 -- what lies above an entry that isn't the root's isn't the root's
-others_behind : (e : Key × Record) (es : Entries) → side root e.0.label ≡ under → AllByRecursion (Above e.0) es → AllByRecursion (Labelled NotRoot) es
+pub others_behind : (e : Key × Record) (es : Entries) → side root e.0.label ≡ under → AllByRecursion (Above e.0) es → AllByRecursion (Labelled NotRoot) es
 others_behind e es u h = all_on (Above e.0) (Labelled NotRoot) behind es h
   where
     behind : (x : Key × Record) → Above e.0 x → NotRoot x.0.label
