@@ -3,11 +3,18 @@
 //! What stands behind a trait, a file, a stream or a list in memory, is left to the crate that implements it.
 #![tactic(auto)]
 
+mod crash_laws;
+mod disk;
 mod failed;
 mod sink;
 mod source;
 mod writing;
 
+pub use crash_laws::{
+    image_of_a_prefix, images_since_are_those_of_a_moment, no_other_image_inside_an_open_range,
+    one_image_after_a_sync,
+};
+pub use disk::Disk;
 pub use failed::Failed;
 pub use sink::Sink;
 pub use source::Source;
