@@ -1,8 +1,8 @@
 -- What a crash leaves after a sync, a write, a failed sync.
-use Rattle.std.proofs.Common.{◌≡◌, ◌⊎◌, ⊎_elim, inl, inr, ℕ, ◌+◌, ◌≤◌, ◌<◌, max, List, length, get_or, take, drop, refl, sym, ◌∙◌, ap, subst, arith}
+use Rattle.std.proofs.Common.{◌≡◌, ◌⊎◌, ⊎_elim, inl, inr, ℕ, ◌+◌, ◌≤◌, ◌<◌, max, List, length, get_or, take, drop, refl, sym, ◌∙◌, ap, subst, arith, ◌-◌, replicate, length-append, ◌++◌}
 use Rattle.std.proofs.lemmas.Bool.{cases_lt}
-use Rattle.std.proofs.lemmas.List.{ext_get_or, get_or-take, get_or-drop, length-take, length-drop}
-use Rattle.outside_traits.specs.Disks.{DiskState, rests, Opens, Unsynced}
+use Rattle.std.proofs.lemmas.List.{ext_get_or, get_or-take, get_or-drop, get_or_append_left, get_or-append_right, length-take, length-take-le, length-drop, length-replicate, append-nil}
+use Rattle.outside_traits.specs.Disks.{DiskState, rests, put_at, landed, Opens, Wrote, Unsynced}
 use Rattle.outside_traits.specs.CrashImages.{IsImage, IsOpen, Misses}
 
 -- what is synced is an image
@@ -95,3 +95,71 @@ open-written at n s next opens from m lower upper = record {
 -- and what lies past the bytes that were synced
 pub open-past : (s : DiskState) (from m : ℕ) → length s.synced ≤ from → from + m ≤ s.longest → IsOpen s from m
 open-past s from m past within = record { no_longer = within; any = λ i above below l misses. omega (arith, l, past, above) }
+
+-- bytes put at a place that the file has
+module _ (at : ℕ) (bytes old : List ℕ) (le : at ≤ length old) where
+  front : length (take at old) ≡ at
+  front = length-take-le at old le
+
+  pub length-put_at : length (put_at at bytes old) ≡ max (length old) (at + length bytes)
+  length-put_at = omega (arith, front, le, length-append (take at old ++ bytes) (drop (at + length bytes) old), length-append (take at old) bytes, length-drop (at + length bytes) old)
+
+  -- other places stay
+  pub beside-put_at : (i : ℕ) → i < length old → ((i < at) ⊎ (at + length bytes ≤ i)) → get_or (put_at at bytes old) i 0 ≡ get_or old i 0
+  beside-put_at i l (inl below) =
+      get_or_append_left (take at old ++ bytes) (drop (at + length bytes) old) 0 i (omega (arith, below, front, length-append (take at old) bytes))
+      ∙ get_or_append_left (take at old) bytes 0 i (omega (arith, below, front)) ∙ get_or-take at old i 0 below
+  beside-put_at i l (inr above) =
+      get_or-append_right (take at old ++ bytes) (drop (at + length bytes) old) (at + length bytes) i 0 (omega (arith, front, length-append (take at old) bytes)) above
+      ∙ get_or-drop (at + length bytes) old (i - (at + length bytes)) 0
+      ∙ ap (λ (k : ℕ). get_or old k 0) (omega (arith, above))
+
+-- a write within the file needs no zeros
+pub landed-within : (at : ℕ) (bytes file : List ℕ) → at ≤ length file → landed at bytes file ≡ put_at at bytes file
+landed-within at bytes file le =
+    let none : at - length file ≡ 0 = omega (arith, le) in
+    ap (λ (k : ℕ). put_at at bytes (file ++ replicate k 0)) none ∙ ap (λ (f : List ℕ). put_at at bytes f) (append-nil file)
+
+module _ (at : ℕ) (bytes file : List ℕ) where
+  abbrev padded : List ℕ
+  padded = file ++ replicate (at - length file) 0
+
+  long : length padded ≡ max (length file) at
+  long = omega (arith, length-append file (replicate (at - length file) 0), length-replicate {A = ℕ} (at - length file) 0)
+
+  pub length-landed : length (landed at bytes file) ≡ max (length file) (at + length bytes)
+  length-landed = omega (arith, long, length-put_at at bytes padded (omega (arith, long)))
+
+  pub beside-landed : (i : ℕ) → i < length file → ((i < at) ⊎ (at + length bytes ≤ i)) → get_or (landed at bytes file) i 0 ≡ get_or file i 0
+  beside-landed i l off =
+      beside-put_at at bytes padded (omega (arith, long)) i (omega (arith, long, l)) off
+      ∙ get_or_append_left file (replicate (at - length file) 0) 0 i l
+
+-- in an open range a crash may leave any bytes
+pub image-landed : (at : ℕ) (bytes file : List ℕ) (s : DiskState) → IsOpen s at (length bytes) → IsImage s file → IsImage s (landed at bytes file)
+image-landed at bytes file s range is = record {
+  no_shorter = omega (arith, length-landed at bytes file, is.no_shorter);
+  no_longer = omega (arith, length-landed at bytes file, is.no_longer, range.no_longer);
+  kept = λ i l misses.
+      beside-landed at bytes file i (omega (arith, l, is.no_shorter)) (beside at (length bytes) i (λ from within. range.any i from within l misses))
+      ∙ is.kept i l misses;
+}
+
+-- and any of the lengths from that at the last sync on
+pub image-shorter : (n : ℕ) (file : List ℕ) (s : DiskState) → length s.synced ≤ n → IsImage s file → IsImage s (take n file)
+image-shorter n file s enough is = record {
+  no_shorter = omega (arith, length-take n file, enough, is.no_shorter);
+  no_longer = omega (arith, length-take n file, is.no_longer);
+  kept = λ i l misses. get_or-take n file i 0 (omega (arith, l, enough)) ∙ is.kept i l misses;
+}
+
+-- after a write that was done, what a read gives is an image where it was one before
+pub image-wrote : (at : ℕ) (bytes : List ℕ) (s next : DiskState) → Wrote at bytes s next → at ≤ length s.reads → IsImage s s.reads → IsImage next next.reads
+image-wrote at bytes s next wrote le is =
+    subst (λ (b : List ℕ). IsImage next b) (landed-within at bytes s.reads le ∙ sym wrote.reads)
+    (image-landed at bytes s.reads next (open-written at (length bytes) s next wrote.opens at (length bytes) (omega arith) (omega arith))
+    (image-opens at (length bytes) s next wrote.opens s.reads is))
+
+-- what was synced is an image, where there is one
+pub image-synced : (s : DiskState) (image : List ℕ) → IsImage s image → IsImage s s.synced
+image-synced s image is = record { no_shorter = omega arith; no_longer = omega (arith, is.no_shorter, is.no_longer); kept = λ i l misses. refl }

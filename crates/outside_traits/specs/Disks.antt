@@ -1,5 +1,5 @@
 -- Where a disk is between two calls, and what each call does (docs/PROFILE.md, "Disks and crashes").
-use Rattle.std.specs.Prelude.{◌≡◌, ℕ, ◌+◌, max, List, [], ◌∷◌, ◌++◌, length, take, drop}
+use Rattle.std.specs.Prelude.{◌≡◌, ℕ, ◌+◌, ◌-◌, max, List, [], ◌∷◌, ◌++◌, length, take, drop, replicate}
 
 -- the bytes that a read gives, those at the last sync, the ranges written since (start and count), the greatest length since
 pub record DiskState : Type 0 where
@@ -15,6 +15,10 @@ rests bytes = record { reads = bytes; synced = bytes; written = []; longest = le
 -- old bytes with these at this place, over what stood there and past the end
 abbrev pub put_at : ℕ → List ℕ → List ℕ → List ℕ
 put_at at bytes old = take at old ++ bytes ++ drop (at + length bytes) old
+
+-- the same on a file that may end before that place: zeros stand up to there
+abbrev pub landed : ℕ → List ℕ → List ℕ → List ℕ
+landed at bytes file = put_at at bytes (file ++ replicate (at - length file) 0)
 
 -- one range more is written since the last sync
 pub record Opens (at n : ℕ) (s next : DiskState) : Type 0 where

@@ -1,6 +1,6 @@
 //! What holds of every disk after a crash, whatever wrote to it: laws over the definitions alone, each the contract of a function with nothing to do.
-ghost use Rattle.std.specs.Prelude.{◌≡◌, ◌↔◌, ◌≤◌, ◌+◌, ℕ, List, length};
-ghost use Rattle.outside_traits.specs.Disks.{DiskState, Opens, Synced};
+ghost use Rattle.std.specs.Prelude.{◌≡◌, ◌↔◌, ◌≤◌, ◌+◌, ℕ, List, length, take};
+ghost use Rattle.outside_traits.specs.Disks.{DiskState, landed, Opens, Synced};
 ghost use Rattle.outside_traits.specs.CrashImages.{IsImage, IsOpen};
 ghost use Rattle.outside_traits.specs.Moments.{Told, Goes, Since, IsImageSince, WasImage};
 
@@ -16,6 +16,12 @@ pub fn no_other_image_inside_an_open_range()
     // Open are a range that was written, and what lies past the bytes that were synced.
     ensures written { (at n from m : ℕ) (s next : DiskState) → Opens at n s next → at ≤ from → from + m ≤ at + n → IsOpen next from m }
     ensures past { (s : DiskState) (from m : ℕ) → length s.synced ≤ from → from + m ≤ s.longest → IsOpen s from m }
+{}
+
+/// In an open range a crash may leave any bytes, whatever else it leaves, and of a file that grew any length from that at the last sync on.
+pub fn any_bytes_and_any_length_of_what_is_open()
+    ensures bytes { (at : ℕ) (bytes file : List ℕ) (s : DiskState) → IsOpen s at (length bytes) → IsImage s file → IsImage s (landed at bytes file) }
+    ensures length { (n : ℕ) (file : List ℕ) (s : DiskState) → length s.synced ≤ n → IsImage s file → IsImage s (take n file) }
 {}
 
 /// The images since a moment are those of some moment since.

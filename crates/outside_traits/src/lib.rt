@@ -11,7 +11,8 @@ mod source;
 mod writing;
 
 pub use crash_laws::{
-    image_of_a_prefix, images_since_are_those_of_a_moment, no_other_image_inside_an_open_range,
+    any_bytes_and_any_length_of_what_is_open, image_of_a_prefix,
+    images_since_are_those_of_a_moment, no_other_image_inside_an_open_range,
     one_image_after_a_sync,
 };
 pub use disk::Disk;
