@@ -3,17 +3,16 @@
 //! The program over it opens the real streams, prints the status and ends with its number.
 #![tactic(auto)]
 
-mod bounded;
 mod calls;
 #[cfg(test)]
 mod calls_tests;
 mod feeding;
 mod line;
-#[cfg(test)]
-mod memory;
 mod own_view;
 #[cfg(test)]
 mod own_view_tests;
+#[cfg(test)]
+mod pieces;
 mod reply;
 mod session;
 mod status;

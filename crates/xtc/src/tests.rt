@@ -2,10 +2,12 @@ ghost use Rattle.std.specs.Prelude.{None};
 ghost use Rattle.xtc.specs.ScriptLine.{IsLawfulRequest};
 
 use crate::line::What;
-use crate::memory::{MemSink, MemSource};
+use crate::pieces::InPieces;
 use crate::session::{Session, SessionError};
 use crate::status::Status;
 use crate::top_call::xtc;
+use dewey_labels::List;
+use outside_kinds::{MemSink, MemSource};
 use outside_traits::{Failed, Sink, Source};
 use std::alloc::{AllocError, Global};
 use std::cell::Cell;
@@ -43,14 +45,19 @@ fn run_script(
     writes: &[u64],
 ) -> Result<Outcome, AllocError> {
     let words = words_of(alloc, "run")?;
-    let mut source = MemSource::new(
-        Vec::from_slice(alloc, script)?,
+    let mut source = InPieces {
+        inner: MemSource::new(
+            List::from_vec(Vec::from_slice(alloc, script)?),
+            List::from_vec(Vec::from_slice(alloc, reads)?),
+        ),
         piece,
-        Vec::from_slice(alloc, reads)?,
-    );
-    let mut sink = MemSink::new(alloc, piece, Vec::from_slice(alloc, writes)?);
+    };
+    let mut sink = InPieces {
+        inner: MemSink::new(alloc, List::from_vec(Vec::from_slice(alloc, writes)?)),
+        piece,
+    };
     let status = xtc(alloc, &words, &mut source, &mut sink);
-    let text = Vec::from_slice(alloc, sink.bytes())?;
+    let text = Vec::from_slice(alloc, sink.inner.bytes())?;
     Ok(Outcome { status, text })
 }
 
@@ -144,11 +151,10 @@ fn only_run_is_a_command(rt: HostRuntime) -> Result<(), Fail> {
     for text in ["", "Run", "run x", "run run", "--help"] {
         let words = words_of(rt.alloc(), text)?;
         let mut source = MemSource::new(
-            Vec::from_slice(rt.alloc(), SCRIPT)?,
-            9,
-            Vec::new(rt.alloc()),
+            List::from_vec(Vec::from_slice(rt.alloc(), SCRIPT)?),
+            List::new(rt.alloc()),
         );
-        let mut sink = MemSink::new(rt.alloc(), 9, Vec::new(rt.alloc()));
+        let mut sink = MemSink::new(rt.alloc(), List::new(rt.alloc()));
         assert_eq!(rt;
             xtc(rt.alloc(), &words, &mut source, &mut sink),
             Status::Usage,

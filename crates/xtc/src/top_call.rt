@@ -9,11 +9,11 @@ ghost use Rattle.xtc.specs.Lines.{lines_of};
 ghost use Rattle.xtc.specs.Commits.{IsSerial};
 ghost use Rattle.xtc.specs.TopCall.{bytes_read, Writes, ReadCause};
 
-use crate::bounded::{Bounded, INPUT_LIMIT};
 use crate::feeding::{LINE_LIMIT, Script, Stop};
 use crate::session::Session;
 use crate::status::Status;
 use crate::words::are_run;
+use outside_kinds::{Bounded, INPUT_LIMIT};
 use outside_traits::{Failed, Sink, Source};
 use std::alloc::{AllocError, Global};
 

@@ -3,9 +3,7 @@
 //! All that it answers is the library's; the real streams are trusted to hand over the bytes that they are given.
 #![tactic(auto)]
 
-mod streams;
-
-use crate::streams::{StdSink, StdSource};
+use outside_kinds::{StdSink, StdSource};
 use std::alloc::Global;
 use std::env::Env;
 use std::process::ExitCode;

@@ -5,7 +5,7 @@ use Rattle.tree_model.specs.Tree.{empty_tree}
 use Rattle.xtc.specs.Feeding.{FedFrom}
 use Rattle.xtc.specs.declared.feeding.TheConstants.{LINE_LIMIT}
 use Rattle.xtc.specs.declared.top_call.TheConstants.{TX_LIMIT}
-use Rattle.xtc.specs.declared.bounded.TheConstants.{INPUT_LIMIT}
+use Rattle.outside_kinds.specs.declared.bounded.TheConstants.{INPUT_LIMIT}
 use Rattle.xtc.proofs.top_call.take_pieces.Given as goal
 
 abbrev pub invariant-pieces : goal.invariant-pieces

@@ -1,0 +1,3 @@
+mod Replay
+mod StopLaws
+mod StopRows
