@@ -144,6 +144,12 @@ impl MemDisk {
         }
     }
 
+    fn note_failed_sync(&mut self)
+        ensures { (self.new ≡ self.old) ⊎ (self.new ≡ with_call DiskCall.FailedSync self.old) }
+    {
+        self.note_failed(DiskCall::FailedSync);
+    }
+
     // Writes the bytes and notes it.
     fn write(&mut self, at: u64, bytes: &[u8]) -> Result<(), NoMemory>
         requires { at ≤ length (told_of self.old).now.reads }
@@ -235,7 +241,7 @@ impl Disk for MemDisk {
         ensures listed { FailsAsListedOrRefused self.old.count self.new.count result }
     {
         if self.counter.fails_now() {
-            self.note_failed(DiskCall::FailedSync);
+            self.note_failed_sync();
             return Err(Failed);
         }
         let Ok(()) = self.note(DiskCall::Sync) else {

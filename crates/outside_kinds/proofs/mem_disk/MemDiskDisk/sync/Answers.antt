@@ -6,13 +6,13 @@ use Rattle.outside_kinds.specs.MemoryDisks.{told_of}
 use Rattle.outside_kinds.proofs.mem_disk.MemDiskDisk.sync.Goals as goal
 
 pub returns-then-fails_now-clause-err : goal.returns-then-fails_now-clause-err
-returns-then-fails_now-clause-err c = fails Unsynced FailedSync c.args.self.now _ _ (ap told_of c.self.view_is) c.note_failed.ensures (goes_unsynced (told_of c.args.self.now))
+returns-then-fails_now-clause-err c = fails Unsynced FailedSync c.args.self.now _ _ (ap told_of c.self.view_is) c.note_failed_sync.ensures (goes_unsynced (told_of c.args.self.now))
 
 pub returns-clause-ok : goal.returns-clause-ok
 returns-clause-ok c = goes Synced Sync c.args.self.now _ _ (ap told_of c.self.view_is) c.in-Ok.ensures.ok (goes_synced (told_of c.args.self.now))
 
 pub returns-then-fails_now-clause-bytes : goal.returns-then-fails_now-clause-bytes
-returns-then-fails_now-clause-bytes c = bytes_kept FailedSync c.args.self.now _ _ (ap told_of c.self.view_is) c.note_failed.ensures tt
+returns-then-fails_now-clause-bytes c = bytes_kept FailedSync c.args.self.now _ _ (ap told_of c.self.view_is) c.note_failed_sync.ensures tt
 
 pub returns-clause-bytes : goal.returns-clause-bytes
 returns-clause-bytes c = bytes_kept Sync c.args.self.now _ _ (ap told_of c.self.view_is) (inr c.in-Ok.ensures.ok) tt
