@@ -1,0 +1,13 @@
+pub mod BodyLaws
+mod ByteRows
+pub mod ChangeLaws
+pub mod DivisionForms
+mod FoundLaws
+mod Fronts
+pub mod KeyLaws
+pub mod KeyOrder
+pub mod LabelLaws
+mod LabelReads
+pub mod ReadLaws
+pub mod RecordLaws
+mod TextLaws

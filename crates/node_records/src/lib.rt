@@ -1,0 +1,19 @@
+//! The bytes of keys, records and changes, as the files of a store hold them.
+//! What is read is exactly what the grammar has at the front of the bytes; what was written is read again, whatever follows; keys sort as their bytes do.
+//! Which keys and records may stand in a tree is left to the crates above.
+#![tactic(auto)]
+
+mod changes;
+mod divisions;
+mod keys;
+mod labels;
+mod laws;
+mod records;
+#[cfg(test)]
+mod tests;
+mod texts;
+
+pub use changes::{read_change, write_change};
+pub use keys::{read_key, write_key};
+pub use laws::{bodies_are_read_again, keys_sort_as_their_bytes, what_is_written_is_read_again};
+pub use records::{read_record, write_record};
