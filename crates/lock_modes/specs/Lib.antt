@@ -1,0 +1,5 @@
+pub mod EdgeModes
+pub mod ModeNames
+pub mod Modes
+pub mod Parts
+pub mod PrintedTables
