@@ -1,0 +1,4 @@
+mod IntentionRows
+pub mod Laws
+pub mod Texts
+pub mod Ways

@@ -1,0 +1,5 @@
+pub mod Ancestors
+pub mod Gained
+pub mod Intentions
+pub mod ResourceText
+pub mod Resources

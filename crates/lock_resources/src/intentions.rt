@@ -1,0 +1,149 @@
+ghost use Rattle.std.specs.Prelude.{◌≡◌, ◌++◌, [], ◌∷◌, IsTrue, OnOk, OnErr};
+ghost use Rattle.std.specs.List.{AllByRecursion};
+ghost use Rattle.lock_resources.specs.Resources.{label_of, Fits};
+ghost use Rattle.lock_resources.specs.Ancestors.{ancestors, IsWayDown};
+ghost use Rattle.lock_resources.specs.Intentions.{has_row, request, on_node, on_attr_root, on_ancestors, directly_above, further_above, with_intentions, nodes_of};
+ghost use Rattle.lock_resources.specs.Gained.{GainedFront};
+
+use crate::{Request, Resource};
+use dewey_labels::{Label, List, NoMemory};
+use lock_modes::{Ask, Mode};
+use std::alloc::Global;
+
+/// Adds the intentions that a request owes, from the root down, and then the request itself.
+/// After want of memory some front of these was added.
+/// Each ancestor's label is made once, from the one above it, in time linear in its own length.
+pub fn with_intentions(
+    alloc: Global,
+    resource: &Resource,
+    ask: Ask,
+    out: &mut List<Request>,
+) -> Result<(), NoMemory>
+    requires { IsTrue (has_row resource.now ask) }
+    ensures ok { OnOk result (out.new ≡ out.old ++ with_intentions resource.now ask) }
+    ensures err { OnErr result (GainedFront out.old out.new (with_intentions resource.now ask)) }
+    ensures nodes { nodes_of (with_intentions resource.now ask) ≡ ancestors (label_of resource.now) ++ label_of resource.now ∷ [] }
+    ensures way { IsWayDown (ancestors (label_of resource.now) ++ label_of resource.now ∷ []) }
+    ensures fits { AllByRecursion Fits (with_intentions resource.now ask) }
+{
+    // It tells that the resource's label is one, on which the clause `way` rests.
+    let _divisions = resource.label().divisions();
+    push_row(alloc, resource, ask, out)
+}
+
+/// Adds what the table's row for the request says.
+fn push_row(
+    alloc: Global,
+    resource: &Resource,
+    ask: Ask,
+    out: &mut List<Request>,
+) -> Result<(), NoMemory>
+    requires { IsTrue (has_row resource.now ask) }
+    ensures ok { OnOk result (out.new ≡ out.old ++ with_intentions resource.now ask) }
+    ensures err { OnErr result (GainedFront out.old out.new (with_intentions resource.now ask)) }
+{
+    let (further, directly) = (further_above(ask), directly_above(ask));
+    match resource {
+        Resource::Node(label) => match ask {
+            Ask::Node(mode) => push_way(alloc, label, further, directly, mode, out),
+            Ask::Edge(_) => unreachable!(),
+        },
+        Resource::AttrRoot(label) => {
+            push_way(alloc, label, Mode::IR, Mode::IR, Mode::IR, out)?;
+            push_copy(alloc, resource, ask, out)
+        }
+        Resource::Attr(label, _) => {
+            push_way(alloc, label, further, further, further, out)?;
+            push_attr_root(alloc, label, directly, out)?;
+            push_copy(alloc, resource, ask, out)
+        }
+        Resource::Edge(label, _) => {
+            push_way(alloc, label, Mode::IR, Mode::IR, Mode::NR, out)?;
+            push_copy(alloc, resource, ask, out)
+        }
+    }
+}
+
+/// The intention that a mode owes directly above its resource.
+fn directly_above(ask: Ask) -> Mode
+    ensures { result ≡ directly_above ask }
+{
+    match ask {
+        Ask::Node(Mode::SX) => Mode::CX,
+        _ => Mode::IR,
+    }
+}
+
+/// The intention that a mode owes on all above that.
+fn further_above(ask: Ask) -> Mode
+    ensures { result ≡ further_above ask }
+{
+    match ask {
+        Ask::Node(Mode::SX) => Mode::IX,
+        _ => Mode::IR,
+    }
+}
+
+/// Adds a request on each node from the root down to `label`:
+/// `above` on each proper ancestor but the parent, `parent` on the parent and `own` on the label's own node.
+fn push_way(
+    alloc: Global,
+    label: &Label,
+    above: Mode,
+    parent: Mode,
+    own: Mode,
+    out: &mut List<Request>,
+) -> Result<(), NoMemory>
+    ensures ok { OnOk result (out.new ≡ out.old ++ (on_ancestors above parent label.now ++ on_node label.now own ∷ [])) }
+    ensures err { OnErr result (GainedFront out.old out.new (on_ancestors above parent label.now ++ on_node label.now own ∷ [])) }
+{
+    let _divisions = label.divisions();
+    let mut levels = label.level();
+    let mut at = Label::root(alloc)?;
+    while let Some(next) = at.child_toward(alloc, label)? {
+        let mode = if levels == 1 { parent } else { above };
+        push_node(at, mode, out)?;
+        at = next;
+        levels -= 1;
+    }
+    push_node(at, own, out)
+}
+
+fn push_node(label: Label, mode: Mode, out: &mut List<Request>) -> Result<(), NoMemory>
+    ensures ok { OnOk result (out.new ≡ out.old ++ on_node label mode ∷ []) }
+    ensures err { OnErr result (out.new ≡ out.old) }
+{
+    out.push(Request {
+        resource: Resource::Node(label),
+        ask: Ask::Node(mode),
+    })
+}
+
+fn push_attr_root(
+    alloc: Global,
+    label: &Label,
+    mode: Mode,
+    out: &mut List<Request>,
+) -> Result<(), NoMemory>
+    ensures ok { OnOk result (out.new ≡ out.old ++ on_attr_root label.now mode ∷ []) }
+    ensures err { OnErr result (out.new ≡ out.old) }
+{
+    let resource = Resource::AttrRoot(label.copy(alloc)?);
+    out.push(Request {
+        resource,
+        ask: Ask::Node(mode),
+    })
+}
+
+fn push_copy(
+    alloc: Global,
+    resource: &Resource,
+    ask: Ask,
+    out: &mut List<Request>,
+) -> Result<(), NoMemory>
+    ensures ok { OnOk result (out.new ≡ out.old ++ request resource.now ask ∷ []) }
+    ensures err { OnErr result (out.new ≡ out.old) }
+{
+    let resource = resource.copy(alloc)?;
+    out.push(Request { resource, ask })
+}

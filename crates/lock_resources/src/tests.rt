@@ -1,0 +1,152 @@
+ghost use Rattle.std.specs.Prelude.{IsTrue};
+ghost use Rattle.lock_resources.specs.Intentions.{has_row};
+
+use crate::{Request, Resource, Side, with_intentions};
+use dewey_labels::{Label, List, NoMemory, Text};
+use lock_modes::{Ask, EdgeMode, Mode};
+use std::alloc::Global;
+use std::test::Fail;
+
+/// The label 1.1001.1001.2.1001, of a child behind an overflow division.
+fn child(alloc: Global) -> Result<Label, Fail> {
+    Ok(Label::read_text(alloc, b"1.1001.1001.2.1001")?)
+}
+
+/// The label of its parent, the document's element.
+fn element(alloc: Global) -> Result<Label, Fail> {
+    Ok(Label::read_text(alloc, b"1.1001.1001")?)
+}
+
+/// Whether these requests are added for one, each shown as its resource's text, the mode's name and a comma.
+fn adds(alloc: Global, resource: Resource, ask: Ask, want: &str) -> Result<bool, NoMemory>
+    requires { IsTrue (has_row resource ask) }
+{
+    let mut requests = List::new(alloc);
+    with_intentions(alloc, &resource, ask, &mut requests)?;
+    let text = shown(alloc, requests.as_slice())?;
+    Ok(text.as_slice() == want.as_bytes())
+}
+
+fn shown(alloc: Global, requests: &[Request]) -> Result<List<u8>, NoMemory> {
+    let mut out = List::new(alloc);
+    for request in requests {
+        request.resource.write_text(alloc, &mut out)?;
+        out.push(b' ')?;
+        out.extend_from_slice(request.ask.name().as_bytes())?;
+        out.push(b',')?;
+    }
+    Ok(out)
+}
+
+#[test]
+fn a_read_node_owes_intentions_to_read(rt: HostRuntime) -> Result<(), Fail> {
+    let alloc = rt.alloc();
+    let want = "node 1 IR,node 1.1001 IR,node 1.1001.1001 IR,node 1.1001.1001.2.1001 SR,";
+    let node = Resource::Node(child(alloc)?);
+    assert!(rt; adds(alloc, node, Ask::Node(Mode::SR), want)?);
+    Ok(())
+}
+
+#[test]
+fn an_exclusive_node_owes_a_child_change_at_its_parent(rt: HostRuntime) -> Result<(), Fail> {
+    let alloc = rt.alloc();
+    let want = "node 1 IX,node 1.1001 IX,node 1.1001.1001 CX,node 1.1001.1001.2.1001 SX,";
+    let node = Resource::Node(child(alloc)?);
+    assert!(rt; adds(alloc, node, Ask::Node(Mode::SX), want)?);
+    Ok(())
+}
+
+#[test]
+fn the_root_has_nothing_above_it(rt: HostRuntime) -> Result<(), Fail> {
+    let alloc = rt.alloc();
+    let root = Resource::Node(Label::root(alloc)?);
+    assert!(rt; adds(alloc, root, Ask::Node(Mode::SX), "node 1 SX,")?);
+    Ok(())
+}
+
+#[test]
+fn all_attributes_are_read_below_their_element(rt: HostRuntime) -> Result<(), Fail> {
+    let alloc = rt.alloc();
+    let want = "node 1 IR,node 1.1001 IR,node 1.1001.1001 IR,attrs 1.1001.1001.1 LR,";
+    let all = Resource::AttrRoot(element(alloc)?);
+    assert!(rt; adds(alloc, all, Ask::Node(Mode::LR), want)?);
+    Ok(())
+}
+
+#[test]
+fn an_attribute_is_read_below_all_of_them(rt: HostRuntime) -> Result<(), Fail> {
+    let alloc = rt.alloc();
+    let want =
+        "node 1 IR,node 1.1001 IR,node 1.1001.1001 IR,attrs 1.1001.1001.1 IR,attr 1.1001.1001 k NR,";
+    let one = Resource::Attr(element(alloc)?, Text::of(alloc, "k")?);
+    assert!(rt; adds(alloc, one, Ask::Node(Mode::NR), want)?);
+    Ok(())
+}
+
+#[test]
+fn a_changed_attribute_owes_a_child_change_at_all_of_them(rt: HostRuntime) -> Result<(), Fail> {
+    let alloc = rt.alloc();
+    let want =
+        "node 1 IX,node 1.1001 IX,node 1.1001.1001 IX,attrs 1.1001.1001.1 CX,attr 1.1001.1001 k SX,";
+    let one = Resource::Attr(element(alloc)?, Text::of(alloc, "k")?);
+    assert!(rt; adds(alloc, one, Ask::Node(Mode::SX), want)?);
+    Ok(())
+}
+
+#[test]
+fn a_document_name_is_changed_as_an_attribute_of_the_root(rt: HostRuntime) -> Result<(), Fail> {
+    let alloc = rt.alloc();
+    let name = Resource::Attr(Label::root(alloc)?, Text::of(alloc, "X")?);
+    assert!(rt;
+        adds(
+            alloc,
+            name,
+            Ask::Node(Mode::SX),
+            "node 1 IX,attrs 1.1 CX,attr 1 X SX,"
+        )?
+    );
+    Ok(())
+}
+
+#[test]
+fn an_edge_is_asked_below_a_read_node(rt: HostRuntime) -> Result<(), Fail> {
+    let alloc = rt.alloc();
+    let want = "node 1 IR,node 1.1001 IR,node 1.1001.1001 NR,first 1.1001.1001 EX,";
+    let first = Resource::Edge(element(alloc)?, Side::First);
+    assert!(rt; adds(alloc, first, Ask::Edge(EdgeMode::EX), want)?);
+    Ok(())
+}
+
+/// Whether the copy of an edge's request is equal to it, and shown so.
+fn edge_is_shown(alloc: Global, side: Side, want: &str) -> Result<bool, Fail> {
+    let request = Request {
+        resource: Resource::Edge(element(alloc)?, side),
+        ask: Ask::Edge(EdgeMode::ER),
+    };
+    let copies = [request.copy(alloc)?];
+    let text = shown(alloc, &copies)?;
+    Ok(text.as_slice() == want.as_bytes() && copies[0] == request)
+}
+
+#[test]
+fn each_side_has_its_word(rt: HostRuntime) -> Result<(), Fail> {
+    let alloc = rt.alloc();
+    for (side, want) in [
+        (Side::First, "first 1.1001.1001 ER,"),
+        (Side::Last, "last 1.1001.1001 ER,"),
+        (Side::Next, "next 1.1001.1001 ER,"),
+        (Side::Prev, "prev 1.1001.1001 ER,"),
+    ] {
+        assert!(rt; edge_is_shown(alloc, side, want)?);
+    }
+    Ok(())
+}
+
+#[test]
+fn a_node_comes_before_its_children_and_its_attributes(rt: HostRuntime) -> Result<(), Fail> {
+    let alloc = rt.alloc();
+    let node = Resource::Node(element(alloc)?);
+    assert!(rt; node < Resource::Node(child(alloc)?));
+    assert!(rt; node < Resource::AttrRoot(Label::root(alloc)?));
+    Ok(())
+}
