@@ -8,6 +8,7 @@ mod divisions;
 mod keys;
 mod labels;
 mod laws;
+mod open_error;
 mod records;
 #[cfg(test)]
 mod tests;
@@ -16,4 +17,5 @@ mod texts;
 pub use changes::{read_change, write_change};
 pub use keys::{read_key, write_key};
 pub use laws::{bodies_are_read_again, keys_sort_as_their_bytes, what_is_written_is_read_again};
+pub use open_error::{File, OpenError, Place};
 pub use records::{read_record, write_record};
