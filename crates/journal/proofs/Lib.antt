@@ -1,0 +1,9 @@
+pub mod BodyLaws
+pub mod WordLaws
+pub mod GroupLaws
+pub mod ReadLaws
+pub mod JournalRows
+pub mod AppendSteps
+pub mod FreshSteps
+pub mod DecodeLaws
+pub mod PieceLaws

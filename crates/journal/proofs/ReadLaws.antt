@@ -1,0 +1,116 @@
+-- Open groups and then a closed gate are read as these groups; a group that breaks a rule, as damage at its gate.
+use Rattle.std.proofs.Common.{◌≡◌, ◌≢◌, ℕ, suc, ◌+◌, ◌<◌, ◌≤◌, true, ◌==◌, nat_lt, List, [], ◌∷◌, ◌++◌, length, drop, Option, Some, None, Result, Ok, Err, refl, sym, ◌∙◌, ap, arith, append_assoc, length-append, ◌-◌}
+use Rattle.std.proofs.lemmas.List.{drop_at, append-nil}
+use Rattle.std.proofs.lemmas.Bool.{cond-true, cond-false, lt-ltb, ne_eqb}
+use Rattle.journal.specs.Groups.{group_at}
+use Rattle.journal.specs.Journals.{header, with_first, groups_from, read}
+use Rattle.journal.specs.Appends.{last_number}
+use Rattle.journal.specs.Settled.{Piece, IsGroup, AreGroups, bytes_of, groups_of}
+use Rattle.journal.specs.declared.group.Group.{Group}
+
+-- these groups before what is found
+abbrev pub with_front : List Group → Result (List Group) ℕ → Result (List Group) ℕ
+with_front [] found = found
+with_front (group ∷ groups) found = with_first group (with_front groups found)
+
+pub with_front-ok : (gs more : List Group) → with_front gs (Ok more) ≡ Ok (gs ++ more)
+with_front-ok [] more = refl
+with_front-ok (g ∷ gs) more = ap (with_first g) (with_front-ok gs more)
+
+pub with_front-err : (gs : List Group) (at : ℕ) → with_front gs (Err at) ≡ Err at
+with_front-err [] at = refl
+with_front-err (g ∷ gs) at = ap (with_first g) (with_front-err gs at)
+
+groups_from-group : (n at : ℕ) (last : Option ℕ) (piece : Piece) (rest : List ℕ) → IsGroup last piece → 0 < length rest
+    → groups_from (suc n) at last (1 ∷ (piece.bytes ++ rest)) ≡ with_first piece.group (groups_from n (at + 1 + length piece.bytes) (Some piece.group.number) rest)
+unfolding groups_from
+groups_from-group n at last piece rest is more =
+    ap (λ (o : Option (Group × ℕ)). elim o [
+      | None ↦ Err at
+      | Some found ↦ with_first found.0 (groups_from n (at + 1 + found.1) (Some found.0.number) (drop found.1 (piece.bytes ++ rest)))
+    ]) (is rest more)
+    ∙ ap (λ (l : List ℕ). with_first piece.group (groups_from n (at + 1 + length piece.bytes) (Some piece.group.number) l)) (drop_at piece.bytes rest (length piece.bytes) refl)
+
+groups_from-closed : (n at : ℕ) (last : Option ℕ) (gate : ℕ) (tail : List ℕ) → gate ≢ 1 → groups_from (suc n) at last (gate ∷ tail) ≡ Ok []
+unfolding groups_from
+groups_from-closed n at last gate tail shut = cond-false (gate == 1) _ _ (ne_eqb gate 1 shut)
+
+groups_from-broken : (n at : ℕ) (last : Option ℕ) (rest : List ℕ) → group_at last rest ≡ None → groups_from (suc n) at last (1 ∷ rest) ≡ Err at
+unfolding groups_from
+groups_from-broken n at last rest broken =
+    ap (λ (o : Option (Group × ℕ)). elim o [
+      | None ↦ Err at
+      | Some found ↦ with_first found.0 (groups_from n (at + 1 + found.1) (Some found.0.number) (drop found.1 rest))
+    ]) broken
+
+-- open groups are read one by one, and then what follows
+pub groups_from-front : (ps : List Piece) (last : Option ℕ) → AreGroups last ps → (n at : ℕ) (rest : List ℕ) → 0 < length rest
+    → groups_from (length ps + n) at last (bytes_of ps ++ rest) ≡ with_front (groups_of ps) (groups_from n (at + length (bytes_of ps)) (last_number last (groups_of ps)) rest)
+groups_from-front [] last are n at rest more = λ i. groups_from ((let e : 0 + n ≡ n = omega arith in e) i) ((let e : at ≡ at + 0 = omega arith in e) i) last rest
+groups_from-front (p ∷ ps) last are n at rest more =
+    let some : 0 < length (bytes_of ps ++ rest) = omega (arith, length-append (bytes_of ps) rest, more) in
+    let count : length (p ∷ ps) + n ≡ suc (length ps + n) = omega arith in
+    let place : at + 1 + length p.bytes + length (bytes_of ps) ≡ at + length (bytes_of (p ∷ ps)) = omega (arith, length-append p.bytes (bytes_of ps)) in
+    ap (λ (m : ℕ). groups_from m at last (bytes_of (p ∷ ps) ++ rest)) count
+    ∙ ap (λ (l : List ℕ). groups_from (suc (length ps + n)) at last (1 ∷ l)) (append_assoc p.bytes (bytes_of ps) rest)
+    ∙ groups_from-group (length ps + n) at last p (bytes_of ps ++ rest) are.0 some
+    ∙ ap (with_first p.group) (groups_from-front ps (Some p.group.number) are.1 n (at + 1 + length p.bytes) rest more
+    ∙ ap (λ (m : ℕ). with_front (groups_of ps) (groups_from n m (last_number (Some p.group.number) (groups_of ps)) rest)) place)
+
+pub length-bytes_of : (ps : List Piece) → length ps ≤ length (bytes_of ps)
+length-bytes_of [] = omega arith
+length-bytes_of (p ∷ ps) = omega (arith, length-bytes_of ps, length-append p.bytes (bytes_of ps))
+
+-- a header, open groups, and what follows them
+read-front : (ps : List Piece) → AreGroups None ps → (gate : ℕ) (tail : List ℕ) → (n : ℕ) → length ((header ++ bytes_of ps) ++ gate ∷ tail) ≡ length ps + n
+    → read ((header ++ bytes_of ps) ++ gate ∷ tail) ≡ with_front (groups_of ps) (groups_from n (length (header ++ bytes_of ps)) (last_number None (groups_of ps)) (gate ∷ tail))
+unfolding read
+read-front ps are gate tail n count =
+    let whole = (header ++ bytes_of ps) ++ gate ∷ tail in
+    let long : nat_lt 8 (length whole) ≡ true = lt-ltb 8 (length whole) (omega (arith, length-append (header ++ bytes_of ps) (gate ∷ tail), length-append header (bytes_of ps))) in
+    cond-true (nat_lt 8 (length whole)) _ _ long
+    ∙ ap (λ (m : ℕ). groups_from m 8 None (bytes_of ps ++ gate ∷ tail)) count
+    ∙ groups_from-front ps None are n 8 (gate ∷ tail) (omega arith)
+    ∙ ap (λ (m : ℕ). with_front (groups_of ps) (groups_from n m (last_number None (groups_of ps)) (gate ∷ tail))) (sym (length-append header (bytes_of ps)))
+
+-- the fuel that is left behind the groups
+fuel : (ps : List Piece) (gate : ℕ) (tail : List ℕ) → (n : ℕ) × (length ((header ++ bytes_of ps) ++ gate ∷ tail) ≡ length ps + suc n)
+fuel ps gate tail = (
+  length (bytes_of ps) - length ps + (8 + length tail),
+  omega (arith, length-bytes_of ps, length-append (header ++ bytes_of ps) (gate ∷ tail), length-append header (bytes_of ps)),
+)
+
+-- whatever stands behind a closed gate
+pub read-closed : (ps : List Piece) → AreGroups None ps → (gate : ℕ) (tail : List ℕ) → gate ≢ 1 → read ((header ++ bytes_of ps) ++ gate ∷ tail) ≡ Ok (groups_of ps)
+read-closed ps are gate tail shut =
+    let f = fuel ps gate tail in
+    read-front ps are gate tail (suc f.0) f.1
+    ∙ ap (with_front (groups_of ps)) (groups_from-closed f.0 _ _ gate tail shut)
+    ∙ with_front-ok (groups_of ps) []
+    ∙ ap Ok (append-nil (groups_of ps))
+
+-- an open group that breaks a rule
+pub read-broken : (ps : List Piece) → AreGroups None ps → (tail : List ℕ) → group_at (last_number None (groups_of ps)) tail ≡ None
+    → read ((header ++ bytes_of ps) ++ 1 ∷ tail) ≡ Err (length (header ++ bytes_of ps))
+read-broken ps are tail broken =
+    let f = fuel ps 1 tail in
+    read-front ps are 1 tail (suc f.0) f.1
+    ∙ ap (with_front (groups_of ps)) (groups_from-broken f.0 _ _ tail broken)
+    ∙ with_front-err (groups_of ps) _
+
+pub bytes_of-push : (ps : List Piece) (p : Piece) → bytes_of (ps ++ p ∷ []) ≡ bytes_of ps ++ 1 ∷ p.bytes
+bytes_of-push [] p = ap (λ (l : List ℕ). 1 ∷ l) (append-nil p.bytes)
+bytes_of-push (o ∷ ps) p =
+    ap (λ (l : List ℕ). 1 ∷ (o.bytes ++ l)) (bytes_of-push ps p) ∙ ap (λ (l : List ℕ). 1 ∷ l) (sym (append_assoc o.bytes (bytes_of ps) (1 ∷ p.bytes)))
+
+pub groups_of-push : (ps : List Piece) (p : Piece) → groups_of (ps ++ p ∷ []) ≡ groups_of ps ++ p.group ∷ []
+groups_of-push [] p = refl
+groups_of-push (o ∷ ps) p = ap (λ (l : List Group). o.group ∷ l) (groups_of-push ps p)
+
+pub are_groups-push : (ps : List Piece) (last : Option ℕ) (p : Piece) → AreGroups last ps → IsGroup (last_number last (groups_of ps)) p → AreGroups last (ps ++ p ∷ [])
+are_groups-push [] last p are is = (is, tt)
+are_groups-push (o ∷ ps) last p are is = (are.0, are_groups-push ps (Some o.group.number) p are.1 is)
+
+pub last_number-push : (gs : List Group) (last : Option ℕ) (g : Group) → last_number last (gs ++ g ∷ []) ≡ Some g.number
+last_number-push [] last g = refl
+last_number-push (h ∷ gs) last g = last_number-push gs (Some h.number) g

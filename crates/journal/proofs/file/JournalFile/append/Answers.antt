@@ -1,0 +1,68 @@
+use Rattle.std.proofs.Common.{arith, ap, ◌∙◌, List, ℕ, length}
+use Rattle.journal.specs.Groups.{commit, behind_gate}
+use Rattle.journal.specs.Settled.{Piece, IsGroup}
+use Rattle.journal.proofs.GroupLaws.{group_at-commit}
+use Rattle.journal.proofs.AppendSteps.{first_torn, first_unsynced, second_torn, second_unsynced, second_synced, one_more, now_rests, each_image, settled_again}
+use Rattle.journal.proofs.file.JournalFile.append.Goals as goal
+
+abbrev piece : ℕ → List ℕ → Piece
+piece number body = record { bytes = behind_gate number body; group = commit number body }
+
+pub returns-in_err-write_at-clause-any_moment : goal.returns-in_err-write_at-clause-any_moment
+returns-in_err-write_at-clause-any_moment g c tells =
+    let p = piece c.args.number c.args.body.now in
+    let is : IsGroup c.args.self.now.last p = λ rest more. group_at-commit c.args.number c.args.body.now c.ranges.number.fits c.requires.length c.args.self.now.last rest c.requires.next c.requires.body more in
+    first_torn _ _ _ p _ (c.as_slice-framed.ensures.value ∙ c.frame.ensures.framed) (c.requires.kept.settled tells) is _ (c.in_err-write_at.ensures.err tells)
+
+pub returns-in_err-sync-clause-any_moment : goal.returns-in_err-sync-clause-any_moment
+returns-in_err-sync-clause-any_moment g c tells =
+    let p = piece c.args.number c.args.body.now in
+    let is : IsGroup c.args.self.now.last p = λ rest more. group_at-commit c.args.number c.args.body.now c.ranges.number.fits c.requires.length c.args.self.now.last rest c.requires.next c.requires.body more in
+    first_unsynced _ _ _ p _ (c.as_slice-framed.ensures.value ∙ c.frame.ensures.framed) (c.requires.kept.settled tells) is _ (c.in_ok-write_at.ensures.ok tells) _ (c.in_err-sync.ensures.err tells)
+
+pub returns-in_err-write_at-2-clause-any_moment : goal.returns-in_err-write_at-2-clause-any_moment
+returns-in_err-write_at-2-clause-any_moment g c tells =
+    let p = piece c.args.number c.args.body.now in
+    let is : IsGroup c.args.self.now.last p = λ rest more. group_at-commit c.args.number c.args.body.now c.ranges.number.fits c.requires.length c.args.self.now.last rest c.requires.next c.requires.body more in
+    second_torn _ _ _ p _ (c.as_slice-framed.ensures.value ∙ c.frame.ensures.framed) (c.requires.kept.settled tells) is _ (c.in_ok-write_at.ensures.ok tells) _ (c.in_ok-sync.ensures.ok tells) _ (c.in_err-write_at-2.ensures.err tells)
+
+pub returns-in_err-sync-2-clause-any_moment : goal.returns-in_err-sync-2-clause-any_moment
+returns-in_err-sync-2-clause-any_moment g c tells =
+    let p = piece c.args.number c.args.body.now in
+    let is : IsGroup c.args.self.now.last p = λ rest more. group_at-commit c.args.number c.args.body.now c.ranges.number.fits c.requires.length c.args.self.now.last rest c.requires.next c.requires.body more in
+    second_unsynced _ _ _ p _ (c.as_slice-framed.ensures.value ∙ c.frame.ensures.framed) (c.requires.kept.settled tells) is _ (c.in_ok-write_at.ensures.ok tells) _ (c.in_ok-sync.ensures.ok tells) _ (c.in_ok-write_at-2.ensures.ok tells) _ (c.in_err-sync-2.ensures.err tells)
+
+pub returns-clause-any_moment : goal.returns-clause-any_moment
+returns-clause-any_moment g c tells =
+    let p = piece c.args.number c.args.body.now in
+    let is : IsGroup c.args.self.now.last p = λ rest more. group_at-commit c.args.number c.args.body.now c.ranges.number.fits c.requires.length c.args.self.now.last rest c.requires.next c.requires.body more in
+    second_synced _ _ _ p _ (c.as_slice-framed.ensures.value ∙ c.frame.ensures.framed) (c.requires.kept.settled tells) is _ (c.in_ok-write_at.ensures.ok tells) _ (c.in_ok-sync.ensures.ok tells) _ (c.in_ok-write_at-2.ensures.ok tells) _ (c.in_ok-sync-2.ensures.ok tells)
+
+pub returns-clause-groups : goal.returns-clause-groups
+returns-clause-groups g c tells =
+    let p = piece c.args.number c.args.body.now in
+    let is : IsGroup c.args.self.now.last p = λ rest more. group_at-commit c.args.number c.args.body.now c.ranges.number.fits c.requires.length c.args.self.now.last rest c.requires.next c.requires.body more in
+    one_more _ _ _ p _ (c.as_slice-framed.ensures.value ∙ c.frame.ensures.framed) (c.requires.kept.settled tells) is _ (c.in_ok-write_at.ensures.ok tells) _ (c.in_ok-sync.ensures.ok tells) _ (c.in_ok-write_at-2.ensures.ok tells) _ (c.in_ok-sync-2.ensures.ok tells)
+
+pub returns-clause-durable : goal.returns-clause-durable
+returns-clause-durable g c tells =
+    let p = piece c.args.number c.args.body.now in
+    let is : IsGroup c.args.self.now.last p = λ rest more. group_at-commit c.args.number c.args.body.now c.ranges.number.fits c.requires.length c.args.self.now.last rest c.requires.next c.requires.body more in
+    each_image _ _ _ p _ (c.as_slice-framed.ensures.value ∙ c.frame.ensures.framed) (c.requires.kept.settled tells) is _ (c.in_ok-write_at.ensures.ok tells) _ (c.in_ok-sync.ensures.ok tells) _ (c.in_ok-write_at-2.ensures.ok tells) _ (c.in_ok-sync-2.ensures.ok tells)
+
+pub returns-clause-kept : goal.returns-clause-kept
+returns-clause-kept g c = record {
+  settled = λ tells.
+      let p = piece c.args.number c.args.body.now in
+      let is : IsGroup c.args.self.now.last p = λ rest more. group_at-commit c.args.number c.args.body.now c.ranges.number.fits c.requires.length c.args.self.now.last rest c.requires.next c.requires.body more in
+      let framing = c.as_slice-framed.ensures.value ∙ c.frame.ensures.framed in
+      settled_again _ _ _ p _ framing (c.requires.kept.settled tells) is _ (c.in_ok-write_at.ensures.ok tells) _ (c.in_ok-sync.ensures.ok tells) _ (c.in_ok-write_at-2.ensures.ok tells) _ (c.in_ok-sync-2.ensures.ok tells)
+      _ (omega (arith, ap length framing));
+  fits = omega (arith, c.in_ok-write_at.ensures.fits);
+}
+
+pub returns-clause-synced : goal.returns-clause-synced
+returns-clause-synced g c tells =
+    let p = piece c.args.number c.args.body.now in
+    let is : IsGroup c.args.self.now.last p = λ rest more. group_at-commit c.args.number c.args.body.now c.ranges.number.fits c.requires.length c.args.self.now.last rest c.requires.next c.requires.body more in
+    now_rests _ _ _ p _ (c.as_slice-framed.ensures.value ∙ c.frame.ensures.framed) (c.requires.kept.settled tells) is _ (c.in_ok-write_at.ensures.ok tells) _ (c.in_ok-sync.ensures.ok tells) _ (c.in_ok-write_at-2.ensures.ok tells) _ (c.in_ok-sync-2.ensures.ok tells)

@@ -1,0 +1,58 @@
+// A journal's disk is opened: its groups are read, or a journal is made in a fresh file.
+ghost use Rattle.std.specs.Prelude.{◌≡◌, ◌≤◌, ◌++◌, [], ◌∷◌, false, None, Ok, IsTrue, IfOk, IfErr};
+ghost use Rattle.outside_traits.specs.Disks.{rests};
+ghost use Rattle.outside_traits.specs.Moments.{LeavesOnly};
+ghost use Rattle.std.specs.List.{AllByRecursion};
+ghost use Rattle.node_records.specs.Changes.{keys_rise};
+ghost use Rattle.journal.specs.Journals.{header, is_fresh, read};
+ghost use Rattle.journal.specs.Refusals.{HasReason, IsUntouched};
+ghost use Rattle.journal.specs.Appends.{last_number};
+ghost use Rattle.journal.specs.Settled.{IsKept};
+
+use crate::decoding::{Found, HEADER, read_groups};
+use crate::file::OPEN;
+use crate::new_journal::make_journal;
+use crate::reading::read_file;
+use dewey_labels::List;
+use node_records::OpenError;
+use outside_traits::Disk;
+use std::alloc::Global;
+
+/// The groups of the disk's file; a fresh file is made a journal first. All memory is taken before the first write.
+pub fn open_file<J: Disk>(alloc: Global, disk: &mut J) -> Result<Found, OpenError>
+    requires synced { IsTrue J.tells → (J.told disk.old).now ≡ rests (J.told disk.old).now.reads }
+
+    ensures kept { IfOk result (λ found. IsKept J.tells (J.told disk.new) found.gate found.last) }
+    ensures groups { IfOk result (λ found. IsTrue J.tells → read (J.told disk.old).now.reads ≡ Ok found.groups) }
+    ensures reads { IfOk result (λ found. IsTrue J.tells → read (J.told disk.new).now.reads ≡ Ok found.groups) }
+    ensures last { IfOk result (λ found. found.last ≡ last_number None found.groups) }
+    ensures rising { IfOk result (λ found. AllByRecursion (λ group. IsTrue (keys_rise group.changes)) found.groups) }
+    ensures fresh { IfOk result (λ found. IsTrue J.tells → IsTrue (is_fresh (J.told disk.old).now.reads) → (J.told disk.new).now.reads ≡ header ++ 0 ∷ []) }
+    ensures same { IfOk result (λ found. IsTrue J.tells → is_fresh (J.told disk.old).now.reads ≡ false → J.told disk.new ≡ J.told disk.old) }
+    ensures any_moment { IsTrue J.tells → LeavesOnly (λ image. read image ≡ read (J.told disk.old).now.reads) (J.told disk.old) (J.told disk.new) }
+    ensures untouched { IfErr result (λ fault. IsUntouched fault (IsTrue J.tells → J.told disk.new ≡ J.told disk.old)) }
+    ensures later { J.faults disk.old ≤ J.faults disk.new }
+    ensures reason { IfErr result (λ fault. HasReason J.tells (read (J.told disk.old).now.reads) (J.faults disk.old) (J.faults disk.new) fault) }
+{
+    let bytes = read_file(alloc, disk)?;
+    if has_no_journal(&bytes) {
+        make_journal(disk, bytes.len() as u64)?;
+        return Ok(Found {
+            groups: List::new(alloc),
+            gate: HEADER.len(),
+            last: None,
+        });
+    }
+    let found = read_groups(alloc, &bytes)?;
+    Ok(found)
+}
+
+/// Whether no journal has been made in a file with these bytes.
+fn has_no_journal(bytes: &[u8]) -> bool
+    ensures { result ≡ is_fresh bytes.now }
+{
+    match bytes {
+        [] | [_] => true,
+        [gate, _, rest @ ..] => *gate != OPEN && rest.len() <= 7,
+    }
+}

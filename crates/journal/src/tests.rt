@@ -1,0 +1,305 @@
+ghost use Rattle.std.specs.Prelude.{◌≡◌, false, None, Some, IsTrue, IfOk, OnOk};
+ghost use Rattle.journal.specs.Groups.{is_next};
+
+use crate::body::read_body;
+use crate::{DiskFault, Journal};
+use dewey_labels::{List, NoMemory};
+use node_records::{File, OpenError, Place};
+use outside_kinds::MemDisk;
+use outside_traits::Disk;
+use std::alloc::Global;
+use std::test::Fail;
+
+/// The lines of docs/FILE_FORMAT.md, "A journal byte by byte".
+const DUMP: &str = "
+    01                          the header's gate, open
+    58 54 43 4A 52 4E 31        XTCJRN1
+    01                          the first group's gate, open
+    00                          a commit
+    00 00 00 01                 its number
+    00 00 00 29                 its body has 41 bytes
+    01                          a put
+    01 00 78 00                 its key: label 1, name x, the catalogue's entry for x
+    00 00 00 07                 the length of its record
+    04 31 2E 31 30 30 31        an attribute with the value 1.1001, the document's label
+    01                          a put
+    01 83 69 00 00              its key: label 1.1001, no name
+    00 00 00 01                 the length of its record
+    01                          a document
+    01                          a put
+    01 83 69 83 69 00 00        its key: label 1.1001.1001, no name
+    00 00 00 02                 the length of its record
+    02 61                       an element with the name a
+    00                          the next gate, closed
+";
+
+/// A journal without commits.
+const NEW: &[u8] = b"\x01XTCJRN1\x00";
+
+/// How wide the part of a line is that has bytes.
+const BYTES_WIDE: usize = 28;
+
+/// The bytes of a dump.
+fn bytes_of(alloc: Global, dump: &str) -> Result<List<u8>, NoMemory> {
+    let mut bytes = List::new(alloc);
+    let mut column = 0;
+    let mut high: Option<u8> = None;
+    for byte in dump.as_bytes() {
+        let digit = match *byte {
+            b'0'..=b'9' => Some(*byte - b'0'),
+            b'A'..=b'F' => Some(*byte - b'A' + 10),
+            _ => None,
+        };
+        if *byte == b'\n' {
+            column = 0;
+        } else if column < BYTES_WIDE {
+            column += 1;
+            high = match (digit, high) {
+                (Some(low), Some(high)) => {
+                    bytes.push(high.wrapping_mul(16).wrapping_add(low))?;
+                    None
+                }
+                (first, _) => first,
+            };
+        }
+    }
+    Ok(bytes)
+}
+
+/// The journal in a file without commits, on a disk that fails at the listed calls.
+fn empty_journal(alloc: Global, file: &[u8], fails: &[u64]) -> Result<Journal<MemDisk>, OpenError>
+    ensures usable { IfOk result (λ journal. journal.failed ≡ false) }
+    ensures last { IfOk result (λ journal. journal.last ≡ None) }
+{
+    let mut bytes = List::new(alloc);
+    bytes.extend_from_slice(file)?;
+    let mut calls = List::new(alloc);
+    calls.extend_from_slice(fails)?;
+    match Journal::open(alloc, MemDisk::new(bytes, calls)) {
+        Ok((journal, groups)) if groups.commits.is_empty() => Ok(journal),
+        Ok(_) => Err(OpenError::NoMemory),
+        Err(refused) => Err(refused.fault),
+    }
+}
+
+/// Adds a commit with this body.
+fn commit(
+    alloc: Global,
+    journal: &mut Journal<MemDisk>,
+    number: u32,
+    body: &[u8],
+) -> Result<(), OpenError>
+    requires usable { journal.old.failed ≡ false }
+    requires next { IsTrue (is_next journal.old.last number) }
+    ensures usable { OnOk result (journal.new.failed ≡ false) }
+    ensures last { OnOk result (journal.new.last ≡ Some number) }
+{
+    if body.len() > 4096 || read_body(alloc, body)?.is_none() {
+        return Err(OpenError::NoMemory);
+    }
+    journal.make_room(alloc, body.len())?;
+    match journal.append_group(number, body) {
+        Ok(()) => Ok(()),
+        Err(DiskFault) => Err(OpenError::DiskFault),
+    }
+}
+
+/// The disk of a new journal to which a body was committed three times.
+fn three_commits(alloc: Global, body: &[u8]) -> Result<MemDisk, OpenError> {
+    let mut journal = empty_journal(alloc, NEW, &[])?;
+    commit(alloc, &mut journal, 1, body)?;
+    commit(alloc, &mut journal, 2, body)?;
+    commit(alloc, &mut journal, 3, body)?;
+    Ok(journal.into_disk())
+}
+
+/// How many commits a file has, or why it isn't opened.
+fn commits_in(alloc: Global, file: &[u8]) -> Result<usize, OpenError> {
+    let mut bytes = List::new(alloc);
+    bytes.extend_from_slice(file)?;
+    match Journal::open(alloc, MemDisk::new(bytes, List::new(alloc))) {
+        Ok((_, groups)) => Ok(groups.commits.len()),
+        Err(refused) => Err(refused.fault),
+    }
+}
+
+/// The fewest and the most commits that a crash in a call of the disk leaves.
+fn commits_after_stop(
+    alloc: Global,
+    disk: &MemDisk,
+    call: u64,
+) -> Result<(usize, usize), OpenError> {
+    let mut least = usize::MAX;
+    let mut most = 0;
+    for image in disk.stop_images(alloc, call)?.as_slice() {
+        let count = commits_in(alloc, image.as_slice())?;
+        least = least.min(count);
+        most = most.max(count);
+    }
+    Ok((least, most))
+}
+
+/// The first bytes of the dump, with the byte at one place changed.
+fn changed(alloc: Global, keep: usize, at: usize, byte: u8) -> Result<List<u8>, NoMemory> {
+    let mut bytes = bytes_of(alloc, DUMP)?.into_vec();
+    bytes.truncate(keep);
+    if at < bytes.len() {
+        bytes[at] = byte;
+    }
+    Ok(List::from_vec(bytes))
+}
+
+/// Damage of the journal at this byte.
+fn damaged(at: u64) -> Result<usize, OpenError> {
+    Err(OpenError::Damaged(Place {
+        file: File::Journal,
+        at,
+    }))
+}
+
+#[test]
+fn the_dump_of_the_file_format_is_a_journal(rt: HostRuntime) -> Result<(), Fail> {
+    let bytes = bytes_of(rt.alloc(), DUMP)?;
+    assert_eq!(rt; bytes.len(), 60);
+    assert_eq!(rt; commits_in(rt.alloc(), bytes.as_slice()), Ok(1));
+    Ok(())
+}
+
+#[test]
+fn a_commit_writes_the_bytes_of_the_dump(rt: HostRuntime) -> Result<(), Fail> {
+    let bytes = bytes_of(rt.alloc(), DUMP)?;
+    assert_eq!(rt; bytes.len(), 60);
+    let Ok(mut journal) = empty_journal(rt.alloc(), NEW, &[]) else {
+        panic!(rt; "a new journal isn't opened");
+    };
+    let written = commit(rt.alloc(), &mut journal, 1, &bytes.as_slice()[18..59]);
+    assert_eq!(rt; written, Ok(()));
+    assert_eq!(rt; journal.faults(), 0);
+    assert!(rt; journal.into_disk().bytes() == bytes.as_slice());
+    Ok(())
+}
+
+#[test]
+fn a_changed_file_is_read_or_damaged_at_its_place(rt: HostRuntime) -> Result<(), Fail> {
+    // How many bytes of the dump there are, the place that is changed, the byte there, and what the file stands for.
+    for (keep, at, byte, want) in [
+        (60, 8, 77, Ok(0)),
+        (60, 13, 2, Ok(1)),
+        (60, 3, 0x44, damaged(0)),
+        (60, 0, 0, damaged(0)),
+        (5, 0, 1, damaged(0)),
+        (8, 0, 1, damaged(0)),
+        (60, 9, 1, damaged(8)),
+        (60, 9, 2, damaged(8)),
+        (60, 18, 2, damaged(8)),
+        (40, 0, 1, damaged(8)),
+        (59, 0, 1, damaged(8)),
+        (60, 59, 1, damaged(59)),
+        (9, 0, 0, Ok(0)),
+        (1, 0, 1, Ok(0)),
+        (0, 0, 0, Ok(0)),
+    ] {
+        let bytes = changed(rt.alloc(), keep, at, byte)?;
+        let found = commits_in(rt.alloc(), bytes.as_slice());
+        assert_eq!(rt; found, want, "{keep} bytes with {byte} at {at}");
+    }
+    Ok(())
+}
+
+#[test]
+fn a_stop_in_a_commit_leaves_it_whole_or_not_at_all(rt: HostRuntime) -> Result<(), Fail> {
+    let bytes = bytes_of(rt.alloc(), DUMP)?;
+    assert_eq!(rt; bytes.len(), 60);
+    let Ok(disk) = three_commits(rt.alloc(), &bytes.as_slice()[18..59]) else {
+        panic!(rt; "three commits aren't made");
+    };
+    // The first two calls are the opening's, the length and a read; then a commit makes four.
+    for (call, want) in [
+        (3, (0, 0)),
+        (4, (0, 0)),
+        (5, (0, 1)),
+        (6, (0, 1)),
+        (7, (1, 1)),
+        (8, (1, 1)),
+        (9, (1, 2)),
+        (10, (1, 2)),
+        (11, (2, 2)),
+        (12, (2, 2)),
+        (13, (2, 3)),
+        (14, (2, 3)),
+        (15, (3, 3)),
+    ] {
+        let found = commits_after_stop(rt.alloc(), &disk, call);
+        assert_eq!(rt; found, Ok(want), "at call {call}");
+    }
+    Ok(())
+}
+
+#[test]
+fn a_stop_while_a_journal_is_made_leaves_an_empty_store(rt: HostRuntime) -> Result<(), Fail> {
+    // Fresh files, and how many calls opening makes: the length, a read where there are bytes, two calls a step.
+    for (file, calls) in [
+        (b"".as_slice(), 7),
+        (b"\x01".as_slice(), 8),
+        (b"\x00XTC".as_slice(), 6),
+        (b"\x4DXTCJRN1\x01".as_slice(), 6),
+    ] {
+        let Ok(journal) = empty_journal(rt.alloc(), file, &[]) else {
+            panic!(rt; "a fresh file isn't opened");
+        };
+        let disk = journal.into_disk();
+        assert!(rt; disk.bytes() == NEW);
+        assert_eq!(rt; disk.calls(), calls);
+        for call in 1..10 {
+            let found = commits_after_stop(rt.alloc(), &disk, call);
+            assert_eq!(rt; found, Ok((0, 0)), "at call {call}");
+        }
+    }
+    Ok(())
+}
+
+#[test]
+fn an_append_is_safe_over_what_stands_behind_a_closed_gate(rt: HostRuntime) -> Result<(), Fail> {
+    // An old group, as a reset leaves it.
+    let bytes = changed(rt.alloc(), 60, 8, 0)?;
+    assert_eq!(rt; bytes.len(), 60);
+    let Ok(mut journal) = empty_journal(rt.alloc(), bytes.as_slice(), &[]) else {
+        panic!(rt; "the journal isn't opened");
+    };
+    let written = commit(rt.alloc(), &mut journal, 7, &bytes.as_slice()[45..59]);
+    assert_eq!(rt; written, Ok(()));
+    let disk = journal.into_disk();
+    assert_eq!(rt; disk.bytes().len(), 60);
+    for (call, want) in [
+        (3, (0, 0)),
+        (4, (0, 0)),
+        (5, (0, 1)),
+        (6, (0, 1)),
+        (7, (1, 1)),
+    ] {
+        let found = commits_after_stop(rt.alloc(), &disk, call);
+        assert_eq!(rt; found, Ok(want), "at call {call}");
+    }
+    Ok(())
+}
+
+#[test]
+fn a_failing_call_is_answered_as_a_fault(rt: HostRuntime) -> Result<(), Fail> {
+    // The seven calls that make a journal in an empty file, and then the four of a commit.
+    for call in 1..8 {
+        let refused = empty_journal(rt.alloc(), b"", &[call]);
+        assert!(rt;
+            matches!(&refused, Err(OpenError::DiskFault)),
+            "at call {call}"
+        );
+    }
+    for call in 8..12 {
+        let Ok(mut journal) = empty_journal(rt.alloc(), b"", &[call]) else {
+            panic!(rt; "an empty file isn't opened");
+        };
+        let refused = commit(rt.alloc(), &mut journal, 1, b"");
+        assert_eq!(rt; refused, Err(OpenError::DiskFault), "at call {call}");
+        assert_eq!(rt; journal.faults(), 1);
+    }
+    Ok(())
+}
