@@ -36,6 +36,14 @@ impl SortedSeq {
         }
     }
 
+    /// The map with these entries. It takes no memory.
+    pub fn from_sorted(entries: Vec<(Key, Record)>) -> SortedSeq
+        requires rising { Sorted entries.items }
+        ensures { result ≡ entries.items }
+    {
+        SortedSeq { entries }
+    }
+
     /// The entries, in the order of their keys.
     pub fn entries(&self) -> &[(Key, Record)]
         ensures entries { result.now ≡ self.now }
