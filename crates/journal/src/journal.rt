@@ -65,9 +65,9 @@ impl<J: Disk> Journal<J> {
         ensures rising { IfOk result (λ opened. AllByRecursion (λ group. IsTrue (keys_rise group.changes)) opened.1.commits) }
         ensures ok { IfOk result (λ opened. opened.0.failed ≡ false) }
 
-        // A fresh file has these nine bytes then; any other file is as it was.
+        // A fresh file has these nine bytes then; any other file is as it was, after an error too.
         ensures fresh { IfOk result (λ opened. IsTrue J.tells → IsTrue (is_fresh (J.told disk).now.reads) → opened.0.told.now.reads ≡ header ++ 0 ∷ []) }
-        ensures same { IfOk result (λ opened. IsTrue J.tells → is_fresh (J.told disk).now.reads ≡ false → opened.0.told ≡ J.told disk) }
+        ensures same { IsTrue J.tells → is_fresh (J.told disk).now.reads ≡ false → MatchResult result (λ opened. opened.0.told ≡ J.told disk) (λ refused. J.told refused.disk ≡ J.told disk) }
 
         // A crash at any moment of the call leaves what stands for the same groups.
         ensures any_moment { IsTrue J.tells → MatchResult result

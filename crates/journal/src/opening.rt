@@ -28,7 +28,7 @@ pub fn open_file<J: Disk>(alloc: Global, disk: &mut J) -> Result<Found, OpenErro
     ensures last { IfOk result (λ found. found.last ≡ last_number None found.groups) }
     ensures rising { IfOk result (λ found. AllByRecursion (λ group. IsTrue (keys_rise group.changes)) found.groups) }
     ensures fresh { IfOk result (λ found. IsTrue J.tells → IsTrue (is_fresh (J.told disk.old).now.reads) → (J.told disk.new).now.reads ≡ header ++ 0 ∷ []) }
-    ensures same { IfOk result (λ found. IsTrue J.tells → is_fresh (J.told disk.old).now.reads ≡ false → J.told disk.new ≡ J.told disk.old) }
+    ensures same { IsTrue J.tells → is_fresh (J.told disk.old).now.reads ≡ false → J.told disk.new ≡ J.told disk.old }
     ensures any_moment { IsTrue J.tells → LeavesOnly (λ image. read image ≡ read (J.told disk.old).now.reads) (J.told disk.old) (J.told disk.new) }
     ensures untouched { IfErr result (λ fault. IsUntouched fault (IsTrue J.tells → J.told disk.new ≡ J.told disk.old)) }
     ensures later { J.faults disk.old ≤ J.faults disk.new }
