@@ -2,11 +2,12 @@
 use Rattle.std.proofs.Common.{◌≡◌, ◌≢◌, ℕ, suc, ◌+◌, ◌<◌, ◌≤◌, true, ◌==◌, nat_lt, List, [], ◌∷◌, ◌++◌, length, drop, Option, Some, None, Result, Ok, Err, refl, sym, ◌∙◌, ap, arith, append_assoc, length-append, ◌-◌}
 use Rattle.std.proofs.lemmas.List.{drop_at, append-nil}
 use Rattle.std.proofs.lemmas.Bool.{cond-true, cond-false, lt-ltb, ne_eqb}
-use Rattle.journal.specs.Groups.{group_at}
+use Rattle.journal.specs.Groups.{behind_gate, commit, group_at, AreCommits, open_groups, commits_of}
 use Rattle.journal.specs.Journals.{header, with_first, groups_from, read}
 use Rattle.journal.specs.Appends.{last_number}
 use Rattle.journal.specs.Settled.{Piece, IsGroup, AreGroups, bytes_of, groups_of}
 use Rattle.journal.specs.declared.group.Group.{Group}
+use Rattle.journal.proofs.GroupLaws.{group_at-commit}
 
 -- these groups before what is found
 abbrev pub with_front : List Group → Result (List Group) ℕ → Result (List Group) ℕ
@@ -114,3 +115,30 @@ are_groups-push (o ∷ ps) last p are is = (are.0, are_groups-push ps (Some o.gr
 pub last_number-push : (gs : List Group) (last : Option ℕ) (g : Group) → last_number last (gs ++ g ∷ []) ≡ Some g.number
 last_number-push [] last g = refl
 last_number-push (h ∷ gs) last g = last_number-push gs (Some h.number) g
+
+pieces_of : List (ℕ × List ℕ) → List Piece
+pieces_of [] = []
+pieces_of (c ∷ commits) = record { bytes = behind_gate c.0 c.1; group = commit c.0 c.1 } ∷ pieces_of commits
+
+are_pieces : (last : Option ℕ) (commits : List (ℕ × List ℕ)) → AreCommits last commits → AreGroups last (pieces_of commits)
+unfolding pieces_of
+are_pieces last [] are = tt
+are_pieces last (c ∷ commits) are =
+    ((λ rest more. group_at-commit c.0 c.1 are.1 are.3 last rest are.0 are.2 more), are_pieces (Some c.0) commits are.4)
+
+bytes_of-pieces : (commits : List (ℕ × List ℕ)) → bytes_of (pieces_of commits) ≡ open_groups commits
+unfolding pieces_of
+bytes_of-pieces [] = refl
+bytes_of-pieces (c ∷ commits) = ap (λ (l : List ℕ). 1 ∷ (behind_gate c.0 c.1 ++ l)) (bytes_of-pieces commits)
+
+groups_of-pieces : (commits : List (ℕ × List ℕ)) → groups_of (pieces_of commits) ≡ commits_of commits
+unfolding pieces_of
+groups_of-pieces [] = refl
+groups_of-pieces (c ∷ commits) = ap (λ (l : List Group). commit c.0 c.1 ∷ l) (groups_of-pieces commits)
+
+-- commits that were written are read again, whatever stands behind the closed gate
+pub commits_again : (commits : List (ℕ × List ℕ)) (gate : ℕ) (tail : List ℕ) → AreCommits None commits → gate ≢ 1 → read ((header ++ open_groups commits) ++ gate ∷ tail) ≡ Ok (commits_of commits)
+commits_again commits gate tail are shut =
+    ap (λ (l : List ℕ). read ((header ++ l) ++ gate ∷ tail)) (sym (bytes_of-pieces commits))
+    ∙ read-closed (pieces_of commits) (are_pieces None commits are) gate tail shut
+    ∙ ap Ok (groups_of-pieces commits)

@@ -1,5 +1,5 @@
 -- Groups, one behind an open gate each (docs/FILE_FORMAT.md, "Groups").
-use Rattle.std.specs.Prelude.{ℕ, ◌+◌, Bool, true, ◌&&◌, ◌==◌, nat_lt, List, [], ◌∷◌, ◌++◌, length, take, drop, get_or, Option, Some, None, option_map, unwrap_or, if◌then◌else◌}
+use Rattle.std.specs.Prelude.{ℕ, ◌+◌, Bool, true, ◌&&◌, ◌==◌, nat_lt, List, [], ◌∷◌, ◌++◌, length, take, drop, get_or, Option, Some, None, option_map, unwrap_or, if◌then◌else◌, ◌<◌, ◌^◌, IsTrue, IsSome}
 use Rattle.byteorder.specs.Endian.{big_bytes, big_number}
 use Rattle.journal.specs.Bodies.{changes_in}
 use Rattle.journal.specs.declared.group.Group.{Group}
@@ -44,3 +44,18 @@ is_framed last rest = nat_lt (size_at rest) (length rest) && ((get_or rest 0 0 =
 -- the group behind an open gate and how many bytes it takes; None where it breaks a rule
 unfoldable pub group_at : Option ℕ → List ℕ → Option (Group × ℕ)
 group_at last rest = if is_framed last rest then option_map (λ changes. (record { number = number_at rest; changes = changes }, size_at rest)) (changes_in (body_at rest)) else None
+
+-- commits, each with its number and its body, that may stand one behind the other
+abbrev pub AreCommits : Option ℕ → List (ℕ × List ℕ) → Type 0
+AreCommits last [] = Unit {0}
+AreCommits last (c ∷ commits) = IsTrue (is_next last c.0) × (c.0 < 2 ^ 32) × IsSome (changes_in c.1) × (length c.1 < 2 ^ 32) × AreCommits (Some c.0) commits
+
+-- commits, each behind an open gate
+abbrev pub open_groups : List (ℕ × List ℕ) → List ℕ
+open_groups [] = []
+open_groups (c ∷ commits) = 1 ∷ (behind_gate c.0 c.1 ++ open_groups commits)
+
+-- what they are read as
+abbrev pub commits_of : List (ℕ × List ℕ) → List Group
+commits_of [] = []
+commits_of (c ∷ commits) = commit c.0 c.1 ∷ commits_of commits

@@ -20,4 +20,4 @@ mod tests;
 pub use disk_fault::DiskFault;
 pub use group::{Group, Groups};
 pub use journal::{Journal, OpenFault};
-pub use laws::a_body_is_read_again;
+pub use laws::{a_body_is_read_again, commits_are_read_again};
