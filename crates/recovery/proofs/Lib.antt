@@ -1,0 +1,5 @@
+mod CatalogueLaws
+mod GatherLaws
+mod OpenedLaws
+mod StandLaws
+mod SyncSteps

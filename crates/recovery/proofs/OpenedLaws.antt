@@ -1,0 +1,141 @@
+-- What files stand for, by a few of their parts.
+use Rattle.std.proofs.Common.{◌≡◌, ◌≤◌, ◌+◌, ℕ, Bool, true, false, List, [], ◌∷◌, length, Option, Some, None, Result, Ok, Err, if◌then◌else◌, refl, sym, ◌∙◌, ap, subst, arith}
+use Rattle.std.proofs.lemmas.Bool.{eq-eqb}
+use Rattle.outside_traits.specs.Faults.{Rose}
+use Rattle.outside_traits.specs.Moments.{Told, LeavesOnly}
+use Rattle.outside_traits.proofs.MomentLaws.{started, weaker}
+use Rattle.tree_model.specs.Entries.{Entries}
+use Rattle.tree_model.specs.StoredTree.{IsStoredTree, broken_at}
+use Rattle.tree_model.proofs.SameMaps.{same_tree}
+use Rattle.node_records.specs.declared.open_error.OpenError.{OpenError}
+use Rattle.node_records.specs.declared.open_error.OpenError.TheVariants.{Damaged, DiskFault, NoMemory}
+use Rattle.node_records.specs.declared.open_error.Place.{Place}
+use Rattle.node_records.specs.declared.open_error.File.TheVariants.{Journal, Pages, Tree}
+use Rattle.journal.specs.Groups.{is_next}
+use Rattle.journal.specs.Journals.{read, is_fresh}
+use Rattle.journal.specs.Appends.{groups_read, last_number}
+use Rattle.journal.specs.declared.group.Group.{Group}
+use Rattle.journal.proofs.FreshSteps.{fresh_reads}
+use Rattle.recovery.specs.Causes.{IsDamage, HasReason, IfDamaged, IsFirst}
+use Rattle.recovery.specs.Opened.{Contents, place_in, after_commits, last_of, first_is_one, contents_of, checked, opened_from, first_broken, opened_beside, opened, is_empty}
+use Rattle.recovery.specs.Trees.{StandForOne}
+
+-- where a journal is read, what it stands for hangs on its groups alone
+pub by_groups : (empty : Bool) (journal : List ℕ) (groups : List Group) → read journal ≡ Ok groups → opened_beside empty journal ≡ opened_from empty groups
+unfolding opened_beside
+by_groups empty journal groups h = ap (λ (r : Result (List Group) ℕ). elim r [ Ok gs ↦ opened_from empty gs | Err at ↦ Err (place_in Journal (first_broken empty journal at)) ]) h
+
+-- where a rule of the journal is broken, it stands for a place
+pub by_damage : (empty : Bool) (journal : List ℕ) (at : ℕ) → read journal ≡ Err at → opened_beside empty journal ≡ Err (place_in Journal (first_broken empty journal at))
+unfolding opened_beside
+by_damage empty journal at h = ap (λ (r : Result (List Group) ℕ). elim r [ Ok gs ↦ opened_from empty gs | Err at ↦ Err (place_in Journal (first_broken empty journal at)) ]) h
+
+-- a page file that isn't empty is damaged beside a fresh journal
+pub fresh_beside : (journal : List ℕ) (empty : Bool) → is_fresh journal ≡ true → empty ≡ false → opened_beside empty journal ≡ Err (place_in Pages 0)
+fresh_beside journal empty fresh not_empty = by_groups empty journal [] (fresh_reads journal fresh) ∙ ap (λ (b : Bool). opened_from b []) not_empty
+
+-- two fresh files stand for the same
+pub both_fresh : (empty : Bool) (a b : List ℕ) (groups : List Group) → read a ≡ Ok groups → read b ≡ Ok groups → opened_beside empty a ≡ opened_beside empty b
+both_fresh empty a b groups h g = by_groups empty a groups h ∙ sym (by_groups empty b groups g)
+
+pub some_bytes : (bytes : List ℕ) (n : ℕ) → n ≡ length bytes → (n ≡ 0 → ⊥) → is_empty bytes ≡ false
+some_bytes [] n h g = absurd (g h)
+some_bytes (b ∷ bytes) n h g = refl
+
+-- ---- commits
+
+-- where commits stand for a map, it is theirs
+pub contents_are : (empty : Bool) (groups : List Group) (c : Contents) → opened_from empty groups ≡ Ok c → c ≡ contents_of groups
+contents_are false groups c h = cc
+contents_are true groups c h = elim (first_is_one groups) as (λ (b : Bool). (if b then checked (contents_of groups) else Err (place_in Journal 8)) ≡ Ok c → c ≡ contents_of groups) [
+  | true ↦ λ g. elim (broken_at (after_commits groups [])) as (λ (o : Option ℕ). elim o as (λ _. Result Contents Place) [ None ↦ Ok (contents_of groups) | Some at ↦ Err (place_in Tree at) ] ≡ Ok c → c ≡ contents_of groups) [
+    | None ↦ λ e. sym (ap (λ (r : Result Contents Place). found_in c r) e)
+    | Some at ↦ λ e. cc
+  ] g
+  | false ↦ λ g. cc
+] h
+  where
+    found_in : Contents → Result Contents Place → Contents
+    found_in other (Ok found) = found
+    found_in other (Err place) = other
+
+last_same : (groups : List Group) (n : ℕ) → last_number (Some n) groups ≡ Some (last_of groups n)
+last_same [] n = refl
+last_same (g ∷ groups) n = last_same groups g.number
+
+-- the number behind the last one comes next
+pub follows : (groups : List Group) → is_next (last_number None groups) (last_of groups 0 + 1) ≡ true
+follows [] = refl
+follows (g ∷ groups) = ap (λ (o : Option ℕ). is_next o (last_of groups g.number + 1)) (last_same groups g.number) ∙ eq-eqb (last_of groups g.number + 1) (last_of groups g.number + 1) refl
+
+-- a fresh journal beside an empty page file breaks no rule
+pub not_fresh : (empty : Bool) (journal : List ℕ) (groups : List Group) (place : Place) → read journal ≡ Ok groups → (empty ≡ false → is_fresh journal ≡ false) → opened_from empty groups ≡ Err place → is_fresh journal ≡ false
+not_fresh empty journal groups place h made broken = elim (is_fresh journal) as (λ (b : Bool). is_fresh journal ≡ b → b ≡ false) [
+  | true ↦ λ fresh.
+      let none : [] ≡ groups = ap groups_read (sym (fresh_reads journal fresh) ∙ h) in
+      by_pages empty fresh made (ap (opened_from empty) none ∙ broken)
+  | false ↦ λ _. refl
+] refl
+  where
+    by_pages : (b : Bool) → is_fresh journal ≡ true → (b ≡ false → is_fresh journal ≡ false) → opened_from b [] ≡ Err place → true ≡ false
+    by_pages true fresh made broken = cc
+    by_pages false fresh made broken = sym fresh ∙ made refl
+
+-- ---- a crash while the journal is opened
+
+pub journal_moments : (empty : Bool) (t u : Told) → (is_fresh t.now.reads ≡ false → u ≡ t) → LeavesOnly (λ image. read image ≡ read t.now.reads) t u → LeavesOnly (λ image. opened_beside empty image ≡ opened_beside empty t.now.reads) t u
+journal_moments empty t u same run = elim (is_fresh t.now.reads) as (λ (b : Bool). is_fresh t.now.reads ≡ b → LeavesOnly (λ image. opened_beside empty image ≡ opened_beside empty t.now.reads) t u) [
+  | true ↦ λ fresh.
+      let none = fresh_reads t.now.reads fresh in
+      weaker _ (λ image. opened_beside empty image ≡ opened_beside empty t.now.reads) t u (λ image alike. both_fresh empty image t.now.reads [] (alike ∙ none) none) run
+  | false ↦ λ made. subst (λ (v : Told). LeavesOnly (λ image. opened_beside empty image ≡ opened_beside empty t.now.reads) t v) (sym (same made)) (started _ t)
+] refl
+
+-- ---- why a store isn't opened
+
+pub reason_of : (told : Type 0) (opened from : Result Contents Place) (cause : Type 0) (fault : OpenError) → IsDamage from fault → (told → opened ≡ from) → HasReason told opened cause fault
+reason_of told opened from cause (Damaged place) damage same = λ t. same t ∙ damage
+reason_of told opened from cause DiskFault damage same = absurd damage
+reason_of told opened from cause NoMemory damage same = tt
+
+pub untouched_of : (P : Type 0) (fault : OpenError) → ((place : Place) → fault ≡ Damaged place → P) → IfDamaged fault P
+untouched_of P (Damaged place) h = h place refl
+untouched_of P DiskFault h = tt
+untouched_of P NoMemory h = tt
+
+-- what an answer of damage says of the files
+pub damage_of : (from : Result Contents Place) (fault : OpenError) (place : Place) → IsDamage from fault → fault ≡ Damaged place → from ≡ Err place
+damage_of from fault place damage is = subst (λ (f : OpenError). IsDamage from f) is damage
+
+rose_later : (a b d : ℕ) → a ≤ b → Rose b d → Rose a d
+rose_later a b d later rose = omega (arith, later, rose)
+
+rose_sooner : (a b d : ℕ) → b ≤ d → Rose a b → Rose a d
+rose_sooner a b d later rose = omega (arith, later, rose)
+
+pub first_reason : (tells : Type 0) (empty : Bool) (t u : Told) (a b d : ℕ) (found fault : OpenError) → IsFirst tells empty u.now.reads (Rose b d) found fault
+    → ((place : Place) → found ≡ Damaged place → (place.file ≡ Journal) × (tells → read t.now.reads ≡ Err place.at))
+    → ((found ≡ DiskFault → ⊥) → tells → u ≡ t) → (found ≡ DiskFault → Rose a b) → a ≤ b → b ≤ d → HasReason tells (opened_beside empty t.now.reads) (Rose a d) fault
+first_reason tells empty t u a b d (Damaged p) (Damaged q) first damaged same rose before later = λ told.
+    by_damage empty t.now.reads p.at ((damaged p refl).1 told)
+    ∙ sym (ap (λ (place : Place). Err place) (first told ∙ ap (λ (v : Told). place_in Journal (first_broken empty v.now.reads p.at)) (same (λ e. cc) told)))
+first_reason tells empty t u a b d (Damaged p) DiskFault first damaged same rose before later = rose_later a b d before first
+first_reason tells empty t u a b d (Damaged p) NoMemory first damaged same rose before later = absurd first
+first_reason tells empty t u a b d DiskFault fault first damaged same rose before later =
+    subst (λ (f : OpenError). HasReason tells (opened_beside empty t.now.reads) (Rose a d) f) (sym first) (rose_sooner a b d later (rose refl))
+first_reason tells empty t u a b d NoMemory fault first damaged same rose before later =
+    subst (λ (f : OpenError). HasReason tells (opened_beside empty t.now.reads) (Rose a d) f) (sym first) tt
+
+-- ---- the tree
+
+abbrev entries_read : Result Contents Place → Entries
+entries_read (Ok c) = c.entries
+entries_read (Err place) = []
+
+-- files that stand for the map of a tree stand for it alone
+pub stand_for_one : (journal pages : List ℕ) (es : Entries) (n : ℕ) → opened journal pages ≡ Ok (record { entries = es; number = n }) → IsStoredTree es → StandForOne journal pages n
+stand_for_one journal pages es n h stored = record {
+  tree = stored.tree;
+  stand = record { well_formed = stored.well_formed; opens = h ∙ ap (λ (l : Entries). Ok (record { entries = l; number = n })) (sym stored.map) };
+  alone = λ other stand. same_tree other stored.tree stand.well_formed stored.well_formed (ap entries_read (sym stand.opens ∙ h) ∙ sym stored.map);
+}
