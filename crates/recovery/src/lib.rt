@@ -13,5 +13,7 @@ mod records;
 mod recovered;
 mod rules;
 mod syncing;
+#[cfg(test)]
+mod tests;
 
 pub use opening::{Opened, StoreFault, open_store};

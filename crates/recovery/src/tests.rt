@@ -1,0 +1,280 @@
+use crate::{Opened, open_store};
+use dewey_labels::{List, NoMemory};
+use node_records::{File, OpenError, Place};
+use outside_kinds::MemDisk;
+use outside_traits::Disk;
+use std::alloc::Global;
+use std::test::Fail;
+use tree_model::Record;
+
+/// A journal without commits.
+const NEW: &[u8] = b"\x01XTCJRN1\x00";
+
+/// Puts of the catalogue's entry of x, of its document 1.1001, and of the element a at 1.1001.1001.
+const ENTRY: &[u8] = b"\x01\x01\0x\0\0\0\0\x07\x041.1001";
+
+const DOCUMENT: &[u8] = b"\x01\x01\x83\x69\0\0\0\0\0\x01\x01";
+
+const ELEMENT: &[u8] = b"\x01\x01\x83\x69\x83\x69\0\0\0\0\0\x02\x02a";
+
+/// A disk that fails at the listed calls.
+fn disk(alloc: Global, file: &[u8], fails: &[u64]) -> Result<MemDisk, NoMemory> {
+    let mut bytes = List::new(alloc);
+    bytes.extend_from_slice(file)?;
+    let mut calls = List::new(alloc);
+    calls.extend_from_slice(fails)?;
+    Ok(MemDisk::new(bytes, calls))
+}
+
+/// The number and the count of records that two files open with, or why they aren't opened.
+fn opens(alloc: Global, journal: &[u8], pages: &[u8]) -> Result<(u32, usize), OpenError> {
+    match open_store(alloc, disk(alloc, journal, &[])?, disk(alloc, pages, &[])?) {
+        Ok(store) => Ok((store.number, store.base.entries().len())),
+        Err(refused) => Err(refused.fault),
+    }
+}
+
+fn damaged(file: File, at: u64) -> Result<(u32, usize), OpenError> {
+    Err(OpenError::Damaged(Place { file, at }))
+}
+
+/// Puts a commit with this number and body behind an open gate, in the place of the closed one, and the next gate.
+fn commit(journal: &mut List<u8>, number: u8, body: &[&[u8]]) -> Result<(), NoMemory> {
+    let mut length: u8 = 0;
+    for piece in body {
+        length = length.wrapping_add(piece.len() as u8);
+    }
+    let _gate = journal.pop();
+    journal.extend_from_slice(&[1, 0, 0, 0, 0, number, 0, 0, 0, length])?;
+    for piece in body {
+        journal.extend_from_slice(piece)?;
+    }
+    journal.push(0)
+}
+
+/// A journal with one commit.
+fn journal(alloc: Global, body: &[&[u8]]) -> Result<List<u8>, NoMemory> {
+    let mut journal = List::new(alloc);
+    journal.extend_from_slice(NEW)?;
+    commit(&mut journal, 1, body)?;
+    Ok(journal)
+}
+
+/// The journal of sixty bytes, with the byte at one place changed.
+fn changed(alloc: Global, keep: usize, at: usize, byte: u8) -> Result<Vec<u8>, NoMemory> {
+    let mut bytes = journal(alloc, &[ENTRY, DOCUMENT, ELEMENT])?.into_vec();
+    bytes.truncate(keep);
+    if at < bytes.len() {
+        bytes[at] = byte;
+    }
+    Ok(bytes)
+}
+
+#[test]
+fn sixty_bytes_are_a_document_with_number_1(rt: HostRuntime) -> Result<(), Fail> {
+    let alloc = rt.alloc();
+    let bytes = changed(alloc, 60, 0, 1)?;
+    assert_eq!(rt; bytes.len(), 60);
+    let Ok(store) = open_store(alloc, disk(alloc, &bytes, &[])?, disk(alloc, b"", &[])?) else {
+        panic!(rt; "the store isn't opened");
+    };
+    let Opened { base, number, .. } = store;
+    assert_eq!(rt; number, 1);
+    match base.entries() {
+        [entry, document, element] => {
+            assert_eq!(rt; entry.0.name.as_str(), "x");
+            assert!(rt; matches!(&document.1, Record::Document));
+            assert_eq!(rt; element.0.label.divisions(), [1, 1001, 1001].as_slice());
+            assert!(rt; matches!(&element.1, Record::Element(name) if name.as_str() == "a"));
+        }
+        _ => panic!(rt; "not three records"),
+    }
+    Ok(())
+}
+
+#[test]
+fn a_changed_journal_opens_or_is_damaged_at_its_place(rt: HostRuntime) -> Result<(), Fail> {
+    // How many of the sixty bytes there are, the place that is changed, the byte there, and what the files stand for.
+    for (keep, at, byte, want) in [
+        (60, 0, 1, Ok((1, 3))),
+        (60, 9, 2, damaged(File::Journal, 8)),
+        (60, 10, 2, damaged(File::Journal, 8)),
+        (60, 13, 2, damaged(File::Journal, 8)),
+        (60, 59, 1, damaged(File::Journal, 59)),
+        (60, 3, 0x44, damaged(File::Journal, 0)),
+        (60, 0, 0, damaged(File::Journal, 0)),
+        (5, 0, 1, damaged(File::Journal, 0)),
+        (9, 0, 0, Ok((0, 0))),
+        (1, 0, 1, Ok((0, 0))),
+        (0, 0, 0, Ok((0, 0))),
+    ] {
+        let bytes = changed(rt.alloc(), keep, at, byte)?;
+        let found = opens(rt.alloc(), &bytes, b"");
+        assert_eq!(rt; found, want, "{keep} bytes with {byte} at {at}");
+    }
+    Ok(())
+}
+
+#[test]
+fn a_wrong_first_number_comes_before_a_later_group_but_not_before_one_of_images(
+    rt: HostRuntime,
+) -> Result<(), Fail> {
+    // The byte of the number, the bytes from the last gate on, and the place.
+    for (number, rest, want) in [
+        (2, b"\x01".as_slice(), damaged(File::Journal, 8)),
+        (2, b"\x01\x00".as_slice(), damaged(File::Journal, 8)),
+        (2, b"\x01\x01".as_slice(), damaged(File::Journal, 59)),
+        (1, b"\x01\x00".as_slice(), damaged(File::Journal, 59)),
+    ] {
+        let mut bytes = changed(rt.alloc(), 59, 13, number)?;
+        bytes.extend_from_slice(rest)?;
+        let found = opens(rt.alloc(), &bytes, b"");
+        assert_eq!(rt; found, want, "number {number} and {rest:?}");
+    }
+    Ok(())
+}
+
+#[test]
+fn pages_are_tested_behind_the_journal_and_before_the_tree(rt: HostRuntime) -> Result<(), Fail> {
+    let pages = [0; 100];
+    for (keep, at, byte, want) in [
+        (0, 0, 0, damaged(File::Pages, 0)),
+        (9, 0, 0, damaged(File::Pages, 0)),
+        (60, 0, 1, damaged(File::Pages, 0)),
+        (60, 13, 2, damaged(File::Pages, 0)),
+        (60, 59, 1, damaged(File::Journal, 59)),
+        (5, 0, 1, damaged(File::Journal, 0)),
+    ] {
+        let bytes = changed(rt.alloc(), keep, at, byte)?;
+        let found = opens(rt.alloc(), &bytes, &pages);
+        assert_eq!(rt; found, want, "{keep} bytes with {byte} at {at}");
+    }
+    Ok(())
+}
+
+#[test]
+fn each_rule_of_the_tree_has_its_place(rt: HostRuntime) -> Result<(), Fail> {
+    let text = b"\x01\x01\x83\x69\x83\x69\0\0\0\0\0\x02\x03a".as_slice();
+    let no_name = b"\x01\x01\x83\x69\x83\x69\0\0\0\0\0\x02\x021".as_slice();
+    let second = b"\x01\x01\x83\x69\x83\x6B\0\0\0\0\0\x02\x02b".as_slice();
+    let attribute = b"\x01\x01\x83\x69\0n\0\0\0\0\x02\x045".as_slice();
+    let root = b"\x01\x01\0\0\0\0\0\x01\x01".as_slice();
+    let again = b"\x01\x01\0y\0\0\0\0\x07\x041.1001".as_slice();
+    // The entries of the tree beside the three of the whole one, the rule that is broken, and its place.
+    for (rule, body, at) in [
+        ("an entry has no document", [ENTRY, b"", b"", b""], 1),
+        ("a parent isn't there", [b"", b"", ELEMENT, b""], 0),
+        ("no entry names a document", [DOCUMENT, b"", b"", b""], 0),
+        ("two entries do", [ENTRY, again, DOCUMENT, b""], 2),
+        (
+            "a text stands in a document",
+            [ENTRY, DOCUMENT, text, b""],
+            2,
+        ),
+        ("a name is none", [ENTRY, DOCUMENT, no_name, b""], 2),
+        (
+            "a document has two children",
+            [ENTRY, DOCUMENT, ELEMENT, second],
+            3,
+        ),
+        (
+            "a document has an attribute",
+            [ENTRY, DOCUMENT, attribute, b""],
+            2,
+        ),
+        ("the root has a record", [root, b"", b"", b""], 0),
+    ] {
+        let bytes = journal(rt.alloc(), &body)?;
+        let found = opens(rt.alloc(), bytes.as_slice(), b"");
+        assert_eq!(rt; found, damaged(File::Tree, at), "{rule}");
+    }
+    Ok(())
+}
+
+#[test]
+fn commits_follow_one_another_and_what_is_deleted_stays_away(rt: HostRuntime) -> Result<(), Fail> {
+    let no_element = b"\x02\x01\x83\x69\x83\x69\0\0".as_slice();
+    let renamed = b"\x01\x01\x83\x69\x83\x69\0\0\0\0\0\x02\x02b".as_slice();
+    let alloc = rt.alloc();
+    for (second, third, want) in [
+        (no_element, no_element, "2 of them"),
+        (no_element, renamed, "b"),
+        (renamed, ELEMENT, "a"),
+    ] {
+        let mut bytes = journal(alloc, &[ENTRY, DOCUMENT, ELEMENT])?;
+        commit(&mut bytes, 2, &[second])?;
+        commit(&mut bytes, 3, &[third])?;
+        let Ok(store) = open_store(
+            alloc,
+            disk(alloc, bytes.as_slice(), &[])?,
+            disk(alloc, b"", &[])?,
+        ) else {
+            panic!(rt; "the store isn't opened");
+        };
+        assert_eq!(rt; store.number, 3);
+        let found = match store.base.entries() {
+            [_, _, (_, Record::Element(name))] => name.as_str(),
+            [_, _] => "2 of them",
+            _ => "",
+        };
+        assert_eq!(rt; found, want);
+    }
+    Ok(())
+}
+
+#[test]
+fn a_failing_call_of_either_disk_hands_both_back(rt: HostRuntime) -> Result<(), Fail> {
+    let alloc = rt.alloc();
+    // The call that fails: eight of the journal's disk make a new journal, and two of the pages' are made.
+    for (journal_call, pages_call) in [
+        (1, 9),
+        (2, 9),
+        (3, 9),
+        (4, 9),
+        (5, 9),
+        (6, 9),
+        (7, 9),
+        (8, 9),
+        (9, 1),
+        (9, 2),
+    ] {
+        let journal = disk(alloc, b"", &[journal_call])?;
+        let pages = disk(alloc, b"", &[pages_call])?;
+        let Err(refused) = open_store(alloc, journal, pages) else {
+            panic!(rt; "the store is opened");
+        };
+        assert_eq!(rt; refused.fault, OpenError::DiskFault);
+        let faults = (refused.journal.faults(), refused.pages.faults());
+        assert_eq!(rt;
+            faults,
+            (u64::from(journal_call < 9), u64::from(pages_call < 9))
+        );
+    }
+    Ok(())
+}
+
+/// Whether each image that a crash in a call of the journal's disk leaves opens as an empty store.
+fn leaves_an_empty_store(alloc: Global, disk: &MemDisk, call: u64) -> Result<bool, OpenError> {
+    for image in disk.stop_images(alloc, call)?.as_slice() {
+        if opens(alloc, image.as_slice(), b"")? != (0, 0) {
+            return Ok(false);
+        }
+    }
+    Ok(true)
+}
+
+#[test]
+fn a_stop_while_a_store_is_made_leaves_an_empty_one(rt: HostRuntime) -> Result<(), Fail> {
+    let alloc = rt.alloc();
+    let Ok(store) = open_store(alloc, disk(alloc, b"", &[])?, disk(alloc, b"", &[])?) else {
+        panic!(rt; "an empty store isn't opened");
+    };
+    let journal = store.journal.into_disk();
+    assert_eq!(rt; journal.calls(), 8);
+    assert!(rt; journal.bytes() == NEW);
+    for call in 1..10 {
+        let empty = leaves_an_empty_store(alloc, &journal, call);
+        assert_eq!(rt; empty, Ok(true), "at call {call}");
+    }
+    Ok(())
+}
