@@ -1,11 +1,11 @@
-use crate::{Opened, open_store};
+use crate::open_store;
 use dewey_labels::{List, NoMemory};
 use node_records::{File, OpenError, Place};
 use outside_kinds::MemDisk;
 use outside_traits::Disk;
 use std::alloc::Global;
 use std::test::Fail;
-use tree_model::Record;
+use tree_model::{Key, Record};
 
 /// A journal without commits.
 const NEW: &[u8] = b"\x01XTCJRN1\x00";
@@ -38,25 +38,32 @@ fn damaged(file: File, at: u64) -> Result<(u32, usize), OpenError> {
     Err(OpenError::Damaged(Place { file, at }))
 }
 
-/// Puts a commit with this number and body behind an open gate, in the place of the closed one, and the next gate.
-fn commit(journal: &mut List<u8>, number: u8, body: &[&[u8]]) -> Result<(), NoMemory> {
-    let mut length: u8 = 0;
+/// Puts a commit with this number and body in the place of the last gate, and the next gate behind it.
+fn commit(
+    alloc: Global,
+    journal: &mut List<u8>,
+    number: u8,
+    body: &[&[u8]],
+) -> Result<(), NoMemory> {
+    let mut bytes = List::new(alloc);
     for piece in body {
-        length = length.wrapping_add(piece.len() as u8);
+        bytes.extend_from_slice(piece)?;
     }
+    let Ok(length) = u8::try_from(bytes.len()) else {
+        return Err(NoMemory);
+    };
     let _gate = journal.pop();
     journal.extend_from_slice(&[1, 0, 0, 0, 0, number, 0, 0, 0, length])?;
-    for piece in body {
-        journal.extend_from_slice(piece)?;
-    }
-    journal.push(0)
+    journal.extend_from_slice(bytes.as_slice())?;
+    journal.push(0)?;
+    Ok(())
 }
 
 /// A journal with one commit.
 fn journal(alloc: Global, body: &[&[u8]]) -> Result<List<u8>, NoMemory> {
     let mut journal = List::new(alloc);
     journal.extend_from_slice(NEW)?;
-    commit(&mut journal, 1, body)?;
+    commit(alloc, &mut journal, 1, body)?;
     Ok(journal)
 }
 
@@ -70,25 +77,34 @@ fn changed(alloc: Global, keep: usize, at: usize, byte: u8) -> Result<Vec<u8>, N
     Ok(bytes)
 }
 
+/// Whether the records are the catalogue's entry of x, its document 1.1001 and the element a.
+fn are_a_document(entries: &[(Key, Record)]) -> bool {
+    match entries {
+        [entry, document, element] => {
+            entry.0.name.as_str() == "x"
+                && matches!(&entry.1, Record::Attr(label) if label.as_str() == "1.1001")
+                && document.0.label.divisions() == [1, 1001].as_slice()
+                && matches!(&document.1, Record::Document)
+                && element.0.label.divisions() == [1, 1001, 1001].as_slice()
+                && matches!(&element.1, Record::Element(name) if name.as_str() == "a")
+        }
+        _ => false,
+    }
+}
+
+/// The number that a journal opens with, and whether its records are those of one document.
+fn opens_a_document(alloc: Global, journal: &[u8]) -> Result<(u32, bool), OpenError> {
+    match open_store(alloc, disk(alloc, journal, &[])?, disk(alloc, b"", &[])?) {
+        Ok(store) => Ok((store.number, are_a_document(store.base.entries()))),
+        Err(refused) => Err(refused.fault),
+    }
+}
+
 #[test]
 fn sixty_bytes_are_a_document_with_number_1(rt: HostRuntime) -> Result<(), Fail> {
-    let alloc = rt.alloc();
-    let bytes = changed(alloc, 60, 0, 1)?;
+    let bytes = changed(rt.alloc(), 60, 0, 1)?;
     assert_eq!(rt; bytes.len(), 60);
-    let Ok(store) = open_store(alloc, disk(alloc, &bytes, &[])?, disk(alloc, b"", &[])?) else {
-        panic!(rt; "the store isn't opened");
-    };
-    let Opened { base, number, .. } = store;
-    assert_eq!(rt; number, 1);
-    match base.entries() {
-        [entry, document, element] => {
-            assert_eq!(rt; entry.0.name.as_str(), "x");
-            assert!(rt; matches!(&document.1, Record::Document));
-            assert_eq!(rt; element.0.label.divisions(), [1, 1001, 1001].as_slice());
-            assert!(rt; matches!(&element.1, Record::Element(name) if name.as_str() == "a"));
-        }
-        _ => panic!(rt; "not three records"),
-    }
+    assert_eq!(rt; opens_a_document(rt.alloc(), &bytes), Ok((1, true)));
     Ok(())
 }
 
@@ -191,66 +207,83 @@ fn each_rule_of_the_tree_has_its_place(rt: HostRuntime) -> Result<(), Fail> {
     Ok(())
 }
 
+/// The first byte of the third record's name, if there are three and it is an element; otherwise a point.
+fn name_of_third(entries: &[(Key, Record)]) -> u8 {
+    match entries {
+        [_, _, (_, Record::Element(name))] => name
+            .as_str()
+            .as_bytes()
+            .first()
+            .copied()
+            .unwrap_or(0),
+        _ => b'.',
+    }
+}
+
+/// The number that a journal opens with, and the name of its third record.
+fn third_name(alloc: Global, journal: &[u8]) -> Result<(u32, u8), OpenError> {
+    match open_store(alloc, disk(alloc, journal, &[])?, disk(alloc, b"", &[])?) {
+        Ok(store) => Ok((store.number, name_of_third(store.base.entries()))),
+        Err(refused) => Err(refused.fault),
+    }
+}
+
 #[test]
 fn commits_follow_one_another_and_what_is_deleted_stays_away(rt: HostRuntime) -> Result<(), Fail> {
     let no_element = b"\x02\x01\x83\x69\x83\x69\0\0".as_slice();
     let renamed = b"\x01\x01\x83\x69\x83\x69\0\0\0\0\0\x02\x02b".as_slice();
-    let alloc = rt.alloc();
     for (second, third, want) in [
-        (no_element, no_element, "2 of them"),
-        (no_element, renamed, "b"),
-        (renamed, ELEMENT, "a"),
+        (no_element, no_element, b'.'),
+        (no_element, renamed, b'b'),
+        (renamed, ELEMENT, b'a'),
     ] {
-        let mut bytes = journal(alloc, &[ENTRY, DOCUMENT, ELEMENT])?;
-        commit(&mut bytes, 2, &[second])?;
-        commit(&mut bytes, 3, &[third])?;
-        let Ok(store) = open_store(
-            alloc,
-            disk(alloc, bytes.as_slice(), &[])?,
-            disk(alloc, b"", &[])?,
-        ) else {
-            panic!(rt; "the store isn't opened");
-        };
-        assert_eq!(rt; store.number, 3);
-        let found = match store.base.entries() {
-            [_, _, (_, Record::Element(name))] => name.as_str(),
-            [_, _] => "2 of them",
-            _ => "",
-        };
-        assert_eq!(rt; found, want);
+        let mut bytes = journal(rt.alloc(), &[ENTRY, DOCUMENT, ELEMENT])?;
+        commit(rt.alloc(), &mut bytes, 2, &[second])?;
+        commit(rt.alloc(), &mut bytes, 3, &[third])?;
+        let found = third_name(rt.alloc(), bytes.as_slice());
+        assert_eq!(rt; found, Ok((3, want)));
     }
     Ok(())
 }
 
+/// The faults that the disks of two empty files have counted when they are handed back.
+fn faults(
+    alloc: Global,
+    journal_fails: u64,
+    pages_fail: u64,
+) -> Result<(OpenError, u64, u64), NoMemory> {
+    let journal = disk(alloc, b"", &[journal_fails])?;
+    let pages = disk(alloc, b"", &[pages_fail])?;
+    match open_store(alloc, journal, pages) {
+        Ok(_) => Err(NoMemory),
+        Err(refused) => Ok((
+            refused.fault,
+            refused.journal.faults(),
+            refused.pages.faults(),
+        )),
+    }
+}
+
 #[test]
 fn a_failing_call_of_either_disk_hands_both_back(rt: HostRuntime) -> Result<(), Fail> {
-    let alloc = rt.alloc();
-    // The call that fails: eight of the journal's disk make a new journal, and two of the pages' are made.
-    for (journal_call, pages_call) in [
-        (1, 9),
-        (2, 9),
-        (3, 9),
-        (4, 9),
-        (5, 9),
-        (6, 9),
-        (7, 9),
-        (8, 9),
-        (9, 1),
-        (9, 2),
-    ] {
-        let journal = disk(alloc, b"", &[journal_call])?;
-        let pages = disk(alloc, b"", &[pages_call])?;
-        let Err(refused) = open_store(alloc, journal, pages) else {
-            panic!(rt; "the store is opened");
-        };
-        assert_eq!(rt; refused.fault, OpenError::DiskFault);
-        let faults = (refused.journal.faults(), refused.pages.faults());
-        assert_eq!(rt;
-            faults,
-            (u64::from(journal_call < 9), u64::from(pages_call < 9))
-        );
+    // Eight calls of the journal's disk make a new journal, and two are made of the pages'.
+    for call in 1..9 {
+        let refused = faults(rt.alloc(), call, 9)?;
+        assert_eq!(rt; refused, (OpenError::DiskFault, 1, 0), "at call {call}");
+    }
+    for call in 1..3 {
+        let refused = faults(rt.alloc(), 9, call)?;
+        assert_eq!(rt; refused, (OpenError::DiskFault, 0, 1), "at call {call}");
     }
     Ok(())
+}
+
+/// The disk of the journal that is made in an empty file.
+fn new_journal(alloc: Global) -> Result<MemDisk, OpenError> {
+    match open_store(alloc, disk(alloc, b"", &[])?, disk(alloc, b"", &[])?) {
+        Ok(store) => Ok(store.journal.into_disk()),
+        Err(refused) => Err(refused.fault),
+    }
 }
 
 /// Whether each image that a crash in a call of the journal's disk leaves opens as an empty store.
@@ -265,15 +298,13 @@ fn leaves_an_empty_store(alloc: Global, disk: &MemDisk, call: u64) -> Result<boo
 
 #[test]
 fn a_stop_while_a_store_is_made_leaves_an_empty_one(rt: HostRuntime) -> Result<(), Fail> {
-    let alloc = rt.alloc();
-    let Ok(store) = open_store(alloc, disk(alloc, b"", &[])?, disk(alloc, b"", &[])?) else {
+    let Ok(disk) = new_journal(rt.alloc()) else {
         panic!(rt; "an empty store isn't opened");
     };
-    let journal = store.journal.into_disk();
-    assert_eq!(rt; journal.calls(), 8);
-    assert!(rt; journal.bytes() == NEW);
+    assert_eq!(rt; disk.calls(), 8);
+    assert!(rt; disk.bytes() == NEW);
     for call in 1..10 {
-        let empty = leaves_an_empty_store(alloc, &journal, call);
+        let empty = leaves_an_empty_store(rt.alloc(), &disk, call);
         assert_eq!(rt; empty, Ok(true), "at call {call}");
     }
     Ok(())
