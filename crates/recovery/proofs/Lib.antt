@@ -1,5 +1,6 @@
 mod CatalogueLaws
 mod GatherLaws
+mod LabelledReads
 mod OpenedLaws
 mod OpenedRows
 mod StandLaws

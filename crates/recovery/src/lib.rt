@@ -7,6 +7,7 @@ mod catalogue;
 mod contents;
 mod damage;
 mod gathering;
+mod laws;
 mod look;
 mod opening;
 mod records;
@@ -16,4 +17,5 @@ mod syncing;
 #[cfg(test)]
 mod tests;
 
+pub use laws::opened_files_are_trees;
 pub use opening::{Opened, StoreFault, open_store};
