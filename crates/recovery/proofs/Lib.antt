@@ -1,4 +1,5 @@
 mod CatalogueLaws
+pub mod CommitLaws
 mod GatherLaws
 mod LabelledReads
 mod OpenedLaws

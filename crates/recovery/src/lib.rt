@@ -17,5 +17,5 @@ mod syncing;
 #[cfg(test)]
 mod tests;
 
-pub use laws::opened_files_are_trees;
+pub use laws::{a_commit_more_is_opened, opened_files_are_trees, pages_of_an_opened_store_are_empty};
 pub use opening::{Opened, StoreFault, open_store};

@@ -1,0 +1,69 @@
+-- What files stand for, when a commit is added and when other bytes are read as the same commits.
+use Rattle.std.proofs.Common.{◌≡◌, ◌+◌, ℕ, Bool, true, false, List, [], ◌∷◌, ◌++◌, Option, Some, None, Result, Ok, Err, if◌then◌else◌, refl, sym, ◌∙◌, ap}
+use Rattle.std.proofs.lemmas.Bool.{eq-eqb}
+use Rattle.tree_model.specs.Entries.{Entries, changed}
+use Rattle.tree_model.specs.StoredTree.{broken_at}
+use Rattle.node_records.specs.declared.open_error.Place.{Place}
+use Rattle.node_records.specs.declared.open_error.File.TheVariants.{Journal, Tree}
+use Rattle.journal.specs.Journals.{read}
+use Rattle.journal.specs.declared.group.Group.{Group}
+use Rattle.recovery.specs.Opened.{Contents, place_in, after_commits, last_of, first_is_one, contents_of, checked, opened_from, opened, is_empty}
+use Rattle.recovery.proofs.OpenedLaws.{by_groups, by_damage, both_fresh, contents_are}
+
+-- ---- a commit more
+
+after_more : (groups : List Group) (group : Group) (es : Entries) → after_commits (groups ++ group ∷ []) es ≡ changed group.changes (after_commits groups es)
+after_more [] group es = refl
+after_more (g ∷ groups) group es = after_more groups group (changed g.changes es)
+
+last_more : (groups : List Group) (group : Group) (number : ℕ) → last_of (groups ++ group ∷ []) number ≡ group.number
+last_more [] group number = refl
+last_more (g ∷ groups) group number = last_more groups group g.number
+
+-- what stands for a map begins with the number 1
+begins : (groups : List Group) (contents : Contents) → opened_from true groups ≡ Ok contents → first_is_one groups ≡ true
+begins groups contents h = elim (first_is_one groups) as (λ (b : Bool). (if b then checked (contents_of groups) else Err (place_in Journal 8)) ≡ Ok contents → b ≡ true) [
+  | true ↦ λ _. refl
+  | false ↦ λ g. cc
+] h
+
+-- and so it does with the commit that follows
+begins_more : (groups : List Group) (group : Group) → first_is_one groups ≡ true → group.number ≡ last_of groups 0 + 1 → first_is_one (groups ++ group ∷ []) ≡ true
+begins_more [] group one next = eq-eqb group.number 1 next
+begins_more (g ∷ groups) group one next = one
+
+-- the map and the number behind the last commit
+contents_more : (groups : List Group) (group : Group) → contents_of (groups ++ group ∷ []) ≡ record { entries = changed group.changes (contents_of groups).entries; number = group.number }
+contents_more groups group = λ i. record { entries = after_more groups group [] i; number = last_more groups group 0 i }
+
+unbroken : (contents : Contents) → broken_at contents.entries ≡ None → checked contents ≡ Ok contents
+unbroken contents h = ap (λ (o : Option ℕ). elim o as (λ _. Result Contents Place) [ None ↦ Ok contents | Some at ↦ Err (place_in Tree at) ]) h
+
+pub one_more : (journal longer : List ℕ) (groups : List Group) (group : Group) (contents : Contents) → read journal ≡ Ok groups → read longer ≡ Ok (groups ++ group ∷ []) → opened journal [] ≡ Ok contents
+    → group.number ≡ contents.number + 1 → broken_at (changed group.changes contents.entries) ≡ None
+    → opened longer [] ≡ Ok (record { entries = changed group.changes contents.entries; number = group.number })
+one_more journal longer groups group contents before after opens next keeps =
+    let from : opened_from true groups ≡ Ok contents = sym (by_groups true journal groups before) ∙ opens in
+    let is : contents ≡ contents_of groups = contents_are true groups contents from in
+    let first : first_is_one (groups ++ group ∷ []) ≡ true = begins_more groups group (begins groups contents from) (next ∙ ap (λ (c : Contents). c.number + 1) is) in
+    by_groups true longer (groups ++ group ∷ []) after
+    ∙ ap (λ (b : Bool). if b then checked (contents_of (groups ++ group ∷ [])) else Err (place_in Journal 8)) first
+    ∙ ap checked (contents_more groups group ∙ ap (λ (c : Contents). record { entries = changed group.changes c.entries; number = group.number }) (sym is))
+    ∙ unbroken (record { entries = changed group.changes contents.entries; number = group.number }) keeps
+
+-- ---- the same commits
+
+pub same_groups : (journal other : List ℕ) (groups : List Group) → read journal ≡ Ok groups → read other ≡ Ok groups → (pages : List ℕ) → opened other pages ≡ opened journal pages
+same_groups journal other groups before after pages = both_fresh (is_empty pages) other journal groups after before
+
+-- ---- the page file
+
+no_pages : (groups : List Group) (contents : Contents) → opened_from false groups ≡ Ok contents → true ≡ false
+no_pages groups contents h = cc
+
+pub pages_empty : (journal pages : List ℕ) (contents : Contents) → opened journal pages ≡ Ok contents → pages ≡ []
+pages_empty journal [] contents opens = refl
+pages_empty journal (byte ∷ bytes) contents opens = elim (read journal) as (λ (r : Result (List Group) ℕ). read journal ≡ r → byte ∷ bytes ≡ []) [
+  | Ok groups ↦ λ h. cc (sym (by_groups false journal groups h) ∙ opens)
+  | Err at ↦ λ h. cc (sym (by_damage false journal at h) ∙ opens)
+] refl
