@@ -4,6 +4,7 @@ use Rattle.tree_model.specs.declared.dom_call.DomCall.{DomCall}
 use Rattle.tree_model.specs.declared.dom_call.DomCall.TheVariants as call
 use Rattle.tree_model.specs.declared.reply.Reply.{Reply}
 use Rattle.tree_model.specs.Serial.{serial}
+use Rattle.tree_model.specs.Tree.{Tree}
 use Rattle.xtc.specs.declared.line.What.{What}
 use Rattle.xtc.specs.declared.line.What.TheVariants.{Begin, Commit, Create, First}
 use Rattle.xtc.specs.declared.line.Line.{Line}
@@ -28,10 +29,15 @@ abbrev pub noted : Transaction → DomCall → Result Reply SessionError → Tra
 noted own c (Ok reply) = own ++ ((c, reply) ∷ [])
 noted own c (Err e) = own
 
+-- the calls of the live transaction after a commit that is answered so
+abbrev pub kept : Transaction → Result Reply SessionError → Transaction
+kept own (Ok number) = []
+kept own (Err e) = own
+
 -- the calls of the live transaction after a request
 abbrev pub own_after : Transaction → State → What → Transaction
 own_after own s Begin = own
-own_after own s Commit = []
+own_after own s Commit = kept own (answer_to s Commit)
 own_after own s (Create name element) = noted own (create_call name element) (answer_to s (Create name element))
 own_after own s (First l) = noted own (call.First l) (answer_to s (First l))
 
@@ -55,6 +61,10 @@ and_later own s line more = more
 abbrev pub committed_of : Transaction → State → List (List ℕ) → List Transaction
 committed_of own s [] = []
 committed_of own s (line ∷ lines) = and_later own s (line_of line) (committed_of (own_after_line own s (line_of line)) (after_line s (line_of line)) lines)
+
+-- the tree after these transactions, run one after another by one thread
+abbrev pub tree_after : Tree → List Transaction → Tree
+tree_after t commits = (serial (map calls_of commits) t).tree
 
 -- the transactions that these lines commit, run in commit order by one thread from the committed tree, give the replies that were given
 -- and the tree that is committed after the lines

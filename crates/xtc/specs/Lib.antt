@@ -5,9 +5,11 @@ pub mod Session
 pub mod Calls
 pub mod OwnView
 pub mod Kept
+pub mod Durable
 pub mod Replies
 pub mod Lines
 pub mod ScriptText
 pub mod Commits
 pub mod Feeding
 pub mod TopCall
+pub mod Runs

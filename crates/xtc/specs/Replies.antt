@@ -11,7 +11,7 @@ use Rattle.tree_model.specs.declared.refusal.Refusal.TheVariants.{Dom, DocumentE
 use Rattle.xtc.specs.declared.line.Line.{Line}
 use Rattle.xtc.specs.declared.line.Line.TheVariants.{Blank, Ask, Later}
 use Rattle.xtc.specs.declared.session.SessionError.{SessionError}
-use Rattle.xtc.specs.declared.session.SessionError.TheVariants.{InTransaction, NoTransaction, TxLimit}
+use Rattle.xtc.specs.declared.session.SessionError.TheVariants.{InTransaction, NoTransaction, TxLimit, CommitLimit}
 use Rattle.xtc.specs.Session.{State, answer_to}
 
 -- the number of the one session
@@ -24,6 +24,7 @@ abbrev pub error_name : SessionError → List ℕ
 error_name InTransaction = codes "InTransaction"
 error_name NoTransaction = codes "NoTransaction"
 error_name TxLimit = codes "TxLimit"
+error_name CommitLimit = codes "CommitLimit"
 
 -- the names of DOM's codes (DOM Level 3 Core, DOMException)
 abbrev pub dom_error_name : ℕ → List ℕ

@@ -94,6 +94,7 @@ pub fn create<S: NodeRead>(
     requires element { IsTrue (is_name element.now) }
     ensures reply { OnTree (S.told seq.old) result (λ t reply. reply ≡ (create_outcome name.now (bare_element element.now) t).0) }
     ensures entries { OnTree (S.told seq.old) result (λ t _. put_all out.new.items (map_of t) ≡ map_of (create_outcome name.now (bare_element element.now) t).1) }
+    ensures puts { IfOk result (λ reply. out.new.items ≡ entries_of_reply name.now element.now reply) }
     ensures same { S.stays seq.old seq.new }
     ensures cause { HasCause (S.count seq.old) (S.count seq.new) result }
 {

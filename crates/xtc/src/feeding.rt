@@ -1,13 +1,19 @@
-ghost use Rattle.std.specs.Prelude.{◌≡◌, ◌==◌, position, ◌≢◌, ℕ, ◌+◌, ◌<◌, ◌≤◌, ◌^◌, List, [], ◌∷◌, ◌++◌, length, Option, Err, OnOk, OnErr};
+ghost use Rattle.std.specs.Prelude.{◌≡◌, ◌==◌, position, ◌≢◌, ℕ, ◌+◌, ◌<◌, ◌≤◌, ◌^◌, List, [], ◌∷◌, ◌++◌, length, Option, IsTrue, Err, OnOk, OnErr};
 ghost use Rattle.outside_traits.specs.Faults.{HasCause};
 ghost use Rattle.xtc.specs.Session.{State};
-ghost use Rattle.xtc.specs.Kept.{Stands};
-ghost use Rattle.xtc.specs.Feeding.{EndsInput, IsInLine, IsFirstEnd, IsNew, FedFrom, Leaves, HasWriteCause};
+ghost use Rattle.xtc.specs.Kept.{Stands, IsReady, IsSettled};
+ghost use Rattle.xtc.specs.Durable.{HasDiskCause as HaltsByDisk, HoldsEither};
+ghost use Rattle.xtc.specs.ScriptText.{after_line, state_after};
+ghost use Rattle.xtc.specs.Lines.{last_line};
+ghost use Rattle.xtc.specs.ScriptLine.{line_of};
+ghost use Rattle.outside_traits.specs.Moments.{LeavesOnly};
+ghost use Rattle.xtc.specs.Feeding.{EndsInput, IsInLine, IsFirstEnd, IsNew, FedFrom, Leaves, HasWriteCause, HasDiskCause, IfGoesOn, Logs, LogsLast};
 
+use crate::halt::Halt;
 use crate::line::read_line;
 use crate::session::Session;
-use dewey_labels::NoMemory;
-use outside_traits::{Sink, write_all};
+use journal::Journal;
+use outside_traits::{Disk, Sink, write_all};
 use std::alloc::Global;
 use std::marker::Model;
 
@@ -22,19 +28,33 @@ const LARGE: usize = 65_536;
 pub enum Stop {
     LineTooLong,
     WriteFault,
+    DiskFault,
     NoMemory,
+}
+
+impl From<Halt> for Stop {
+    ghost use Rattle.xtc.specs.Feeding.{stop_of};
+
+    ghost from_gives = { λ halt stop. stop ≡ stop_of halt };
+
+    fn from(halt: Halt) -> Stop {
+        match halt {
+            Halt::DiskFault => Stop::DiskFault,
+            Halt::NoMemory => Stop::NoMemory,
+        }
+    }
 }
 
 /// A script between two pieces of its input.
 #[derive(Drop)]
-pub struct Script {
-    session: Session,
+pub struct Script<J: Disk> {
+    session: Session<J>,
     lines: u64,
     unended: Vec<u8>,
     pending: Vec<u8>,
 }
 
-impl Model for Script {
+impl<J: Disk> Model for Script<J> {
     ghost use Rattle.std.specs.Prelude.{◌≤◌, length};
     ghost use Rattle.xtc.specs.Feeding.{Script as Kept};
     ghost use Rattle.xtc.specs.declared.feeding.TheConstants.{LINE_LIMIT};
@@ -46,9 +66,10 @@ impl Model for Script {
     ghost invariant = { λ s. length s.unended.items ≤ LINE_LIMIT };
 }
 
-impl Script {
-    pub fn new(alloc: Global, session: Session) -> Script
-        ensures { (s : State) → Stands session s → IsNew result s }
+impl<J: Disk> Script<J> {
+    pub fn new(alloc: Global, session: Session<J>) -> Script<J>
+        ensures new { (s : State) → Stands session s → IsNew result s }
+        ensures session { result.session ≡ session }
     {
         Script {
             session,
@@ -56,6 +77,13 @@ impl Script {
             unended: Vec::new(alloc),
             pending: Vec::new(alloc),
         }
+    }
+
+    /// Hands the journal out.
+    pub fn into_journal(self) -> Journal<J>
+        ensures { result ≡ self.session.journal }
+    {
+        self.session.into_journal()
     }
 
     /// How many lines have ended.
@@ -67,9 +95,13 @@ impl Script {
 
     /// Takes a piece of the script: does the lines that end in it, and writes replies where many are pending.
     pub fn feed<K: Sink>(&mut self, alloc: Global, piece: &[u8], sink: &mut K) -> Result<(), Stop>
-        requires { self.old.lines + length piece.now < 2 ^ 64 }
+        requires room { self.old.lines + length piece.now < 2 ^ 64 }
+        requires ready { IsReady self.old.session }
         ensures leaves { Leaves LINE_LIMIT self.old self.new (K.held sink.old) (K.held sink.new) piece.now result }
+        ensures ready { IfGoesOn (IsReady self.new.session) result }
+        ensures log { IsTrue J.tells → Logs self.old self.new (K.held sink.old) (K.held sink.new) piece.now result }
         ensures cause { HasWriteCause (K.faults sink.old) (K.faults sink.new) result }
+        ensures disk { HasDiskCause self.old.session.journal.faults self.new.session.journal.faults result }
         ensures lines { self.new.lines ≤ self.old.lines + length piece.now }
     {
         let mut rest = piece;
@@ -86,24 +118,30 @@ impl Script {
 
     /// Does the line that ends with the input, if there is one, and writes what is pending.
     pub fn finish<K: Sink>(&mut self, alloc: Global, sink: &mut K) -> Result<(), Stop>
-        requires { self.old.lines + 1 < 2 ^ 64 }
+        requires room { self.old.lines + 1 < 2 ^ 64 }
+        requires ready { IsReady self.old.session }
         ensures ends { EndsInput self.old (K.held sink.old) (K.held sink.new) result }
+        ensures state { OnOk result ((s : State) → Stands self.old.session s → Stands self.new.session (state_after s (last_line self.old.unended))) }
+        ensures ready { IfGoesOn (IsReady self.new.session) result }
+        ensures log { IsTrue J.tells → LogsLast self.old self.new (K.held sink.old) (K.held sink.new) result }
         ensures short { OnOk result (length self.old.unended ≤ LINE_LIMIT) }
         ensures cause { HasWriteCause (K.faults sink.old) (K.faults sink.new) result }
+        ensures disk { HasDiskCause self.old.session.journal.faults self.new.session.journal.faults result }
         ensures error { result ≢ Err Stop.LineTooLong }
     {
         if self.unended.as_slice().is_empty() {
             return self.flush(sink);
         }
-        if let Err(_) = self.end_line(alloc) {
-            return Err(Stop::NoMemory);
-        }
+        self.end_line(alloc)?;
         self.flush(sink)
     }
 
     /// Writes what is pending.
     pub fn flush<K: Sink>(&mut self, sink: &mut K) -> Result<(), Stop>
+        requires ready { IsReady self.old.session }
         ensures leaves { Leaves LINE_LIMIT self.old self.new (K.held sink.old) (K.held sink.new) [] result }
+        ensures session { self.new.session ≡ self.old.session }
+        ensures log { IsTrue J.tells → Logs self.old self.new (K.held sink.old) (K.held sink.new) [] result }
         ensures lines { self.new.lines ≡ self.old.lines }
         ensures empty { OnOk result (self.new.pending ≡ []) }
         ensures cause { HasWriteCause (K.faults sink.old) (K.faults sink.new) result }
@@ -120,8 +158,12 @@ impl Script {
     fn take_line<K: Sink>(&mut self, alloc: Global, line: &[u8], sink: &mut K) -> Result<(), Stop>
         requires in_line { IsInLine line.now }
         requires room { self.old.lines + 1 < 2 ^ 64 }
+        requires ready { IsReady self.old.session }
         ensures leaves { Leaves LINE_LIMIT self.old self.new (K.held sink.old) (K.held sink.new) (line.now ++ 10 ∷ []) result }
+        ensures ready { IfGoesOn (IsReady self.new.session) result }
+        ensures log { IsTrue J.tells → Logs self.old self.new (K.held sink.old) (K.held sink.new) (line.now ++ 10 ∷ []) result }
         ensures cause { HasWriteCause (K.faults sink.old) (K.faults sink.new) result }
+        ensures disk { HasDiskCause self.old.session.journal.faults self.new.session.journal.faults result }
         ensures lines { self.new.lines ≤ self.old.lines + 1 }
     {
         if let Err(stop) = self.extend(line) {
@@ -138,9 +180,12 @@ impl Script {
 
     /// Takes bytes of one line.
     fn extend(&mut self, part: &[u8]) -> Result<(), Stop>
-        requires { IsInLine part.now }
+        requires in_line { IsInLine part.now }
+        requires ready { IsReady self.old.session }
         ensures leaves { (held : Option (List ℕ)) → Leaves LINE_LIMIT self.old self.new held held part.now result }
-        ensures cause { result ≢ Err Stop.WriteFault }
+        ensures session { self.new.session ≡ self.old.session }
+        ensures log { IsTrue J.tells → (held : Option (List ℕ)) → Logs self.old self.new held held part.now result }
+        ensures cause { (result ≢ Err Stop.WriteFault) × (result ≢ Err Stop.DiskFault) }
         ensures lines { self.new.lines ≡ self.old.lines }
     {
         if LINE_LIMIT - self.unended.len() < part.len() {
@@ -154,21 +199,28 @@ impl Script {
 
     /// Takes the end of a line.
     fn end_line(&mut self, alloc: Global) -> Result<(), Stop>
-        requires { self.old.lines + 1 < 2 ^ 64 }
+        requires room { self.old.lines + 1 < 2 ^ 64 }
+        requires ready { IsReady self.old.session }
         ensures leaves { (held : Option (List ℕ)) → Leaves LINE_LIMIT self.old self.new held held (10 ∷ []) result }
-        ensures cause { result ≢ Err Stop.WriteFault }
+        ensures ready { IfGoesOn (IsReady self.new.session) result }
+        ensures log { IsTrue J.tells → (held : Option (List ℕ)) → Logs self.old self.new held held (10 ∷ []) result }
+        ensures cause { (result ≢ Err Stop.WriteFault) × (result ≢ Err Stop.LineTooLong) }
+        ensures disk { HasDiskCause self.old.session.journal.faults self.new.session.journal.faults result }
         ensures lines { self.new.lines ≤ self.old.lines + 1 }
     {
-        match self.do_line(alloc) {
-            Ok(()) => Ok(()),
-            Err(_) => Err(Stop::NoMemory),
-        }
+        Ok(self.do_line(alloc)?)
     }
 
     /// Does the line that has ended.
-    fn do_line(&mut self, alloc: Global) -> Result<(), NoMemory>
-        requires { self.old.lines + 1 < 2 ^ 64 }
+    fn do_line(&mut self, alloc: Global) -> Result<(), Halt>
+        requires room { self.old.lines + 1 < 2 ^ 64 }
+        requires ready { IsReady self.old.session }
         ensures fed { OnOk result ((held : Option (List ℕ)) (s : State) → Stands self.old.session s → FedFrom LINE_LIMIT s self.old self.new held held (10 ∷ [])) }
+        ensures ready { OnOk result (IsReady self.new.session) }
+        ensures settled { OnOk result (IsTrue J.tells → IsSettled self.old.session → IsSettled self.new.session) }
+        ensures any_moment { IsTrue J.tells → IsSettled self.old.session → (s : State) → Stands self.old.session s
+            → LeavesOnly (HoldsEither s (after_line s (line_of self.old.unended))) self.old.session.journal.told self.new.session.journal.told }
+        ensures cause { HaltsByDisk self.old.session.journal.faults self.new.session.journal.faults result }
         ensures lines { self.new.lines ≤ self.old.lines + 1 }
     {
         let line = read_line(alloc, &self.unended)?;

@@ -1,26 +1,36 @@
-ghost use Rattle.std.specs.Prelude.{◌≡◌, ℕ, ◌+◌, ◌≤◌, ◌++◌, [], Some, IsTrue, IfOk, OnOk};
+ghost use Rattle.std.specs.Prelude.{◌≡◌, ◌≤◌, ℕ, [], ◌++◌, Some, IsTrue, IfOk, OnOk, vec_capacity, Ok, length, ◌+◌};
+ghost use Rattle.outside_traits.specs.Moments.{LeavesOnly};
 ghost use Rattle.tree_model.specs.Names.{is_name};
-ghost use Rattle.tree_model.specs.Tree.{empty_tree, map_of};
+ghost use Rattle.tree_model.specs.Tree.{Tree, map_of};
+ghost use Rattle.tree_model.specs.declared.reply.Reply.TheVariants.{Number};
 ghost use Rattle.tree_model.specs.DomReads.{first as first_reply};
 ghost use Rattle.tree_model.specs.DomWrites.{create as create_outcome};
-ghost use Rattle.xtc.specs.ScriptLine.{IsLawfulRequest, IsLawfulLine};
-ghost use Rattle.xtc.specs.Session.{State, fresh, answer_to, after};
-ghost use Rattle.xtc.specs.Kept.{Stands};
 ghost use Rattle.tree_model.specs.Entries.{put_all};
-ghost use Rattle.xtc.specs.Calls.{OnTree, bare_element};
+ghost use Rattle.xtc.specs.ScriptLine.{IsLawfulRequest, IsLawfulLine};
+ghost use Rattle.xtc.specs.Session.{State, fresh, answer_to, after, commit_body};
+ghost use Rattle.xtc.specs.Kept.{Stands, IsReady, IsSettled, IsMapOf};
+ghost use Rattle.xtc.specs.Durable.{HoldsEither, HasDiskCause};
+ghost use Rattle.xtc.specs.Calls.{OnTree, bare_element, entries_of_reply};
 ghost use Rattle.xtc.specs.ScriptText.{after_line};
-ghost use Rattle.xtc.specs.Replies.{line_text};
+ghost use Rattle.xtc.specs.Replies.{line_text, answer_text};
 
 use crate::calls::{create, first};
+use crate::halt::Halt;
 use crate::line::{Line, What};
 use crate::own_view::{OwnView, commit_entries, put_entries};
 use crate::reply::{write_answer, write_bad};
-use dewey_labels::{Label, NoMemory, Text};
+use dewey_labels::{Copied, Label, List, NoMemory, Text};
+use journal::Journal;
+use node_records::write_change;
 use node_seq::{SeqError, SortedSeq};
+use outside_traits::Disk;
 use std::alloc::Global;
 use std::marker::Model;
 use std::mem;
-use tree_model::{Key, Record, Reply};
+use tree_model::{Change, Key, Record, Reply};
+
+/// The most bytes that a commit's body may have.
+const BODY_LIMIT: usize = 4_294_967_295;
 
 /// Why a session refuses a request. The state stays as it was.
 #[derive(Clone, Copy, Debug, PartialEq, Eq)]
@@ -31,6 +41,8 @@ pub enum SessionError {
     NoTransaction,
     /// As many transactions have been begun as the store may number.
     TxLimit,
+    /// What the transaction changed is more than a commit may hold. It stays live.
+    CommitLimit,
 }
 
 impl SessionError {
@@ -44,6 +56,7 @@ impl SessionError {
             SessionError::InTransaction => "InTransaction",
             SessionError::NoTransaction => "NoTransaction",
             SessionError::TxLimit => "TxLimit",
+            SessionError::CommitLimit => "CommitLimit",
         }
     }
 }
@@ -51,9 +64,9 @@ impl SessionError {
 /// What a request is answered.
 pub type Answer = Result<Reply, SessionError>;
 
-/// A session over a store: the committed tree, and what its live transaction has changed.
+/// A session over a store: the committed tree, what its live transaction has changed, and the journal that commits go to.
 #[derive(Drop)]
-pub struct Session {
+pub struct Session<J: Disk> {
     committed: SortedSeq,
     /// What the live transaction has put; nothing where none is live.
     own: SortedSeq,
@@ -62,76 +75,107 @@ pub struct Session {
     number: u32,
     opened: u32,
     limit: u32,
+    journal: Journal<J>,
 }
 
-impl Model for Session {
+impl<J: Disk> Model for Session<J> {
     ghost use Rattle.std.specs.Prelude.{◌≡◌, ◌≤◌, ◌+◌, [], false, if◌then◌else◌};
     ghost use Rattle.xtc.specs.Kept.{Kept};
     ghost use Rattle.tree_model.specs.Entries.{put_all};
 
     ghost Value = { Kept };
 
-    ghost view = { λ s. record { committed = s.committed; seen = put_all s.own s.committed; live = s.live; begun = s.begun; number = s.number; opened = s.opened; limit = s.limit } };
+    ghost view = { λ s. record { committed = s.committed; own = s.own; seen = put_all s.own s.committed; live = s.live; begun = s.begun; number = s.number; opened = s.opened; limit = s.limit; journal = s.journal } };
 
     ghost invariant = { λ s. (s.opened + s.begun ≤ s.limit) × (s.number + (if s.live then 1 else 0) ≤ s.opened + s.begun) × (s.live ≡ false → s.own ≡ []) };
 }
 
-impl Session {
-    /// A session over an empty store whose last commit has the number `opened`; commits are numbered up to `limit`.
-    pub fn new(alloc: Global, opened: u32, limit: u32) -> Session
+impl<J: Disk> Session<J> {
+    /// A session over a store as it was opened: its journal, its map, and the number of its last commit. Commits are numbered up to `limit`.
+    pub fn new(
+        alloc: Global,
+        journal: Journal<J>,
+        committed: SortedSeq,
+        opened: u32,
+        limit: u32,
+    ) -> Session<J>
         requires { opened ≤ limit }
-        ensures { Stands result (fresh empty_tree opened limit) }
+        ensures stands { (t : Tree) → IsMapOf t committed → Stands result (fresh t opened limit) }
+        ensures journal { result.journal ≡ journal }
     {
         Session {
-            committed: SortedSeq::new(alloc),
+            committed,
             own: SortedSeq::new(alloc),
             live: false,
             begun: 0,
             number: opened,
             opened,
             limit,
+            journal,
         }
     }
 
-    /// Does a line, by its number from 1, and adds its reply to `out`.
+    /// Hands the journal out.
+    pub fn into_journal(self) -> Journal<J>
+        ensures { result ≡ self.journal }
+    {
+        self.journal
+    }
+
+    /// Does a line, by its number from 1, and adds its reply to `out`. After an error the session isn't used again.
     pub fn answer(
         &mut self,
         alloc: Global,
         number: u64,
         line: Line,
         out: &mut Vec<u8>,
-    ) -> Result<(), NoMemory>
-        requires { IsLawfulLine line }
+    ) -> Result<(), Halt>
+        requires lawful { IsLawfulLine line }
+        requires ready { IsReady self.old }
+
         ensures state { OnOk result ((s : State) → Stands self.old s → Stands self.new (after_line s line)) }
         ensures text { OnOk result ((s : State) → Stands self.old s → out.new.items ≡ out.old.items ++ line_text s number line) }
+        ensures ready { OnOk result (IsReady self.new) }
+        ensures settled { OnOk result (IsTrue J.tells → IsSettled self.old → IsSettled self.new) }
+
+        // A crash at any moment of it leaves what was committed before the line or what is after it.
+        ensures any_moment { IsTrue J.tells → IsSettled self.old → (s : State) → Stands self.old s
+            → LeavesOnly (HoldsEither s (after_line s line)) self.old.journal.told self.new.journal.told }
+        ensures cause { HasDiskCause self.old.journal.faults self.new.journal.faults result }
     {
         match line {
             Line::Blank => Ok(()),
-            Line::Ask(what) => {
-                let answer = self.ask(alloc, what)?;
-                write_answer(alloc, &answer, out)
-            }
-            Line::Later => write_bad(alloc, number, out),
+            Line::Ask(what) => self.ask(alloc, what, out),
+            Line::Later => Ok(write_bad(alloc, number, out)?),
         }
     }
 
-    /// Does what it is asked. After want of memory nothing is said of the session.
-    pub fn ask(&mut self, alloc: Global, what: What) -> Result<Answer, NoMemory>
-        requires { IsLawfulRequest what }
-        ensures answer { IfOk result (λ answer. (s : State) → Stands self.old s → answer ≡ answer_to s what) }
+    /// Does what it is asked, and adds the reply to `out`.
+    pub fn ask(&mut self, alloc: Global, what: What, out: &mut Vec<u8>) -> Result<(), Halt>
+        requires lawful { IsLawfulRequest what }
+        requires ready { IsReady self.old }
         ensures state { OnOk result ((s : State) → Stands self.old s → Stands self.new (after s what)) }
+        ensures text { OnOk result ((s : State) → Stands self.old s → out.new.items ≡ out.old.items ++ answer_text (answer_to s what)) }
+        ensures ready { OnOk result (IsReady self.new) }
+        ensures settled { OnOk result (IsTrue J.tells → IsSettled self.old → IsSettled self.new) }
+        ensures any_moment { IsTrue J.tells → IsSettled self.old → (s : State) → Stands self.old s
+            → LeavesOnly (HoldsEither s (after s what)) self.old.journal.told self.new.journal.told }
+        ensures cause { HasDiskCause self.old.journal.faults self.new.journal.faults result }
     {
-        match what {
-            What::Begin => Ok(self.begin()),
-            What::Commit => self.commit(alloc),
-            What::Create(name, element) => self.create(alloc, &name, &element),
-            What::First(at) => self.first(alloc, &at),
-        }
+        let answer = match what {
+            What::Begin => self.begin(),
+            What::Commit => return self.commit(alloc, out),
+            What::Create(name, element) => self.create(alloc, &name, &element)?,
+            What::First(at) => self.first(alloc, &at)?,
+        };
+        Ok(write_answer(alloc, &answer, out)?)
     }
 
     fn begin(&mut self) -> Answer
         ensures answer { (s : State) → Stands self.old s → result ≡ answer_to s What.Begin }
         ensures state { (s : State) → Stands self.old s → Stands self.new (after s What.Begin) }
+        ensures journal { self.new.journal ≡ self.old.journal }
+        ensures committed { (self.new.committed ≡ self.old.committed) × (self.new.number ≡ self.old.number) }
     {
         if self.live {
             return Err(SessionError::InTransaction);
@@ -144,24 +188,43 @@ impl Session {
         Ok(Reply::Number(self.begun))
     }
 
-    fn commit(&mut self, alloc: Global) -> Result<Answer, NoMemory>
-        ensures answer { IfOk result (λ answer. (s : State) → Stands self.old s → answer ≡ answer_to s What.Commit) }
+    /// Commits: all memory is taken first, then the journal gets one group, and then the reply is added. It costs what the transaction changed.
+    fn commit(&mut self, alloc: Global, out: &mut Vec<u8>) -> Result<(), Halt>
+        requires ready { IsReady self.old }
         ensures state { OnOk result ((s : State) → Stands self.old s → Stands self.new (after s What.Commit)) }
+        ensures text { OnOk result ((s : State) → Stands self.old s → out.new.items ≡ out.old.items ++ answer_text (answer_to s What.Commit)) }
+        ensures ready { OnOk result (IsReady self.new) }
+        ensures settled { OnOk result (IsTrue J.tells → IsSettled self.old → IsSettled self.new) }
+        ensures any_moment { IsTrue J.tells → IsSettled self.old → (s : State) → Stands self.old s
+            → LeavesOnly (HoldsEither s (after s What.Commit)) self.old.journal.told self.new.journal.told }
+        ensures cause { HasDiskCause self.old.journal.faults self.new.journal.faults result }
     {
         if !self.live {
-            return Ok(Err(SessionError::NoTransaction));
+            return Ok(write_answer(alloc, &Err(SessionError::NoTransaction), out)?);
         }
+        let body = body_of(alloc, &self.own)?;
+        if body.as_slice().len() > BODY_LIMIT {
+            return Ok(write_answer(alloc, &Err(SessionError::CommitLimit), out)?);
+        }
+        let number = self.number + 1;
+        let reply = reply_of(alloc, number)?;
+        out.reserve(reply.len())?;
+        self.journal.make_room(alloc, body.as_slice().len())?;
         let own = mem::replace(&mut self.own, SortedSeq::new(alloc));
-        self.live = false;
-        self.number += 1;
         commit_entries(alloc, &mut self.committed, own)?;
-        Ok(Ok(Reply::Number(self.number)))
+        self.journal.append_group(number, body.as_slice())?;
+        self.live = false;
+        self.number = number;
+        add(out, &reply);
+        Ok(())
     }
 
     fn create(&mut self, alloc: Global, name: &Text, element: &Text) -> Result<Answer, NoMemory>
         requires { IsTrue (is_name element.now) }
         ensures answer { IfOk result (λ answer. (s : State) → Stands self.old s → answer ≡ answer_to s (What.Create name.now element.now)) }
         ensures state { OnOk result ((s : State) → Stands self.old s → Stands self.new (after s (What.Create name.now element.now))) }
+        ensures journal { self.new.journal ≡ self.old.journal }
+        ensures committed { OnOk result ((self.new.committed ≡ self.old.committed) × (self.new.number ≡ self.old.number)) }
     {
         if !self.live {
             return Ok(Err(SessionError::NoTransaction));
@@ -173,12 +236,48 @@ impl Session {
     fn first(&mut self, alloc: Global, at: &Label) -> Result<Answer, NoMemory>
         ensures answer { IfOk result (λ answer. (s : State) → Stands self.old s → answer ≡ answer_to s (What.First at.now)) }
         ensures state { OnOk result ((s : State) → Stands self.old s → Stands self.new (after s (What.First at.now))) }
+        ensures journal { self.new.journal ≡ self.old.journal }
+        ensures committed { OnOk result ((self.new.committed ≡ self.old.committed) × (self.new.number ≡ self.old.number)) }
     {
         if !self.live {
             return Ok(Err(SessionError::NoTransaction));
         }
         let reply = first_seen(alloc, at, &mut self.committed, &mut self.own)?;
         Ok(Ok(reply))
+    }
+}
+
+/// The body of a commit of what a transaction has put.
+fn body_of(alloc: Global, own: &SortedSeq) -> Result<List<u8>, NoMemory>
+    ensures body { IfOk result (λ body. body ≡ commit_body own.now) }
+{
+    let mut body = List::new(alloc);
+    for (key, record) in own.entries() {
+        let change = Change {
+            key: key.copy(alloc)?,
+            now: Some(record.copy(alloc)?),
+        };
+        write_change(alloc, &change, &mut body)?;
+    }
+    Ok(body)
+}
+
+/// The reply of a commit with this number.
+fn reply_of(alloc: Global, number: u32) -> Result<Vec<u8>, NoMemory>
+    ensures { IfOk result (λ reply. reply.items ≡ answer_text (Ok (Number number))) }
+{
+    let mut reply = Vec::new(alloc);
+    write_answer(alloc, &Ok(Reply::Number(number)), &mut reply)?;
+    Ok(reply)
+}
+
+/// Adds a reply for which there is room.
+fn add(out: &mut Vec<u8>, reply: &[u8])
+    requires room { length out.old.items + length reply.now ≤ vec_capacity out.old }
+    ensures { out.new.items ≡ out.old.items ++ reply.now }
+{
+    if out.extend_from_slice(reply).is_err() {
+        unreachable!();
     }
 }
 
@@ -225,6 +324,7 @@ fn create_seen(
     requires { IsTrue (is_name element.now) }
     ensures reply { OnTree (Some (put_all own.old committed.old)) result (λ t reply. reply ≡ (create_outcome name.now (bare_element element.now) t).0) }
     ensures seen { OnTree (Some (put_all own.old committed.old)) result (λ t _. put_all own.new committed.new ≡ map_of (create_outcome name.now (bare_element element.now) t).1) }
+    ensures own { IfOk result (λ reply. own.new ≡ put_all (entries_of_reply name.now element.now reply) own.old) }
     ensures committed { committed.new ≡ committed.old }
 {
     let mut entries = Vec::new(alloc);
@@ -245,6 +345,7 @@ fn created(
     requires empty { entries.old.items ≡ [] }
     ensures reply { OnTree (Some (put_all own.old committed.old)) result (λ t reply. reply ≡ (create_outcome name.now (bare_element element.now) t).0) }
     ensures entries { OnTree (Some (put_all own.old committed.old)) result (λ t _. put_all entries.new.items (map_of t) ≡ map_of (create_outcome name.now (bare_element element.now) t).1) }
+    ensures puts { IfOk result (λ reply. entries.new.items ≡ entries_of_reply name.now element.now reply) }
     ensures committed { committed.new ≡ committed.old }
     ensures own { own.new ≡ own.old }
 {
@@ -266,6 +367,7 @@ fn create_over(
     requires empty { entries.old.items ≡ [] }
     ensures reply { OnTree (Some (put_all seen.old.own.now seen.old.base.now)) result (λ t reply. reply ≡ (create_outcome name.now (bare_element element.now) t).0) }
     ensures entries { OnTree (Some (put_all seen.old.own.now seen.old.base.now)) result (λ t _. put_all entries.new.items (map_of t) ≡ map_of (create_outcome name.now (bare_element element.now) t).1) }
+    ensures puts { IfOk result (λ reply. entries.new.items ≡ entries_of_reply name.now element.now reply) }
     ensures base { seen.new.base.now ≡ seen.old.base.now }
     ensures own { seen.new.own.now ≡ seen.old.own.now }
     ensures same_base { seen.new.base.ghost_name ≡ seen.old.base.ghost_name }

@@ -1,6 +1,7 @@
 ghost use Rattle.std.specs.Prelude.{◌≡◌};
-ghost use Rattle.xtc.specs.Statuses.{status_number};
+ghost use Rattle.xtc.specs.Statuses.{status_number, status_of};
 
+use node_records::{File, OpenError, Place};
 use std::fmt;
 use std::fmt::{Display, Formatter, Write};
 
@@ -13,10 +14,14 @@ pub enum Status {
     Usage,
     /// A line, by its number from 1, has more bytes than a line may have.
     LineTooLong { line: u64 },
+    /// The files hold no store; the place is that of the first rule that they break.
+    Damaged(Place),
     /// A read failed, or the source gave as many bytes as one run takes.
     ReadFault,
     /// A write failed.
     WriteFault,
+    /// A disk failed. The commit that was under way may be found at the next opening or not.
+    DiskFault,
     /// There was no memory.
     NoMemory,
 }
@@ -30,10 +35,34 @@ impl Status {
             Status::Done => 0,
             Status::Usage => 2,
             Status::LineTooLong { .. } => 3,
+            Status::Damaged(_) => 4,
             Status::ReadFault => 5,
             Status::WriteFault => 6,
+            Status::DiskFault => 7,
             Status::NoMemory => 8,
         }
+    }
+}
+
+/// A store that isn't opened.
+impl From<OpenError> for Status {
+    ghost from_gives = { λ error status. status ≡ status_of error };
+
+    fn from(error: OpenError) -> Status {
+        match error {
+            OpenError::Damaged(place) => Status::Damaged(place),
+            OpenError::DiskFault => Status::DiskFault,
+            OpenError::NoMemory => Status::NoMemory,
+        }
+    }
+}
+
+/// What a status calls the file of a place.
+fn file_name(file: File) -> &'static str {
+    match file {
+        File::Journal => "journal",
+        File::Pages => "pages",
+        File::Tree => "tree",
     }
 }
 
@@ -44,8 +73,12 @@ impl Display for Status {
             Status::Done => Ok(()),
             Status::Usage => write!(f, "xtc: usage"),
             Status::LineTooLong { line } => write!(f, "xtc: line {line} is too long"),
+            Status::Damaged(Place { file, at }) => {
+                write!(f, "xtc: damaged {} at {at}", file_name(*file))
+            }
             Status::ReadFault => write!(f, "xtc: input failed"),
             Status::WriteFault => write!(f, "xtc: output failed"),
+            Status::DiskFault => write!(f, "xtc: disk failed"),
             Status::NoMemory => write!(f, "xtc: no memory"),
         }
     }

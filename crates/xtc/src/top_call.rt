@@ -1,20 +1,29 @@
-ghost use Rattle.std.specs.Prelude.{◌≡◌, ◌≢◌, ◌↔◌, ◌+◌, ◌<◌, ◌≤◌, ◌^◌, ℕ, List, [], ◌++◌, length, MatchResult, OnOk, false, Ok, Err, IfSome, IfOk};
-ghost use Rattle.outside_traits.specs.Bytes.{Gave, Took};
+ghost use Rattle.std.specs.Prelude.{◌≡◌, ◌≢◌, ◌↔◌, ◌+◌, ◌<◌, ◌≤◌, ℕ, List, [], length, OnOk, IsTrue, false, Ok, Err, IfSome, IfOk};
+ghost use Rattle.outside_traits.specs.Bytes.{Gave};
+ghost use Rattle.outside_traits.specs.DiskPairs.{pair_of};
 ghost use Rattle.outside_traits.specs.Faults.{Rose};
+ghost use Rattle.tree_model.specs.StoredTree.{IsStoredTree};
+ghost use Rattle.tree_model.specs.Tree.{Tree};
+ghost use Rattle.journal.specs.Groups.{is_next};
+ghost use Rattle.recovery.specs.Causes.{OneRose};
+ghost use Rattle.recovery.specs.Opened.{opened};
+ghost use Rattle.recovery.specs.Trees.{StandFor};
 ghost use Rattle.xtc.specs.Words.{are_run};
-ghost use Rattle.tree_model.specs.Tree.{empty_tree};
-ghost use Rattle.xtc.specs.Session.{fresh};
-ghost use Rattle.xtc.specs.Feeding.{IsNew, FedFrom, StopsFrom, HasWriteCause};
+ghost use Rattle.xtc.specs.Session.{State, fresh};
+ghost use Rattle.xtc.specs.Kept.{HoldsAll, IsMapOf, IsReady, IsSettled};
+ghost use Rattle.xtc.specs.Feeding.{IsNew, HasWriteCause, HasDiskCause, IfGoesOn};
 ghost use Rattle.xtc.specs.Lines.{lines_of};
 ghost use Rattle.xtc.specs.Commits.{IsSerial};
-ghost use Rattle.xtc.specs.TopCall.{bytes_read, Writes, ReadCause};
+ghost use Rattle.xtc.specs.Runs.{IsOfRun, RunLeaves, TakesFrom, stopped, went};
+ghost use Rattle.xtc.specs.TopCall.{bytes_read, Writes, ReadCause, Fits, OpenAfterAll, CrashLeaves, IsSilent, count_taken};
 
 use crate::feeding::{LINE_LIMIT, Script, Stop};
 use crate::session::Session;
 use crate::status::Status;
 use crate::words::are_run;
 use outside_kinds::{Bounded, INPUT_LIMIT};
-use outside_traits::{Failed, Sink, Source};
+use outside_traits::{Disk, Failed, Sink, Source};
+use recovery::{Opened, StoreFault, open_store};
 use std::alloc::{AllocError, Global};
 
 /// The greatest number that a commit may have.
@@ -30,29 +39,108 @@ enum Input {
     Fault,
 }
 
-/// Does what the words after the program's name say: `run` takes a script from the source and gives its replies to the sink.
-/// What is pending is written before each read, so whoever writes a line and waits has its reply.
-pub fn xtc<S: Source, K: Sink>(
+/// How a run of the program ended, and the disks of its store.
+#[derive(Drop)]
+pub struct Finish<J, P> {
+    pub status: Status,
+    pub journal: J,
+    pub pages: P,
+}
+
+/// Does what the words after the program's name say: `run` opens the store on two disks, takes a script from the source and gives its replies to the sink.
+/// A commit is answered once it is durable. What is pending is written before each read, so whoever writes a line and waits has its reply.
+pub fn xtc<S: Source, K: Sink, J: Disk + Send, P: Disk + Send>(
     alloc: Global,
     words: &Vec<String>,
     source: &mut S,
     sink: &mut K,
-) -> Status
-    ensures text { IfSome (bytes_read (S.left source.old) (S.given source.old) (S.given source.new))
-        (λ read. Writes LINE_LIMIT (fresh empty_tree 0 TX_LIMIT) result read (K.held sink.old) (K.held sink.new)) }
-    ensures whole { result ≡ Status.Done → bytes_read (S.left source.old) (S.given source.old) (S.given source.new) ≡ S.left source.old }
-    ensures serial { IfSome (bytes_read (S.left source.old) (S.given source.old) (S.given source.new)) (λ read. IsSerial (fresh empty_tree 0 TX_LIMIT) (lines_of read)) }
-    ensures usage { (result ≡ Status.Usage) ↔ (are_run words.now.items ≡ false) }
-    ensures nothing { result ≡ Status.Usage → K.held sink.new ≡ K.held sink.old }
-    ensures read { result ≡ Status.ReadFault → ReadCause INPUT_LIMIT (S.faults source.old) (S.faults source.new) (S.given source.old) (S.given source.new) }
-    ensures write { result ≡ Status.WriteFault → Rose (K.faults sink.old) (K.faults sink.new) }
+    journal: J,
+    pages: P,
+) -> Finish<J, P>
+    // What is written, by the tree and the number that the files stand for.
+    ensures text { IsTrue J.tells → IsTrue P.tells → (t : Tree) (n : ℕ) → StandFor (J.told journal).now.reads (P.told pages).now.reads t n
+        → IfSome (bytes_read (S.left source.old) (S.given source.old) (S.given source.new))
+            (λ read. Writes LINE_LIMIT (fresh t n TX_LIMIT) result.status read (K.held sink.old) (K.held sink.new)) }
+    ensures whole { result.status ≡ Status.Done → bytes_read (S.left source.old) (S.given source.old) (S.given source.new) ≡ S.left source.old }
+    ensures nothing { IsSilent result.status (K.held sink.new ≡ K.held sink.old) }
+
+    // The commits of any bytes, run by one thread, give the replies that are written for them.
+    ensures serial { IfSome (bytes_read (S.left source.old) (S.given source.old) (S.given source.new))
+        (λ read. (t : Tree) (n : ℕ) → IsSerial (fresh t n TX_LIMIT) (lines_of read)) }
+
+    // What the files stand for at the end of the input, and what a crash leaves of them now and at any moment before.
+    ensures done { IsTrue J.tells → IsTrue P.tells → (t : Tree) (n : ℕ) → StandFor (J.told journal).now.reads (P.told pages).now.reads t n
+        → result.status ≡ Status.Done → IfSome (bytes_read (S.left source.old) (S.given source.old) (S.given source.new))
+            (λ read. OpenAfterAll t n TX_LIMIT (lines_of read) (J.told result.journal).now.reads (P.told result.pages).now.reads) }
+    ensures crash { IsTrue J.tells → IsTrue P.tells → IfSome (bytes_read (S.left source.old) (S.given source.old) (S.given source.new))
+        (λ read. CrashLeaves TX_LIMIT result.status (lines_of read) (count_taken (K.held sink.old) (K.held sink.new)) (pair_of (J.told journal) (P.told pages)) (pair_of (J.told result.journal) (P.told result.pages))) }
+
+    // The cause of each status.
+    ensures usage { (result.status ≡ Status.Usage) ↔ (are_run words.now.items ≡ false) }
+    ensures as_they_were { result.status ≡ Status.Usage → (result.journal ≡ journal) × (result.pages ≡ pages) }
+    ensures files { IsTrue J.tells → IsTrue P.tells → Fits result.status (opened (J.told journal).now.reads (P.told pages).now.reads) }
+    ensures read { result.status ≡ Status.ReadFault → ReadCause INPUT_LIMIT (S.faults source.old) (S.faults source.new) (S.given source.old) (S.given source.new) }
+    ensures write { result.status ≡ Status.WriteFault → Rose (K.faults sink.old) (K.faults sink.new) }
+    ensures disk { result.status ≡ Status.DiskFault → OneRose (J.faults journal) (J.faults result.journal) (P.faults pages) (P.faults result.pages) }
+    ensures later { (J.faults journal ≤ J.faults result.journal) × (P.faults pages ≤ P.faults result.pages) }
 {
     if !are_run(words) {
-        return Status::Usage;
+        return Finish {
+            status: Status::Usage,
+            journal,
+            pages,
+        };
     }
-    match buffer(alloc) {
-        Ok(mut buffer) => run(alloc, source, sink, &mut buffer),
+    match open_store(alloc, journal, pages) {
+        Ok(store) => run_store(alloc, source, sink, store),
+        Err(StoreFault {
+            fault,
+            journal,
+            pages,
+        }) => Finish {
+            status: Status::from(fault),
+            journal,
+            pages,
+        },
+    }
+}
+
+/// Runs the script of the source over a store that was opened.
+fn run_store<S: Source, K: Sink, J: Disk, P: Disk>(
+    alloc: Global,
+    source: &mut S,
+    sink: &mut K,
+    store: Opened<J, P>,
+) -> Finish<J, P>
+    requires tree { IsStoredTree store.base }
+    requires usable { store.journal.failed ≡ false }
+    requires next { IsTrue (is_next store.journal.last (store.number + 1)) }
+    ensures leaves { (read : List ℕ) × Gave (S.left source.old) (S.left source.new) read × (S.given source.new ≡ S.given source.old + length read)
+        × ((t : Tree) → IsMapOf t store.base → RunLeaves LINE_LIMIT (IsTrue J.tells × HoldsAll store.journal.told store.base store.number) (fresh t store.number TX_LIMIT) read result.status store.journal.told (J.told result.journal) (K.held sink.old) (K.held sink.new)) }
+    ensures pages { result.pages ≡ store.pages }
+    ensures whole { result.status ≡ Status.Done → IfSome (S.left source.new) (λ rest. rest ≡ []) }
+    ensures status { IsOfRun result.status }
+    ensures read { result.status ≡ Status.ReadFault → ReadCause INPUT_LIMIT (S.faults source.old) (S.faults source.new) (S.given source.old) (S.given source.new) }
+    ensures write { result.status ≡ Status.WriteFault → Rose (K.faults sink.old) (K.faults sink.new) }
+    ensures disk { result.status ≡ Status.DiskFault → Rose store.journal.faults (J.faults result.journal) }
+    ensures later { store.journal.faults ≤ J.faults result.journal }
+{
+    let Opened {
+        journal,
+        pages,
+        base,
+        number,
+    } = store;
+    let session = Session::new(alloc, journal, base, number, TX_LIMIT);
+    let mut script = Script::new(alloc, session);
+    let status = match buffer(alloc) {
+        Ok(mut buffer) => run(alloc, &mut script, source, sink, &mut buffer),
         Err(_) => Status::NoMemory,
+    };
+    Finish {
+        status,
+        journal: script.into_journal().into_disk(),
+        pages,
     }
 }
 
@@ -63,76 +151,101 @@ fn buffer(alloc: Global) -> Result<Vec<u8>, AllocError>
 }
 
 /// Runs the script of the source.
-fn run<S: Source, K: Sink>(alloc: Global, source: &mut S, sink: &mut K, buffer: &mut [u8]) -> Status
-    requires { 0 < length buffer.old }
-    ensures text { (read : List ℕ) × Gave (S.left source.old) (S.left source.new) read × (S.given source.new ≡ S.given source.old + length read)
-        × Writes LINE_LIMIT (fresh empty_tree 0 TX_LIMIT) result read (K.held sink.old) (K.held sink.new) }
+fn run<S: Source, K: Sink, J: Disk>(
+    alloc: Global,
+    script: &mut Script<J>,
+    source: &mut S,
+    sink: &mut K,
+    buffer: &mut [u8],
+) -> Status
+    requires new { (s : State) × IsNew script.old s }
+    requires ready { IsReady script.old.session }
+    requires some { 0 < length buffer.old }
+    ensures leaves { (read : List ℕ) × Gave (S.left source.old) (S.left source.new) read × (S.given source.new ≡ S.given source.old + length read)
+        × ((s : State) → IsNew script.old s → RunLeaves LINE_LIMIT (IsTrue J.tells × IsSettled script.old.session) s read result script.old.session.journal.told script.new.session.journal.told (K.held sink.old) (K.held sink.new)) }
     ensures whole { result ≡ Status.Done → IfSome (S.left source.new) (λ rest. rest ≡ []) }
-    ensures usage { result ≢ Status.Usage }
+    ensures status { IsOfRun result }
     ensures read { result ≡ Status.ReadFault → ReadCause INPUT_LIMIT (S.faults source.old) (S.faults source.new) (S.given source.old) (S.given source.new) }
     ensures write { result ≡ Status.WriteFault → Rose (K.faults sink.old) (K.faults sink.new) }
+    ensures disk { result ≡ Status.DiskFault → Rose script.old.session.journal.faults script.new.session.journal.faults }
+    ensures later { script.old.session.journal.faults ≤ script.new.session.journal.faults }
 {
-    let mut script = Script::new(alloc, Session::new(alloc, 0, TX_LIMIT));
-    match take_all(&mut script, alloc, source, sink, buffer) {
+    match take_all(script, alloc, source, sink, buffer) {
         Ok(Input::Ended) => match script.finish(alloc, sink) {
             Ok(()) => Status::Done,
-            Err(Stop::WriteFault) => Status::WriteFault,
-            Err(_) => Status::NoMemory,
+            Err(stop) => status_of(stop),
         },
         Ok(Input::Fault) => Status::ReadFault,
-        Err(Stop::LineTooLong) => {
-            let line = script.lines() + 1;
-            match script.flush(sink) {
-                Ok(()) => Status::LineTooLong { line },
-                Err(_) => Status::WriteFault,
-            }
-        }
-        Err(Stop::WriteFault) => Status::WriteFault,
-        Err(Stop::NoMemory) => Status::NoMemory,
+        Err(Stop::LineTooLong) => match script.flush(sink) {
+            Ok(()) => Status::LineTooLong {
+                line: script.lines() + 1,
+            },
+            Err(_) => Status::WriteFault,
+        },
+        Err(stop) => status_of(stop),
+    }
+}
+
+/// The status of a script that stopped for good.
+fn status_of(stop: Stop) -> Status
+    requires { stop ≢ Stop.LineTooLong }
+    ensures { result ≡ stopped stop }
+{
+    match stop {
+        Stop::WriteFault => Status::WriteFault,
+        Stop::DiskFault => Status::DiskFault,
+        Stop::NoMemory => Status::NoMemory,
+        Stop::LineTooLong => unreachable!(),
     }
 }
 
 /// Takes the whole input into a new script, or as much of it as one run takes.
-fn take_all<S: Source, K: Sink>(
-    script: &mut Script,
+fn take_all<S: Source, K: Sink, J: Disk>(
+    script: &mut Script<J>,
     alloc: Global,
     source: &mut S,
     sink: &mut K,
     buffer: &mut [u8],
 ) -> Result<Input, Stop>
-    requires fresh { IsNew script.old (fresh empty_tree 0 TX_LIMIT) }
+    requires new { (s : State) × IsNew script.old s }
+    requires ready { IsReady script.old.session }
     requires some { 0 < length buffer.old }
     ensures leaves { (read : List ℕ) × Gave (S.left source.old) (S.left source.new) read × (S.given source.new ≡ S.given source.old + length read)
-        × MatchResult result (λ _. FedFrom LINE_LIMIT (fresh empty_tree 0 TX_LIMIT) script.old script.new (K.held sink.old) (K.held sink.new) read) (λ stop. StopsFrom LINE_LIMIT (fresh empty_tree 0 TX_LIMIT) script.old script.new (K.held sink.old) (K.held sink.new) read stop) }
+        × ((s : State) → IsNew script.old s → TakesFrom LINE_LIMIT (IsTrue J.tells × IsSettled script.old.session) s script.old script.new (K.held sink.old) (K.held sink.new) read (went result)) }
+    ensures ready { IfGoesOn (IsReady script.new.session) (went result) }
     ensures lines { script.new.lines ≤ INPUT_LIMIT }
     ensures written { OnOk result (script.new.pending ≡ []) }
     ensures ended { result ≡ Ok Input.Ended → IfSome (S.left source.new) (λ rest. rest ≡ []) }
     ensures fault { result ≡ Ok Input.Fault → ReadCause INPUT_LIMIT (S.faults source.old) (S.faults source.new) (S.given source.old) (S.given source.new) }
     ensures cause { HasWriteCause (K.faults sink.old) (K.faults sink.new) result }
+    ensures disk { HasDiskCause script.old.session.journal.faults script.new.session.journal.faults result }
 {
     let mut bounded = Bounded::new(source);
     take_pieces(script, alloc, &mut bounded, sink, buffer)
 }
 
 /// Takes piece by piece. Before each read all that is pending is written.
-fn take_pieces<S: Source, K: Sink>(
-    script: &mut Script,
+fn take_pieces<S: Source, K: Sink, J: Disk>(
+    script: &mut Script<J>,
     alloc: Global,
     source: &mut Bounded<'_, S>,
     sink: &mut K,
     buffer: &mut [u8],
 ) -> Result<Input, Stop>
-    requires fresh { IsNew script.old (fresh empty_tree 0 TX_LIMIT) }
+    requires new { (s : State) × IsNew script.old s }
+    requires ready { IsReady script.old.session }
     requires room { source.old.room ≡ INPUT_LIMIT }
     requires some { 0 < length buffer.old }
     ensures leaves { (read : List ℕ) × Gave (S.left source.old.inner.now) (S.left source.new.inner.now) read × (S.given source.new.inner.now ≡ S.given source.old.inner.now + length read)
-        × MatchResult result (λ _. FedFrom LINE_LIMIT (fresh empty_tree 0 TX_LIMIT) script.old script.new (K.held sink.old) (K.held sink.new) read) (λ stop. StopsFrom LINE_LIMIT (fresh empty_tree 0 TX_LIMIT) script.old script.new (K.held sink.old) (K.held sink.new) read stop) }
+        × ((s : State) → IsNew script.old s → TakesFrom LINE_LIMIT (IsTrue J.tells × IsSettled script.old.session) s script.old script.new (K.held sink.old) (K.held sink.new) read (went result)) }
+    ensures ready { IfGoesOn (IsReady script.new.session) (went result) }
     ensures same_reference { source.new.inner.ghost_name ≡ source.old.inner.ghost_name }
     ensures lines { script.new.lines ≤ INPUT_LIMIT }
     ensures written { OnOk result (script.new.pending ≡ []) }
     ensures ended { result ≡ Ok Input.Ended → IfSome (S.left source.new.inner.now) (λ rest. rest ≡ []) }
     ensures fault { result ≡ Ok Input.Fault → ReadCause INPUT_LIMIT (S.faults source.old.inner.now) (S.faults source.new.inner.now) (S.given source.old.inner.now) (S.given source.new.inner.now) }
     ensures cause { HasWriteCause (K.faults sink.old) (K.faults sink.new) result }
+    ensures disk { HasDiskCause script.old.session.journal.faults script.new.session.journal.faults result }
 {
     'pieces: loop {
         if let Err(stop) = script.flush(sink) {

@@ -1,0 +1,38 @@
+ghost use Rattle.std.specs.Prelude.{◌≡◌};
+ghost use Rattle.xtc.specs.declared.halt.Halt.TheVariants.{DiskFault as Fails, NoMemory as WantsMemory};
+
+use dewey_labels::NoMemory;
+use journal::DiskFault;
+use std::alloc::AllocError;
+
+/// Why a session can't go on.
+#[derive(Clone, Copy, Debug, PartialEq, Eq)]
+pub enum Halt {
+    /// A call of the journal's disk failed: the commit may be found at the next opening or not.
+    DiskFault,
+    NoMemory,
+}
+
+impl From<NoMemory> for Halt {
+    ghost from_gives = { λ _ halt. halt ≡ WantsMemory };
+
+    fn from(_refused: NoMemory) -> Halt {
+        Halt::NoMemory
+    }
+}
+
+impl From<AllocError> for Halt {
+    ghost from_gives = { λ _ halt. halt ≡ WantsMemory };
+
+    fn from(_refused: AllocError) -> Halt {
+        Halt::NoMemory
+    }
+}
+
+impl From<DiskFault> for Halt {
+    ghost from_gives = { λ _ halt. halt ≡ Fails };
+
+    fn from(_failed: DiskFault) -> Halt {
+        Halt::DiskFault
+    }
+}
