@@ -2,6 +2,7 @@
 use Rattle.std.proofs.Common.{◌≡◌, true, [], sym, ap, subst, ◌∙◌, true≢false}
 use Rattle.std.specs.Prelude.{Option, Some, None}
 use Rattle.tree_model.specs.Names.{Name, is_name}
+use Rattle.tree_model.specs.Entries.{put_all}
 use Rattle.tree_model.specs.Tree.{Tree, map_of}
 use Rattle.tree_model.specs.WellFormed.{WellFormed}
 use Rattle.tree_model.specs.DomWrites.{create}
@@ -10,8 +11,8 @@ use Rattle.tree_model.specs.DomCalls.{dom}
 use Rattle.tree_model.proofs.Creates.{create_keeps}
 use Rattle.tree_model.proofs.PlainFragments.{plain-Element}
 use Rattle.xtc.specs.declared.line.What.TheVariants.{Create}
-use Rattle.xtc.specs.Calls.{bare_element}
-use Rattle.xtc.specs.Session.{State, after_call, create_call, after}
+use Rattle.xtc.specs.Calls.{bare_element, entries_of_reply}
+use Rattle.xtc.specs.Session.{State, after_create, create_call, after}
 use Rattle.xtc.specs.Kept.{Kept, Sees, Stands}
 
 -- the call on the tree
@@ -22,13 +23,18 @@ create_is n e t = ap (λ f. create n f t) (sym (plain-Element e [] []))
 pub create_stands : (k m : Kept) (s : State) (n e : Name) → Stands k s → k.live ≡ true → is_name e ≡ true
     → m.live ≡ k.live → m.committed ≡ k.committed → m.begun ≡ k.begun → m.number ≡ k.number → m.opened ≡ k.opened → m.limit ≡ k.limit
     → ((t : Tree) → WellFormed t → k.seen ≡ map_of t → m.seen ≡ map_of (create n (bare_element e) t).1)
+    → ((t : Tree) → WellFormed t → k.seen ≡ map_of t → m.own ≡ put_all (entries_of_reply n e (create n (bare_element e) t).0) k.own)
     → Stands m (after s (Create n e))
-create_stands k m s n e stands live name live_is committed begun number opened limit seen = by s.view stands.view
+create_stands k m s n e stands live name live_is committed begun number opened limit seen own = by s.view stands.view
   where
-    by : (v : Option Tree) → Sees k v → Stands m (after_call s (create_call n e) v)
+    by : (v : Option Tree) → Sees k v → Stands m (after_create s n e v)
     by None sees = absurd (true≢false (sym live ∙ sees))
     by (Some t) sees = record {
       committed = record { formed = stands.committed.formed; map = committed ∙ stands.committed.map };
+      own =
+          own t sees.1.formed sees.1.map
+          ∙ ap (λ (o : Outcome). put_all (entries_of_reply n e o.0) k.own) (create_is n e t)
+          ∙ ap (put_all (entries_of_reply n e (dom (create_call n e) t).0)) stands.own;
       view = (
         live_is ∙ live,
         record {

@@ -1,11 +1,13 @@
 ghost use Rattle.std.specs.Prelude.{◌≡◌, ◌≤◌, ℕ, [], ◌++◌, Some, IsTrue, IfOk, OnOk, vec_capacity, Ok, length, ◌+◌};
+ghost use Rattle.std.specs.List.{AllByRecursion};
 ghost use Rattle.outside_traits.specs.Moments.{LeavesOnly};
 ghost use Rattle.tree_model.specs.Names.{is_name};
 ghost use Rattle.tree_model.specs.Tree.{Tree, map_of};
 ghost use Rattle.tree_model.specs.declared.reply.Reply.TheVariants.{Number};
 ghost use Rattle.tree_model.specs.DomReads.{first as first_reply};
 ghost use Rattle.tree_model.specs.DomWrites.{create as create_outcome};
-ghost use Rattle.tree_model.specs.Entries.{put_all};
+ghost use Rattle.tree_model.specs.Entries.{Sorted, put_all};
+ghost use Rattle.node_records.specs.Changes.{Fits};
 ghost use Rattle.xtc.specs.ScriptLine.{IsLawfulRequest, IsLawfulLine};
 ghost use Rattle.xtc.specs.Session.{State, fresh, answer_to, after, commit_body};
 ghost use Rattle.xtc.specs.Kept.{Stands, IsReady, IsSettled, IsMapOf};
@@ -250,6 +252,8 @@ impl<J: Disk> Session<J> {
 /// The body of a commit of what a transaction has put.
 fn body_of(alloc: Global, own: &SortedSeq) -> Result<List<u8>, NoMemory>
     ensures body { IfOk result (λ body. body ≡ commit_body own.now) }
+    ensures fits { OnOk result (AllByRecursion (λ e. Fits (Some e.1)) own.now) }
+    ensures sorted { OnOk result (Sorted own.now) }
 {
     let mut body = List::new(alloc);
     for (key, record) in own.entries() {
