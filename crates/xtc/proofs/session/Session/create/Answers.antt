@@ -1,12 +1,13 @@
 use Rattle.std.proofs.Common.{sym, ap, ◌∙◌}
 use Rattle.std.specs.Prelude.{Some}
 use Rattle.tree_model.specs.Entries.{put_all}
-use Rattle.xtc.specs.Calls.{entries_of_reply}
+use Rattle.tree_model.specs.DomWrites.{create}
+use Rattle.xtc.specs.Calls.{bare_element, entries_of_reply}
 use Rattle.xtc.proofs.SessionLaws.{create_stands}
 use Rattle.xtc.proofs.session.Session.create.Goals as goal
 
 pub returns-clause-state : goal.returns-clause-state
-returns-clause-state c = λ s stands.
+returns-clause-state g c = λ s stands.
     let name = c.args.name.now in
     let element = c.args.element.now in
     create_stands c.args.self.now _ s name element stands (sym (ap (λ k. k.live) c.self.view_is) ∙ c.if-not-self.false) c.requires
@@ -15,4 +16,4 @@ returns-clause-state c = λ s stands.
     (λ t formed told.
         c.in_ok-reply.ensures.own
         ∙ ap (λ reply. put_all (entries_of_reply name element reply) c.self.inside.own) (c.in_ok-reply.ensures.reply t formed (ap Some (ap (λ k. k.seen) c.self.view_is ∙ told)))
-        ∙ ap (λ k. put_all (entries_of_reply name element _) k.own) c.self.view_is)
+        ∙ ap (λ k. put_all (entries_of_reply name element (create name (bare_element element) t).0) k.own) c.self.view_is)
