@@ -170,7 +170,7 @@ impl<J: Disk> Session<J> {
             What::Create(name, element) => self.create(alloc, &name, &element)?,
             What::First(at) => self.first(alloc, &at)?,
         };
-        Ok(write_answer(alloc, &answer, out)?)
+        Ok(reply(alloc, answer, out)?)
     }
 
     fn begin(&mut self) -> Answer
@@ -247,6 +247,13 @@ impl<J: Disk> Session<J> {
         let reply = first_seen(alloc, at, &mut self.committed, &mut self.own)?;
         Ok(Ok(reply))
     }
+}
+
+/// Adds the reply of an answer.
+fn reply(alloc: Global, answer: Answer, out: &mut Vec<u8>) -> Result<(), NoMemory>
+    ensures { OnOk result (out.new.items ≡ out.old.items ++ answer_text answer) }
+{
+    write_answer(alloc, &answer, out)
 }
 
 /// The body of a commit of what a transaction has put.
