@@ -1,6 +1,6 @@
 -- What a commit writes is read again, and what a crash in it leaves is what was committed before it or after it.
-use Rattle.std.proofs.Common.{◌≡◌, ℕ, ◌+◌, ◌≤◌, inl, inr, Bool, true, false, true≢false, IsTrue, ◌&&◌, nat_lt, cond, List, [], ◌∷◌, ◌++◌, length, map, Ordering, Less, Equal, Greater, is_lt, refl, sym, ap, subst, ◌∙◌}
-use Rattle.std.specs.Prelude.{Option, Some, None, Result, Ok, Err, IsSome, unwrap_or}
+use Rattle.std.proofs.Common.{◌≡◌, ℕ, ◌+◌, ◌≤◌, inl, inr, true, false, true≢false, IsTrue, ◌&&◌, nat_lt, cond, List, [], ◌∷◌, ◌++◌, length, map, Less, Equal, Greater, is_lt, refl, sym, ap, subst, ◌∙◌}
+use Rattle.std.specs.Prelude.{Option, Some, None, Ok, Err, IsSome, unwrap_or}
 use Rattle.std.specs.List.{AllByRecursion}
 use Rattle.std.proofs.lemmas.Bool.{eq-eqb, le-ltb}
 use Rattle.outside_traits.specs.Disks.{rests}
@@ -8,7 +8,6 @@ use Rattle.outside_traits.specs.Moments.{Told, LeavesOnly}
 use Rattle.outside_traits.proofs.MomentLaws.{weaker}
 use Rattle.tree_model.specs.declared.key.Key.{Key}
 use Rattle.tree_model.specs.declared.record.Record.{Record}
-use Rattle.tree_model.specs.declared.change.Change.{Change}
 use Rattle.tree_model.specs.Keys.{key_cmp, IsLawfulKey}
 use Rattle.tree_model.specs.Entries.{Entries, Above, Sorted, by_order, put, put_all, changed}
 use Rattle.tree_model.specs.StoredTree.{broken_at}
@@ -133,7 +132,7 @@ commit_holds k s told image stands commits settled after =
     let map_is : put_all k.own k.committed ≡ map_of tree.0 = sym commits.seen ∙ tree.2.map in
     let group : Group = commit (k.number + 1) (commit_body k.own) in
     let changes_are : changed group.changes k.committed ≡ put_all k.own k.committed =
-        ap (λ o. changed (unwrap_or o []) k.committed) (commits_body k s stands commits) ∙ changed_puts k.own k.committed in
+    ap (λ o. changed (unwrap_or o []) k.committed) (commits_body k s stands commits) ∙ changed_puts k.own k.committed in
     one_more told.now.reads image (groups_in told) group (record { entries = k.committed; number = k.number }) (settled_groups told _ settled.holds) after settled.holds refl
     (ap broken_at (changes_are ∙ map_is) ∙ unbroken tree.0 tree.2.formed)
     ∙ ap (λ es. Ok (record { entries = es; number = k.number + 1 })) changes_are

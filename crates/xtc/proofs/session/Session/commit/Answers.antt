@@ -1,4 +1,4 @@
-use Rattle.std.proofs.Common.{◌≡◌, refl, sym, ap, subst, ◌∙◌, ◌+◌}
+use Rattle.std.proofs.Common.{refl, ap, ◌∙◌, ◌+◌}
 use Rattle.xtc.specs.declared.line.What.TheVariants.{Commit}
 use Rattle.tree_model.specs.Entries.{put_all}
 use Rattle.xtc.specs.Session.{after, commit_body}

@@ -14,6 +14,6 @@ returns-clause-state g c = λ s stands.
     (ap (λ k. k.live) c.self.view_is) (c.in_ok-reply.ensures.committed ∙ ap (λ k. k.committed) c.self.view_is) (ap (λ k. k.begun) c.self.view_is) (ap (λ k. k.number) c.self.view_is) (ap (λ k. k.opened) c.self.view_is) (ap (λ k. k.limit) c.self.view_is)
     (λ t formed told. c.in_ok-reply.ensures.seen t formed (ap Some (ap (λ k. k.seen) c.self.view_is ∙ told)))
     (λ t formed told.
-        c.in_ok-reply.ensures.own
-        ∙ ap (λ reply. put_all (entries_of_reply name element reply) c.self.inside.own) (c.in_ok-reply.ensures.reply t formed (ap Some (ap (λ k. k.seen) c.self.view_is ∙ told)))
-        ∙ ap (λ k. put_all (entries_of_reply name element (create name (bare_element element) t).0) k.own) c.self.view_is)
+    c.in_ok-reply.ensures.own
+    ∙ ap (λ reply. put_all (entries_of_reply name element reply) c.self.inside.own) (c.in_ok-reply.ensures.reply t formed (ap Some (ap (λ k. k.seen) c.self.view_is ∙ told)))
+    ∙ ap (λ k. put_all (entries_of_reply name element (create name (bare_element element) t).0) k.own) c.self.view_is)
