@@ -12,7 +12,7 @@ use Rattle.xtc.specs.ScriptText.{after_line, answers, state_after}
 use Rattle.xtc.specs.Kept.{Stands}
 use Rattle.xtc.specs.Feeding.{Script, with_state, StopsFrom, FedFrom, LeavesFrom, EndsInputFrom, Standing, IsInLine, AllShort, brought, Fed, Overran, Leaves}
 use Rattle.xtc.specs.declared.feeding.Stop.{Stop}
-use Rattle.xtc.specs.declared.feeding.Stop.TheVariants.{LineTooLong, WriteFault, NoMemory}
+use Rattle.xtc.specs.declared.feeding.Stop.TheVariants.{LineTooLong, WriteFault, DiskFault, NoMemory}
 use Rattle.outside_traits.proofs.Laws.{took_nothing, took_more, front_more}
 
 pub ended_on : (line a b : List ℕ) → ended line (a ++ b) ≡ ended line a ++ ended (unended line a) b
@@ -142,6 +142,7 @@ module _ (limit : ℕ) where
   pub stops_on : (s : State) (a b c : Script) (h i j : Option (List ℕ)) (x y : List ℕ) (e : Stop) → FedFrom limit s a b h i x → ((t : State) → Stands b.session t → StopsFrom limit t b c i j y e) → StopsFrom limit s a c h j (x ++ y) e
   stops_on s a b c h i j x y LineTooLong p q = let r = q p.0 p.1 in (r.0, r.1, overran_on (with_state a s) (with_state b p.0) (with_state c r.0) h i j x y p.2 r.2)
   stops_on s a b c h i j x y WriteFault p q = began_on (with_state a s) (with_state b p.0) h i j x y p.2 (q p.0 p.1)
+  stops_on s a b c h i j x y DiskFault p q = began_on (with_state a s) (with_state b p.0) h i j x y p.2 (q p.0 p.1)
   stops_on s a b c h i j x y NoMemory p q = began_on (with_state a s) (with_state b p.0) h i j x y p.2 (q p.0 p.1)
 
   -- the bytes x were taken, and then a step took y or stopped
@@ -157,6 +158,7 @@ module _ (limit : ℕ) where
   pub stops_more : (s : State) (a b : Script) (h i : Option (List ℕ)) (x y : List ℕ) (e : Stop) → StopsFrom limit s a b h i x e → StopsFrom limit s a b h i (x ++ y) e
   stops_more s a b h i x y LineTooLong q = (q.0, q.1, overran_more (with_state a s) (with_state b q.0) h i x y q.2)
   stops_more s a b h i x y WriteFault q = began_stop (with_state a s) h i x y q
+  stops_more s a b h i x y DiskFault q = began_stop (with_state a s) h i x y q
   stops_more s a b h i x y NoMemory q = began_stop (with_state a s) h i x y q
 
   -- the input ended, and these bytes bring the answers of its last line
@@ -164,6 +166,7 @@ module _ (limit : ℕ) where
   ends_as s a b h i x (Ok u) lines p empty apart = subst (λ ls. TookAllBut h i (a.pending ++ answers s a.lines ls) []) lines (subst (λ k. TookAllBut h i (a.pending ++ brought (with_state a s) x) k) empty p.2.wrote)
   ends_as s a b h i x (Err LineTooLong) lines p empty apart = absurd (apart refl)
   ends_as s a b h i x (Err WriteFault) lines p empty apart = subst (λ ls. TookFront h i (a.pending ++ answers s a.lines ls)) lines p
+  ends_as s a b h i x (Err DiskFault) lines p empty apart = subst (λ ls. TookFront h i (a.pending ++ answers s a.lines ls)) lines p
   ends_as s a b h i x (Err NoMemory) lines p empty apart = subst (λ ls. TookFront h i (a.pending ++ answers s a.lines ls)) lines p
 
 pub ended_at_end : (line : List ℕ) → (line ≡ [] → ⊥) → ended line (10 ∷ []) ≡ last_line line

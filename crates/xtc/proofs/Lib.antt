@@ -4,5 +4,6 @@ pub mod Exits
 pub mod CallLaws
 pub mod SessionLaws
 pub mod CommitLaws
+pub mod StepLogs
 pub mod SerialLaws
 pub mod OwnViewLaws
