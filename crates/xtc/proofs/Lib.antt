@@ -1,5 +1,6 @@
 pub mod LineEnds
 pub mod FeedingLaws
+pub mod LogLaws
 pub mod Exits
 pub mod CallLaws
 pub mod SessionLaws
