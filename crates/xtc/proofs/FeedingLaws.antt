@@ -188,3 +188,8 @@ empty_is (x ∷ line) h = cc (eqb-suc-zero (length line))
 pub empty_is_not : (line : List ℕ) → eqb (length line) 0 ≡ false → line ≡ [] → ⊥
 empty_is_not [] h e = cc
 empty_is_not (x ∷ line) h e = cc
+
+-- what holds anyway holds where a step didn't stop
+pub on_ok : (P : Type 0) (r : Result (Unit {0}) Stop) → P → OnOk r P
+on_ok P (Ok u) p = p
+on_ok P (Err e) p = tt

@@ -1,5 +1,5 @@
 -- What one step of a script leaves of the journal.
-use Rattle.std.proofs.Common.{◌≡◌, ℕ, List, [], ◌∷◌, ◌++◌, take, refl, sym, ap, ◌∙◌, subst, arith, inl, inr, append-nil}
+use Rattle.std.proofs.Common.{◌≡◌, ◌≤◌, ℕ, List, [], ◌∷◌, refl, sym, ap, ◌∙◌, subst, arith, inl, inr, append-nil}
 use Rattle.std.specs.Prelude.{Option, Result, Ok, Err}
 use Rattle.outside_traits.specs.Bytes.{TookFront}
 use Rattle.outside_traits.specs.CrashImages.{IsImage}
@@ -13,8 +13,11 @@ use Rattle.xtc.specs.ScriptLine.{line_of}
 use Rattle.xtc.specs.ScriptText.{after_line}
 use Rattle.xtc.specs.Session.{State}
 use Rattle.xtc.specs.Kept.{Kept, Stands, IsSettled}
-use Rattle.xtc.specs.Durable.{HoldsCommitted, HoldsEither, HoldsFrom}
-use Rattle.xtc.specs.Feeding.{Script, Standing, with_state, Acknowledges, IfGoesOn, IfStopped, LogsFrom}
+use Rattle.xtc.specs.Durable.{HoldsCommitted, HoldsEither, HoldsFrom, HasDiskCause}
+use Rattle.xtc.specs.Feeding.{Script, Standing, with_state, stop_of, LeavesFrom, Acknowledges, IfGoesOn, IfStopped, LogsFrom}
+use Rattle.xtc.specs.declared.line.Line.{Line}
+use Rattle.xtc.specs.declared.halt.Halt.{Halt}
+use Rattle.xtc.specs.declared.halt.Halt.TheVariants as halts
 use Rattle.xtc.specs.declared.feeding.Stop.{Stop}
 use Rattle.xtc.specs.declared.feeding.Stop.TheVariants.{LineTooLong, WriteFault, DiskFault, NoMemory}
 
@@ -89,3 +92,28 @@ logs_line s a k held r stands settled run after =
           (none_acknowledged (with_state a s) (a.unended ∷ []) k.journal.told held held (_, took_nothing held a.pending)
           (now_leaves _ a.session.journal.told k.journal.told moments (λ image is. none_done s (a.unended ∷ []) image (settled_image a.session s stands settled image is))));
     }
+
+-- ---- a session that can't go on
+
+-- it stops for good
+pub halted_goes_on : (P : Type 0) (halt : Halt) → IfGoesOn P (Err (stop_of halt))
+halted_goes_on P halts.DiskFault = tt
+halted_goes_on P halts.NoMemory = tt
+
+-- nothing is written of the line that it stopped at
+pub halted : (limit : ℕ) (s : State) (a b : Script) (held : Option (List ℕ)) (bytes : List ℕ) (halt : Halt) → LeavesFrom limit s a b held held bytes (Err (stop_of halt))
+halted limit s a b held bytes halts.DiskFault = (_, took_nothing held _)
+halted limit s a b held bytes halts.NoMemory = (_, took_nothing held _)
+
+-- memory that isn't had is no fault of the disk
+pub no_cause : (before now : ℕ) → before ≤ now → HasDiskCause {T = Unit {0}} before now (Err halts.NoMemory)
+no_cause before now later = record { later = later; failed = λ e. cc }
+
+-- the moments of a line are those of the session's answer to it
+pub line_moments : (s : State) (old k : Kept) (new : Told) (line : Line) (bytes : List ℕ) → k ≡ old → line ≡ line_of bytes
+    → (IsSettled k → (t : State) → Stands k t → LeavesOnly (HoldsEither t (after_line t line)) k.journal.told new)
+    → IsSettled old → Stands old s → LeavesOnly (HoldsEither s (after_line s (line_of bytes))) old.journal.told new
+line_moments s old k new line bytes same read run settled stands =
+    let of_line : LeavesOnly (HoldsEither s (after_line s line)) k.journal.told new = run (subst IsSettled (sym same) settled) s (subst (λ (n : Kept). Stands n s) (sym same) stands) in
+    subst (λ (n : Kept). LeavesOnly (HoldsEither s (after_line s (line_of bytes))) n.journal.told new) same
+    (subst (λ (l : Line). LeavesOnly (HoldsEither s (after_line s l)) k.journal.told new) read of_line)

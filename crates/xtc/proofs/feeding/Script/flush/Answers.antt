@@ -1,4 +1,4 @@
-use Rattle.std.proofs.Common.{rules, ◌≡◌, ℕ, List, [], refl, ap, Ok, Err}
+use Rattle.std.proofs.Common.{rules, [], refl, ap, Ok, Err}
 use Rattle.outside_traits.specs.Bytes.{Took, TookFront}
 use Rattle.outside_traits.proofs.Laws.{took_whole}
 use Rattle.xtc.specs.declared.feeding.Stop.TheVariants.{WriteFault}
