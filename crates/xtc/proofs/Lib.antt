@@ -7,4 +7,5 @@ pub mod SessionLaws
 pub mod CommitLaws
 pub mod StepLogs
 pub mod SerialLaws
+pub mod CrashLaws
 pub mod OwnViewLaws
