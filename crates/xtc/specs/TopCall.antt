@@ -77,8 +77,9 @@ pub record OpenAfterAnswered (t : Tree) (n limit : ℕ) (lines : List (List ℕ)
 
 -- ---- what a crash leaves
 
--- the store wasn't opened: a crash leaves what stands for what such files stood for at the start, now and at each moment
-pub record Unopened (old new : Pair) : Type 0 where
+-- the store wasn't opened: nothing is written, and a crash leaves what stands for what such files stood for at the start, now and at each moment
+pub record Unopened (taken : Option ℕ) (old new : Pair) : Type 0 where
+  pub silent : IfSome taken (λ bytes. bytes ≡ 0)
   pub any_moment : LeaveWhatStood old new
   pub left : PairsHave (StoodFor old) new
 
@@ -97,9 +98,9 @@ pub record Ran (limit : ℕ) (lines : List (List ℕ)) (taken : Option ℕ) (old
 -- by the status
 abbrev pub CrashLeaves : ℕ → Status → List (List ℕ) → Option ℕ → Pair → Pair → Type 0
 CrashLeaves limit Usage lines taken old new = new ≡ old
-CrashLeaves limit (Damaged place) lines taken old new = Unopened old new
-CrashLeaves limit DiskFault lines taken old new = Unopened old new ⊎ Ran limit lines taken old new
-CrashLeaves limit NoMemory lines taken old new = Unopened old new ⊎ Ran limit lines taken old new
+CrashLeaves limit (Damaged place) lines taken old new = Unopened taken old new
+CrashLeaves limit DiskFault lines taken old new = Unopened taken old new ⊎ Ran limit lines taken old new
+CrashLeaves limit NoMemory lines taken old new = Unopened taken old new ⊎ Ran limit lines taken old new
 CrashLeaves limit status lines taken old new = Ran limit lines taken old new
 
 -- nothing is written where no line is taken
