@@ -8,4 +8,5 @@ pub mod CommitLaws
 pub mod StepLogs
 pub mod SerialLaws
 pub mod CrashLaws
+pub mod StatusLaws
 pub mod OwnViewLaws
