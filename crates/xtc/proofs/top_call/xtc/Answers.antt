@@ -28,17 +28,17 @@ serial read t n = is_serial (fresh t n TX_LIMIT) (lines_of read) refl
 -- ---- the words aren't a command
 
 pub returns-then-not-are_run-clause-serial : goal.returns-then-not-are_run-clause-serial
-returns-then-not-are_run-clause-serial g c = if_read Serial _ _ _ serial
+returns-then-not-are_run-clause-serial g c = if_read Serial (g.S.Source.left c.args.source.now) (g.S.Source.given c.args.source.now) (g.S.Source.given c.args.source.now) serial
 
 -- ---- the store wasn't opened
 
 pub returns-in-Err-clause-serial : goal.returns-in-Err-clause-serial
-returns-in-Err-clause-serial g c = if_read Serial _ _ _ serial
+returns-in-Err-clause-serial g c = if_read Serial (g.S.Source.left c.args.source.now) (g.S.Source.given c.args.source.now) (g.S.Source.given c.args.source.now) serial
 
 pub returns-in-Err-clause-text : goal.returns-in-Err-clause-text
 returns-in-Err-clause-text g c = λ tj tp t n stand.
     let held = g.K.Sink.held c.args.sink.now in
-    if_read (λ read. Writes LINE_LIMIT (fresh t n TX_LIMIT) c.from.result read held held) _ _ _
+    if_read (λ read. Writes LINE_LIMIT (fresh t n TX_LIMIT) c.from.result read held held) (g.S.Source.left c.args.source.now) (g.S.Source.given c.args.source.now) (g.S.Source.given c.args.source.now)
     (λ read. subst (λ status. Writes LINE_LIMIT (fresh t n TX_LIMIT) status read held held) (sym c.from.ensures) (unopened_text LINE_LIMIT (fresh t n TX_LIMIT) read held c.in-Err.field-0.fault))
 
 pub returns-in-Err-clause-crash : goal.returns-in-Err-clause-crash
@@ -48,23 +48,33 @@ returns-in-Err-clause-crash g c = λ tj tp.
     let old = pair_of (g.J.Disk.told c.args.journal) (g.P.Disk.told c.args.pages) in
     let new = pair_of (g.J.Disk.told refused.journal) (g.P.Disk.told refused.pages) in
     let unopened : Unopened (count_taken held held) old new = record { silent = nothing_taken held; any_moment = c.in-Err.ensures.any_moment tj tp; left = c.in-Err.ensures.left tj tp } in
-    if_read (λ read. CrashLeaves TX_LIMIT c.from.result (lines_of read) (count_taken held held) old new) _ _ _
+    if_read (λ read. CrashLeaves TX_LIMIT c.from.result (lines_of read) (count_taken held held) old new) (g.S.Source.left c.args.source.now) (g.S.Source.given c.args.source.now) (g.S.Source.given c.args.source.now)
     (λ read. subst (λ status. CrashLeaves TX_LIMIT status (lines_of read) (count_taken held held) old new) (sym c.from.ensures) (unopened_leaves TX_LIMIT (lines_of read) (count_taken held held) old new refused.fault unopened))
 
 -- ---- the script ran
 
 pub returns-in-Ok-clause-serial : goal.returns-in-Ok-clause-serial
-returns-in-Ok-clause-serial g c = if_read Serial _ _ _ serial
+returns-in-Ok-clause-serial g c = if_read Serial (g.S.Source.left c.args.source.now) (g.S.Source.given c.args.source.now) (g.S.Source.given c.run_store.new.source) serial
 
 pub returns-in-Ok-clause-text : goal.returns-in-Ok-clause-text
 returns-in-Ok-clause-text g c = λ tj tp t n stand.
+    let left = g.S.Source.left c.args.source.now in
+    let rest = g.S.Source.left c.run_store.new.source in
+    let given = g.S.Source.given c.args.source.now in
+    let given_now = g.S.Source.given c.run_store.new.source in
     let Text : ℕ → List ℕ → Type 0 = λ k read. Writes LINE_LIMIT (fresh t k TX_LIMIT) c.run_store.result.status read (g.K.Sink.held c.args.sink.now) (g.K.Sink.held c.run_store.new.sink) in
-    let is = stood_is _ _ t n c.in-Ok.store.base c.in-Ok.store.number stand (c.in-Ok.ensures.opens tj tp) in
+    let is = stood_is (g.J.Disk.told c.args.journal).now.reads (g.P.Disk.told c.args.pages).now.reads t n c.in-Ok.store.base c.in-Ok.store.number stand (c.in-Ok.ensures.opens tj tp) in
     let run = c.run_store.ensures.leaves in
-    read_is (Text n) _ _ _ _ run.0 run.1 run.2 (subst (λ k. Text k run.0) is.1 (run.3 t is.0).text)
+    read_is (Text n) left rest given given_now run.0 run.1 run.2 (subst (λ k. Text k run.0) is.1 (run.3 t is.0).text)
 
 pub returns-in-Ok-clause-whole : goal.returns-in-Ok-clause-whole
-returns-in-Ok-clause-whole g c = λ done. let run = c.run_store.ensures.leaves in whole_is _ _ _ _ run.0 run.1 run.2 (c.run_store.ensures.whole done)
+returns-in-Ok-clause-whole g c = λ done.
+    let left = g.S.Source.left c.args.source.now in
+    let rest = g.S.Source.left c.run_store.new.source in
+    let given = g.S.Source.given c.args.source.now in
+    let given_now = g.S.Source.given c.run_store.new.source in
+    let run = c.run_store.ensures.leaves in
+    whole_is left rest given given_now run.0 run.1 run.2 (c.run_store.ensures.whole done)
 
 pub returns-in-Ok-clause-nothing : goal.returns-in-Ok-clause-nothing
 returns-in-Ok-clause-nothing g c = run_not_silent c.run_store.result.status _ c.run_store.ensures.status
@@ -74,18 +84,26 @@ returns-in-Ok-clause-files g c = λ tj tp. run_fits _ _ c.run_store.result.statu
 
 pub returns-in-Ok-clause-done : goal.returns-in-Ok-clause-done
 returns-in-Ok-clause-done g c = λ tj tp t n stand done.
+    let left = g.S.Source.left c.args.source.now in
+    let rest = g.S.Source.left c.run_store.new.source in
+    let given = g.S.Source.given c.args.source.now in
+    let given_now = g.S.Source.given c.run_store.new.source in
     let store = c.in-Ok.store in
     let journal = (g.J.Disk.told c.run_store.result.journal).now.reads in
     let pages = (g.P.Disk.told c.run_store.result.pages).now.reads in
-    let is = stood_is _ _ t n store.base store.number stand (c.in-Ok.ensures.opens tj tp) in
+    let is = stood_is (g.J.Disk.told c.args.journal).now.reads (g.P.Disk.told c.args.pages).now.reads t n store.base store.number stand (c.in-Ok.ensures.opens tj tp) in
     let settled : HoldsAll store.journal.told store.base store.number = record { synced = c.in-Ok.ensures.journal_synced tj; holds = beside_none _ _ _ (c.in-Ok.ensures.opens_now tj tp) } in
     let run = c.run_store.ensures.leaves in
     let none : pages ≡ [] = ap (λ p. (g.P.Disk.told p).now.reads) c.run_store.ensures.pages ∙ pages_empty _ _ _ (c.in-Ok.ensures.opens_now tj tp) in
     let opens : OpenAfterAll t store.number TX_LIMIT (lines_of run.0) journal [] = holds_all t store.number TX_LIMIT is.0.formed (lines_of run.0) journal (((run.3 t is.0).log (tj, settled)).done done) in
-    read_is (λ read. OpenAfterAll t n TX_LIMIT (lines_of read) journal pages) _ _ _ _ run.0 run.1 run.2 (subst (λ k. OpenAfterAll t k TX_LIMIT (lines_of run.0) journal pages) is.1 (subst (λ p. OpenAfterAll t store.number TX_LIMIT (lines_of run.0) journal p) (sym none) opens))
+    read_is (λ read. OpenAfterAll t n TX_LIMIT (lines_of read) journal pages) left rest given given_now run.0 run.1 run.2 (subst (λ k. OpenAfterAll t k TX_LIMIT (lines_of run.0) journal pages) is.1 (subst (λ p. OpenAfterAll t store.number TX_LIMIT (lines_of run.0) journal p) (sym none) opens))
 
 pub returns-in-Ok-clause-crash : goal.returns-in-Ok-clause-crash
 returns-in-Ok-clause-crash g c = λ tj tp.
+    let left = g.S.Source.left c.args.source.now in
+    let rest = g.S.Source.left c.run_store.new.source in
+    let given = g.S.Source.given c.args.source.now in
+    let given_now = g.S.Source.given c.run_store.new.source in
     let store = c.in-Ok.store in
     let stored = c.in-Ok.ensures.tree in
     let t = stored.tree in
@@ -101,6 +119,6 @@ returns-in-Ok-clause-crash g c = λ tj tp.
     let run = c.run_store.ensures.leaves in
     let log = (run.3 t is).log (tj, settled) in
     let none = c.in-Ok.ensures.pages_synced tp ∙ ap rests (pages_empty _ _ _ opens) in
-    read_is (λ read. CrashLeaves TX_LIMIT c.run_store.result.status (lines_of read) (count_taken before now) old new) _ _ _ _ run.0 run.1 run.2
+    read_is (λ read. CrashLeaves TX_LIMIT c.run_store.result.status (lines_of read) (count_taken before now) old new) left rest given given_now run.0 run.1 run.2
     (run_leaves TX_LIMIT (lines_of run.0) (count_taken before now) old new c.run_store.result.status c.run_store.ensures.status
     (ran t store.number TX_LIMIT (lines_of run.0) old opening new before now stand (c.in-Ok.ensures.any_moment tj tp) (ap g.P.Disk.told c.run_store.ensures.pages) none log.any_moment log.left))
