@@ -19,6 +19,10 @@ mod reply;
 mod session;
 mod status;
 #[cfg(test)]
+mod store_tests;
+#[cfg(test)]
+mod test_runs;
+#[cfg(test)]
 mod tests;
 mod top_call;
 mod words;

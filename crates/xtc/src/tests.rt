@@ -1,18 +1,19 @@
-ghost use Rattle.std.specs.Prelude.{None};
+ghost use Rattle.std.specs.Prelude.{None, IfOk, OnOk};
 ghost use Rattle.xtc.specs.ScriptLine.{IsLawfulRequest};
+ghost use Rattle.xtc.specs.Kept.{IsReady};
 
 use crate::line::What;
-use crate::pieces::InPieces;
-use crate::session::{Session, SessionError};
+use crate::session::Session;
 use crate::status::Status;
+use crate::test_runs::{Outcome, disk, run_words, sink, source, words_of};
 use crate::top_call::xtc;
-use dewey_labels::List;
-use outside_kinds::{MemSink, MemSource};
+use node_records::{File, Place};
+use outside_kinds::MemDisk;
 use outside_traits::{Failed, Sink, Source};
+use recovery::{Opened, open_store};
 use std::alloc::{AllocError, Global};
 use std::cell::Cell;
 use std::test::Fail;
-use tree_model::Reply;
 
 const SCRIPT: &[u8] =
     b"{\"s\":1,\"call\":\"begin\"}\n \t\r\n{\"call\":\"begin\",\"s\":1}\r\n{\"s\":1,\"call\":\"commit\"}\n{\"s\":1,\"call\":\"commit\"}\n{\"s\":2,\"call\":\"begin\"}\nnope";
@@ -20,23 +21,7 @@ const SCRIPT: &[u8] =
 const TEXT: &[u8] =
     b"{\"ok\":1,\"s\":1}\n{\"err\":{\"name\":\"InTransaction\"},\"s\":1}\n{\"ok\":1,\"s\":1}\n{\"err\":{\"name\":\"NoTransaction\"},\"s\":1}\n{\"bad\":\"later\",\"line\":6}\n{\"bad\":\"later\",\"line\":7}\n";
 
-/// The words of a command line.
-fn words_of(alloc: Global, text: &str) -> Result<Vec<String>, AllocError> {
-    let mut words = Vec::new(alloc);
-    for word in text.split_ascii_whitespace() {
-        words.push(String::from_str(alloc, word)?)?;
-    }
-    Ok(words)
-}
-
-/// What a run of the script gives.
-#[derive(Drop)]
-struct Outcome {
-    status: Status,
-    text: Vec<u8>,
-}
-
-/// Runs `run` on a script that comes and goes in pieces of at most `piece` bytes; the listed calls fail.
+/// Runs `run` over two empty files, on a script that comes and goes in pieces of at most `piece` bytes; the listed reads and writes fail.
 fn run_script(
     alloc: Global,
     script: &[u8],
@@ -44,21 +29,14 @@ fn run_script(
     reads: &[u64],
     writes: &[u64],
 ) -> Result<Outcome, AllocError> {
-    let words = words_of(alloc, "run")?;
-    let mut source = InPieces {
-        inner: MemSource::new(
-            List::from_vec(Vec::from_slice(alloc, script)?),
-            List::from_vec(Vec::from_slice(alloc, reads)?),
-        ),
-        piece,
-    };
-    let mut sink = InPieces {
-        inner: MemSink::new(alloc, List::from_vec(Vec::from_slice(alloc, writes)?)),
-        piece,
-    };
-    let status = xtc(alloc, &words, &mut source, &mut sink);
-    let text = Vec::from_slice(alloc, sink.inner.bytes())?;
-    Ok(Outcome { status, text })
+    run_words(
+        alloc,
+        "run",
+        source(alloc, script, piece, reads)?,
+        sink(alloc, piece, writes)?,
+        disk(alloc, b"", &[])?,
+        disk(alloc, b"", &[])?,
+    )
 }
 
 #[test]
@@ -147,70 +125,73 @@ fn a_line_of_the_limit_passes_and_a_longer_one_is_named(rt: HostRuntime) -> Resu
 }
 
 #[test]
-fn only_run_is_a_command(rt: HostRuntime) -> Result<(), Fail> {
-    for text in ["", "Run", "run x", "run run", "--help"] {
-        let words = words_of(rt.alloc(), text)?;
-        let mut source = MemSource::new(
-            List::from_vec(Vec::from_slice(rt.alloc(), SCRIPT)?),
-            List::new(rt.alloc()),
-        );
-        let mut sink = MemSink::new(rt.alloc(), List::new(rt.alloc()));
-        assert_eq!(rt;
-            xtc(rt.alloc(), &words, &mut source, &mut sink),
-            Status::Usage,
-            "{text}"
-        );
-        assert_eq!(rt; sink.bytes(), b"".as_slice(), "{text}");
+fn only_run_is_a_command_and_no_other_touches_a_disk(rt: HostRuntime) -> Result<(), Fail> {
+    let alloc = rt.alloc();
+    for words in ["", "Run", "run x", "run run", "--help"] {
+        let outcome = run_words(
+            alloc,
+            words,
+            source(alloc, SCRIPT, 100, &[])?,
+            sink(alloc, 100, &[])?,
+            disk(alloc, b"\x01", &[])?,
+            disk(alloc, b"pages", &[])?,
+        )?;
+        assert_eq!(rt; outcome.status, Status::Usage, "{words}");
+        assert_eq!(rt; outcome.text.as_slice(), b"".as_slice(), "{words}");
+        assert_eq!(rt; outcome.journal.bytes(), b"\x01".as_slice(), "{words}");
+        assert_eq!(rt; outcome.journal.calls(), 0, "{words}");
+        assert_eq!(rt; outcome.pages.calls(), 0, "{words}");
     }
     Ok(())
 }
 
-/// Asks a session for what is answered by that number.
-fn ask_number(alloc: Global, session: &mut Session, what: What, number: u32) -> Result<(), Fail>
-    requires { IsLawfulRequest what }
+/// What seven requests are answered under a limit of two: begin, commit, begin, begin, commit, begin, commit.
+const LIMIT_TEXT: &[u8] = b"{\"ok\":1,\"s\":1}\n{\"ok\":1,\"s\":1}\n{\"ok\":2,\"s\":1}\n{\"err\":{\"name\":\"InTransaction\"},\"s\":1}\n{\"ok\":2,\"s\":1}\n{\"err\":{\"name\":\"TxLimit\"},\"s\":1}\n{\"err\":{\"name\":\"NoTransaction\"},\"s\":1}\n";
+
+/// A session over an empty store whose commits are numbered up to `limit`.
+fn new_session(alloc: Global, limit: u32) -> Result<Session<MemDisk>, Fail>
+    ensures ready { IfOk result (λ session. IsReady session) }
 {
-    match session.ask(alloc, what)? {
-        Ok(Reply::Number(answered)) if answered == number => Ok(()),
-        _ => Err(Fail::from("another answer")),
+    match open_store(alloc, disk(alloc, b"", &[])?, disk(alloc, b"", &[])?) {
+        Ok(store) if store.number == 0 => {
+            let Opened { journal, base, .. } = store;
+            Ok(Session::new(alloc, journal, base, 0, limit))
+        }
+        _ => Err(Fail::from("an empty store isn't opened")),
     }
 }
 
-/// Asks a session for what it refuses so.
-fn ask_refused(
+/// Asks a session, and adds its reply.
+fn ask(
     alloc: Global,
-    session: &mut Session,
+    session: &mut Session<MemDisk>,
     what: What,
-    why: SessionError,
+    out: &mut Vec<u8>,
 ) -> Result<(), Fail>
-    requires { IsLawfulRequest what }
+    requires lawful { IsLawfulRequest what }
+    requires ready { IsReady session.old }
+    ensures ready { OnOk result (IsReady session.new) }
 {
-    match session.ask(alloc, what)? {
-        Err(answered) if answered == why => Ok(()),
-        _ => Err(Fail::from("another answer")),
+    match session.ask(alloc, what, out) {
+        Ok(()) => Ok(()),
+        Err(_) => Err(Fail::from("the session stopped")),
     }
 }
 
 #[test]
 fn the_third_begin_passes_a_limit_of_two(rt: HostRuntime) -> Result<(), Fail> {
     let alloc = rt.alloc();
-    let mut session = Session::new(alloc, 0, 2);
-    ask_number(alloc, &mut session, What::Begin, 1)?;
-    ask_number(alloc, &mut session, What::Commit, 1)?;
-    ask_number(alloc, &mut session, What::Begin, 2)?;
-    ask_refused(
-        alloc,
-        &mut session,
-        What::Begin,
-        SessionError::InTransaction,
-    )?;
-    ask_number(alloc, &mut session, What::Commit, 2)?;
-    ask_refused(alloc, &mut session, What::Begin, SessionError::TxLimit)?;
-    ask_refused(
-        alloc,
-        &mut session,
-        What::Commit,
-        SessionError::NoTransaction,
-    )
+    let mut session = new_session(alloc, 2)?;
+    let mut out = Vec::new(alloc);
+    ask(alloc, &mut session, What::Begin, &mut out)?;
+    ask(alloc, &mut session, What::Commit, &mut out)?;
+    ask(alloc, &mut session, What::Begin, &mut out)?;
+    ask(alloc, &mut session, What::Begin, &mut out)?;
+    ask(alloc, &mut session, What::Commit, &mut out)?;
+    ask(alloc, &mut session, What::Begin, &mut out)?;
+    ask(alloc, &mut session, What::Commit, &mut out)?;
+    assert_eq!(rt; out.as_slice(), LIMIT_TEXT);
+    Ok(())
 }
 
 /// Lines and the reply to each.
@@ -318,6 +299,10 @@ fn each_line_has_its_reply(rt: HostRuntime) -> Result<(), Fail> {
     Ok(())
 }
 
+fn damaged(file: File, at: u64) -> Status {
+    Status::Damaged(Place { file, at })
+}
+
 #[test]
 fn a_status_has_its_number_and_text(rt: HostRuntime) -> Result<(), Fail> {
     let rows = [
@@ -328,8 +313,16 @@ fn a_status_has_its_number_and_text(rt: HostRuntime) -> Result<(), Fail> {
             3,
             "xtc: line 7 is too long",
         ),
+        (
+            damaged(File::Journal, 8),
+            4,
+            "xtc: damaged journal at 8",
+        ),
+        (damaged(File::Pages, 0), 4, "xtc: damaged pages at 0"),
+        (damaged(File::Tree, 1), 4, "xtc: damaged tree at 1"),
         (Status::ReadFault, 5, "xtc: input failed"),
         (Status::WriteFault, 6, "xtc: output failed"),
+        (Status::DiskFault, 7, "xtc: disk failed"),
         (Status::NoMemory, 8, "xtc: no memory"),
     ];
     for (status, number, text) in rows {
@@ -416,10 +409,15 @@ fn a_client_has_the_reply_of_each_line_before_the_next_is_read(
         faults: 0,
     };
     let mut replies = Seen { bytes: &seen };
-    assert_eq!(rt;
-        xtc(rt.alloc(), &words, &mut client, &mut replies),
-        Status::Done
+    let finish = xtc(
+        rt.alloc(),
+        &words,
+        &mut client,
+        &mut replies,
+        disk(rt.alloc(), b"", &[])?,
+        disk(rt.alloc(), b"", &[])?,
     );
+    assert_eq!(rt; finish.status, Status::Done);
     // Seven lines and the end of the input, which ends the last line.
     assert_eq!(rt;
         client.notes.as_slice(),
