@@ -1,9 +1,11 @@
 ghost use Rattle.std.specs.Prelude.{◌≡◌, ◌≢◌, ◌↔◌, ◌+◌, ◌<◌, ◌≤◌, ℕ, List, [], length, OnOk, IsTrue, false, Ok, Err, IfSome, IfOk};
 ghost use Rattle.outside_traits.specs.Bytes.{Gave};
 ghost use Rattle.outside_traits.specs.DiskPairs.{pair_of};
+ghost use Rattle.outside_traits.specs.Disks.{rests};
 ghost use Rattle.outside_traits.specs.Faults.{Rose};
 ghost use Rattle.tree_model.specs.StoredTree.{IsStoredTree};
 ghost use Rattle.tree_model.specs.Tree.{Tree};
+ghost use Rattle.node_records.specs.declared.open_error.Place.{Place};
 ghost use Rattle.journal.specs.Groups.{is_next};
 ghost use Rattle.recovery.specs.Causes.{OneRose};
 ghost use Rattle.recovery.specs.Opened.{opened};
@@ -74,6 +76,10 @@ pub fn xtc<S: Source, K: Sink, J: Disk + Send, P: Disk + Send>(
             (λ read. OpenAfterAll t n TX_LIMIT (lines_of read) (J.told result.journal).now.reads (P.told result.pages).now.reads) }
     ensures crash { IsTrue J.tells → IsTrue P.tells → IfSome (bytes_read (S.left source.old) (S.given source.old) (S.given source.new))
         (λ read. CrashLeaves TX_LIMIT result.status (lines_of read) (count_taken (K.held sink.old) (K.held sink.new)) (pair_of (J.told journal) (P.told pages)) (pair_of (J.told result.journal) (P.told result.pages))) }
+
+    // Damaged files are synced, and as they were.
+    ensures untouched { (place : Place) → result.status ≡ Status.Damaged place → IsTrue J.tells → IsTrue P.tells
+        → ((J.told result.journal).now ≡ rests (J.told journal).now.reads) × ((P.told result.pages).now ≡ rests (P.told pages).now.reads) }
 
     // The cause of each status.
     ensures usage { (result.status ≡ Status.Usage) ↔ (are_run words.now.items ≡ false) }
