@@ -9,7 +9,7 @@ use Rattle.xtc.specs.ScriptText.{answers, state_after, text_of, script_text}
 use Rattle.xtc.specs.Feeding.{Script, with_state, IsNew, StopsFrom, Standing, start, IsInLine, AllShort, brought, Fed, Overran}
 use Rattle.xtc.specs.TopCall.{bytes_read}
 use Rattle.xtc.specs.declared.feeding.Stop.{Stop}
-use Rattle.xtc.specs.declared.feeding.Stop.TheVariants.{LineTooLong, WriteFault, NoMemory}
+use Rattle.xtc.specs.declared.feeding.Stop.TheVariants.{LineTooLong, WriteFault, DiskFault, NoMemory}
 use Rattle.xtc.proofs.LineEnds.{ltb_tells}
 use Rattle.outside_traits.proofs.Laws.{took_more, front_more, whole_took}
 use Rattle.xtc.proofs.FeedingLaws.{ended_on, unended_on, answers_on, ended_in_line, unended_in_line, fed_flush, short_on}
@@ -35,7 +35,7 @@ long_behind limit n (line ∷ front) lines h =
     elim (ltb_tells limit (length line)) [ inl e ↦ absurd (omega (arith, h.0, e.1)) | inr e ↦ ap (λ v. cond v (Some n) (first_long limit (n + 1) (front ++ lines))) e.0 ∙ long_behind limit (n + 1) front lines h.1 ∙ ap (λ k. first_long limit k lines) count ]
 
 -- the lines of bytes behind a beginning of a line
-abbrev lines_from : List ℕ → List ℕ → List (List ℕ)
+abbrev pub lines_from : List ℕ → List ℕ → List (List ℕ)
 lines_from line bytes = ended line bytes ++ last_line (unended line bytes)
 
 -- a line that is long already is long
@@ -92,9 +92,12 @@ module _ (limit : ℕ) (s : State) where
   whole_text b h i read p empty = whole_took h i _ (subst (λ k. TookAllBut h i (text_of s (ended [] read)) k) empty p.wrote)
 
   -- a front of the whole lines' answers is written
-  pub flush_front : (b : Standing) (h i j : Option (List ℕ)) (read more : List ℕ) → Fed limit (start s) b h i read → TookFront i j (b.pending ++ brought b []) → TookFront h j (script_text s (read ++ more))
-  flush_front b h i j read more p q =
-      began_script s h j read more (subst (TookFront h j) (append-nil (text_of s (ended [] read))) (q.0, took_more h i j (text_of s (ended [] read)) b.pending [] q.0 p.wrote q.1))
+  pub whole_front : (b : Standing) (h i j : Option (List ℕ)) (read : List ℕ) → Fed limit (start s) b h i read → TookFront i j (b.pending ++ brought b []) → TookFront h j (text_of s (ended [] read))
+  whole_front b h i j read p q = subst (TookFront h j) (append-nil (text_of s (ended [] read))) (q.0, took_more h i j (text_of s (ended [] read)) b.pending [] q.0 p.wrote q.1)
+
+  -- so a front of the text is
+  flush_front : (b : Standing) (h i j : Option (List ℕ)) (read more : List ℕ) → Fed limit (start s) b h i read → TookFront i j (b.pending ++ brought b []) → TookFront h j (script_text s (read ++ more))
+  flush_front b h i j read more p q = began_script s h j read more (whole_front b h i j read p q)
 
   -- a step stopped: a front of the text is written
   pub stop_front : (h i : Option (List ℕ)) (read : List ℕ) → TookFront h i (text_of s (ended [] read)) → TookFront h i (script_text s read)
@@ -125,13 +128,14 @@ at_start k s new = λ i. record { state = s; lines = new.lines i; unended = new.
 pub from_start : (limit : ℕ) (s : State) (k b : Script) (t : State) (h i : Option (List ℕ)) (read : List ℕ) → IsNew k s → Fed limit (with_state k s) (with_state b t) h i read → Fed limit (start s) (with_state b t) h i read
 from_start limit s k b t h i read new p = subst (λ a. Fed limit a (with_state b t) h i read) (at_start k s new) p
 
-abbrev as_error : Stop → Result (Unit {0}) Stop
+abbrev pub as_error : Stop → Result (Unit {0}) Stop
 as_error e = Err e
 
 -- a flush stopped only at a write
 pub flush_began : (limit : ℕ) (s : State) (b c : Script) (i j : Option (List ℕ)) (e : Stop) → as_error e ≡ as_error WriteFault → StopsFrom limit s b c i j [] e → TookFront i j (b.pending ++ brought (with_state b s) [])
 flush_began limit s b c i j LineTooLong h q = cc
 flush_began limit s b c i j WriteFault h q = q
+flush_began limit s b c i j DiskFault h q = q
 flush_began limit s b c i j NoMemory h q = q
 
 -- at the end of the input the bytes read are all of it

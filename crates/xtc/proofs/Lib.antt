@@ -2,6 +2,7 @@ pub mod LineEnds
 pub mod FeedingLaws
 pub mod LogLaws
 pub mod Exits
+pub mod RunLaws
 pub mod CallLaws
 pub mod SessionLaws
 pub mod CommitLaws
