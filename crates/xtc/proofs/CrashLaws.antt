@@ -1,6 +1,6 @@
 -- What the files of a store stand for after a front of a script's lines, by the commits among them.
-use Rattle.std.proofs.Common.{◌≡◌, ◌⊎◌, inl, inr, ⊎_elim, ℕ, suc, ◌+◌, ◌-◌, ◌≤◌, ◌<◌, Bool, true, false, List, [], ◌∷◌, ◌++◌, length, take, drop, Option, Some, None, Result, Ok, Err, if◌then◌else◌, refl, sym, ap, subst, ◌∙◌, arith, append_assoc, append-nil, length-append}
-use Rattle.std.specs.Prelude.{IfSome, IsTrue, ◌==◌, ◌&&◌, codes, option_and_then}
+use Rattle.std.proofs.Common.{◌≡◌, ◌⊎◌, ⊎_elim, ℕ, ◌+◌, ◌-◌, ◌≤◌, ◌<◌, Bool, true, false, List, [], ◌∷◌, ◌++◌, length, take, drop, Option, Some, None, Result, Ok, Err, if◌then◌else◌, refl, sym, ap, subst, ◌∙◌, arith, append-nil, length-append}
+use Rattle.std.specs.Prelude.{IfSome, ◌==◌, ◌&&◌, codes, option_and_then}
 use Rattle.std.specs.Str.{bytes_eq}
 use Rattle.std.specs.List.{list_all}
 use Rattle.std.proofs.Math.Seq.{take-append_seam}
@@ -8,10 +8,10 @@ use Rattle.std.proofs.lemmas.Bool.{cases_lt}
 use Rattle.std.proofs.lemmas.List.{take-append-drop, take-take}
 use Rattle.serde_json.specs.Data.{Data}
 use Rattle.serde_json.specs.Written.{compact_text}
-use Rattle.serde_json.specs.Find.{get, as_number, as_u64, as_str, as_object}
+use Rattle.serde_json.specs.Find.{get, as_number, as_u64, as_object}
 use Rattle.dewey_labels.specs.Labels.{Label, level}
 use Rattle.dewey_labels.specs.LabelText.{label_of}
-use Rattle.outside_traits.specs.Bytes.{Took, TookFront}
+use Rattle.outside_traits.specs.Bytes.{TookFront}
 use Rattle.outside_traits.specs.CrashImages.{IsImage}
 use Rattle.outside_traits.specs.Moments.{Told}
 use Rattle.tree_model.specs.declared.dom_call.DomCall.TheVariants as call
@@ -22,11 +22,9 @@ use Rattle.tree_model.specs.Tree.{Tree, map_of}
 use Rattle.tree_model.specs.WellFormed.{WellFormed}
 use Rattle.tree_model.specs.Outcomes.{Outcome}
 use Rattle.tree_model.specs.DomWrites.{create}
-use Rattle.tree_model.specs.DomCalls.{dom}
 use Rattle.tree_model.specs.Serial.{Ran}
 use Rattle.tree_model.proofs.Creates.{create_keeps}
 use Rattle.tree_model.proofs.PlainFragments.{plain-Element}
-use Rattle.recovery.specs.Opened.{opened}
 use Rattle.recovery.specs.Trees.{StandFor}
 use Rattle.xtc.specs.Calls.{bare_element}
 use Rattle.xtc.specs.declared.line.What.{What}
@@ -35,11 +33,11 @@ use Rattle.xtc.specs.declared.line.Line.{Line}
 use Rattle.xtc.specs.declared.line.Line.TheVariants.{Blank, Ask, Later}
 use Rattle.xtc.specs.declared.session.SessionError.{SessionError}
 use Rattle.xtc.specs.declared.session.SessionError.TheVariants.{CommitLimit}
-use Rattle.xtc.specs.ScriptLine.{is_blank_byte, value_of, members_count, string_at, is_one, only_text, if_name, element_of, create_line, create_of, label_line, at_line, first_of, call_of, named_call, request_of, line_of, IsLawfulLine}
-use Rattle.xtc.specs.Session.{State, fresh, is_spent, after_begin, is_past_limit, commit_answer, after_commit, create_call, after_call, after_create, answer_to}
+use Rattle.xtc.specs.ScriptLine.{is_blank_byte, value_of, members_count, string_at, is_one, only_text, if_name, element_of, create_line, create_of, at_line, first_of, call_of, named_call, request_of, line_of, IsLawfulLine}
+use Rattle.xtc.specs.Session.{State, fresh, is_spent, after_begin, is_past_limit, commit_answer, after_commit, after_call, after_create, answer_to}
 use Rattle.xtc.specs.Replies.{reply_text, answer_value, line_text}
 use Rattle.xtc.specs.ScriptText.{after_line, state_after, answers, text_of}
-use Rattle.xtc.specs.Commits.{Transaction, kept, and_committed, own_after_line, and_later, committed_of, tree_after}
+use Rattle.xtc.specs.Commits.{Transaction, and_committed, own_after_line, and_later, committed_of, tree_after}
 use Rattle.xtc.specs.Durable.{HoldsCommitted, HoldsFrom}
 use Rattle.xtc.specs.Feeding.{start, Acknowledges}
 use Rattle.xtc.specs.TopCall.{OpenAfter, OpenAfterSome, OpenAfterAll, count_taken, OpenAfterAnswered}

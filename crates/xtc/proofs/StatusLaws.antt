@@ -1,18 +1,16 @@
 -- What a run of the program leaves, by the status that it ends with.
-use Rattle.std.proofs.Common.{◌≡◌, ◌⊎◌, inl, inr, ℕ, ◌+◌, ◌-◌, List, [], length, take, Option, Some, None, Result, Ok, Err, refl, sym, ap, subst, ◌∙◌, arith}
+use Rattle.std.proofs.Common.{◌≡◌, inl, inr, ℕ, ◌-◌, List, [], take, Option, Some, None, Result, Ok, Err, sym, ap, subst, ◌∙◌, arith}
 use Rattle.std.specs.Prelude.{IfSome}
-use Rattle.outside_traits.specs.Bytes.{Took, TookFront}
 use Rattle.outside_traits.specs.Disks.{rests}
 use Rattle.outside_traits.specs.CrashImages.{IsImage}
 use Rattle.outside_traits.specs.Moments.{Told, LeavesOnly}
-use Rattle.outside_traits.specs.DiskPairs.{Pair, PairsHave}
+use Rattle.outside_traits.specs.DiskPairs.{Pair}
 use Rattle.outside_traits.proofs.Laws.{took_none, took_nothing}
 use Rattle.outside_traits.proofs.ImageLaws.{image-rests}
 use Rattle.outside_traits.proofs.MomentLaws.{weaker}
 use Rattle.outside_traits.proofs.PairLaws.{journal_phase}
 use Rattle.tree_model.specs.Entries.{Entries}
-use Rattle.tree_model.specs.Tree.{Tree, map_of}
-use Rattle.tree_model.specs.WellFormed.{WellFormed}
+use Rattle.tree_model.specs.Tree.{Tree}
 use Rattle.node_records.specs.declared.open_error.Place.{Place}
 use Rattle.node_records.specs.declared.open_error.OpenError.{OpenError}
 use Rattle.node_records.specs.declared.open_error.OpenError.TheVariants as error

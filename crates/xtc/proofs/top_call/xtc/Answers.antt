@@ -1,5 +1,4 @@
-use Rattle.std.proofs.Common.{◌≡◌, ◌∙◌, List, ℕ, [], refl, sym, ap, subst, Ok, Err}
-use Rattle.std.specs.Prelude.{IsTrue}
+use Rattle.std.proofs.Common.{◌≡◌, ◌∙◌, List, ℕ, [], refl, sym, ap, subst, Ok}
 use Rattle.outside_traits.specs.DiskPairs.{pair_of}
 use Rattle.outside_traits.specs.Disks.{rests}
 use Rattle.tree_model.specs.Tree.{Tree}
@@ -9,7 +8,6 @@ use Rattle.xtc.specs.Lines.{lines_of}
 use Rattle.xtc.specs.Session.{fresh}
 use Rattle.xtc.specs.Commits.{IsSerial}
 use Rattle.xtc.specs.Kept.{IsMapOf, HoldsAll}
-use Rattle.xtc.specs.Runs.{RunLeaves}
 use Rattle.xtc.specs.TopCall.{Writes, OpenAfterAll, Unopened, CrashLeaves, count_taken}
 use Rattle.xtc.specs.declared.feeding.TheConstants.{LINE_LIMIT}
 use Rattle.xtc.specs.declared.top_call.TheConstants.{TX_LIMIT}
