@@ -103,17 +103,23 @@ module _ (limit : ℕ) (s : State) where
   pub stop_front : (h i : Option (List ℕ)) (read : List ℕ) → TookFront h i (text_of s (ended [] read)) → TookFront h i (script_text s read)
   stop_front h i read p = subst (λ x. TookFront h i (script_text s x)) (append-nil read) (began_script s h i read [] p)
 
+  -- the lines before one that is too long, as they are counted
+  pub long_lines : (b : Standing) (h i : Option (List ℕ)) (read : List ℕ) (n : ℕ) (over : Overran limit (start s) b h i read) → n ≡ b.lines + 1 → take (n - 1) (lines_of read) ≡ ended [] over.done
+  long_lines b h i read n over number =
+      let rest : List ℕ = over.part ++ over.more in
+      let lines : lines_of read ≡ ended [] over.done ++ lines_from (unended [] over.done) rest = ap lines_of (over.cut ∙ append_assoc over.done over.part over.more) ∙ lines_on over.done rest in
+      let before : n - 1 ≡ length (ended [] over.done) = omega (arith, over.fed.lines) in
+      (λ k. take (before k) (lines k)) ∙ take-append_seam (ended [] over.done) _
+
   -- a line is too long: the answers of the lines before it are written
   pub long_text : (b c : Standing) (h i j : Option (List ℕ)) (read : List ℕ) (n : ℕ) → Overran limit (start s) b h i read → Fed limit b c i j [] → c.pending ≡ [] → n ≡ b.lines + 1 → Took h j (text_of s (take (n - 1) (lines_of read))) × (first_long limit 1 (lines_of read) ≡ Some n)
   long_text b c h i j read n p q empty number =
       let rest : List ℕ = p.part ++ p.more in
       let cut : read ≡ p.done ++ rest = p.cut ∙ append_assoc p.done p.part p.more in
       let lines : lines_of read ≡ ended [] p.done ++ lines_from (unended [] p.done ++ p.part) p.more = ap lines_of cut ∙ lines_on p.done rest ∙ ap (λ l. ended [] p.done ++ l) (lines_in_line (unended [] p.done) p.part p.more p.in_line) in
-      let before : n - 1 ≡ length (ended [] p.done) = omega (arith, p.fed.lines) in
-      let taken : take (n - 1) (lines_of read) ≡ ended [] p.done = (λ k. take (before k) (lines k)) ∙ take-append_seam (ended [] p.done) _ in
       let is_long : limit < length (unended [] p.done ++ p.part) = subst (λ l. limit < length (l ++ p.part)) p.fed.unended p.long in
       let count : 1 + length (ended [] p.done) ≡ n = omega (arith, p.fed.lines) in (
-        subst (λ l. Took h j (text_of s l)) (sym taken) (whole_text c h j p.done (fed_flush limit (start s) b c h i j p.done p.fed q) empty),
+        subst (λ l. Took h j (text_of s l)) (sym (long_lines b h i read n p number)) (whole_text c h j p.done (fed_flush limit (start s) b c h i j p.done p.fed q) empty),
         ap (first_long limit 1) lines ∙ long_behind limit 1 (ended [] p.done) _ p.fed.short ∙ still_long limit (1 + length (ended [] p.done)) (unended [] p.done ++ p.part) p.more is_long ∙ ap Some count,
       )
 

@@ -15,18 +15,18 @@ use Rattle.tree_model.specs.Tree.{Tree}
 use Rattle.xtc.specs.Lines.{ended, unended, last_line, lines_of}
 use Rattle.xtc.specs.Session.{State, fresh}
 use Rattle.xtc.specs.Kept.{Kept, IsMapOf, Stands, HoldsAll, IsSettled}
-use Rattle.xtc.specs.Durable.{HoldsCommitted, HoldsFrom}
+use Rattle.xtc.specs.Durable.{HoldsCommitted, HoldsNow, HoldsFrom}
 use Rattle.xtc.specs.ScriptText.{answers, state_after, text_of, script_text}
 use Rattle.xtc.specs.Feeding.{Script, Standing, with_state, start, IsNew, brought, Fed, Overran, StopsFrom, IfStopped, Acknowledges, LogsFrom, Leaves, Logs, LogsLast, EndsInput}
 use Rattle.xtc.specs.Runs.{TakesFrom, RunLogs, RunLeaves, stopped}
-use Rattle.xtc.specs.TopCall.{Writes}
+use Rattle.xtc.specs.TopCall.{Writes, OfLinesDone}
 use Rattle.xtc.specs.declared.feeding.Stop.{Stop}
 use Rattle.xtc.specs.declared.feeding.Stop.TheVariants as stop
 use Rattle.xtc.specs.declared.status.Status.{Status}
 use Rattle.xtc.specs.declared.status.Status.TheVariants.{Done, LineTooLong, ReadFault, WriteFault, NoMemory}
 use Rattle.xtc.proofs.FeedingLaws.{none_from, leaves_on, flushed_on, fed_flush, state_after_on}
 use Rattle.xtc.proofs.LogLaws.{holds_more, acknowledges_more, logs_lines, logs_lines_more, logs_none, logs_on, logs_flushed}
-use Rattle.xtc.proofs.Exits.{at_start, from_start, lines_from, lines_on, done_text, end_front, whole_text, whole_front, flush_began, stop_front, long_text, long_front, as_error}
+use Rattle.xtc.proofs.Exits.{at_start, from_start, lines_from, lines_on, done_text, end_front, whole_text, whole_front, flush_began, stop_front, long_lines, long_text, long_front, as_error}
 
 -- a fault that was counted since a later moment was counted since an earlier one
 pub rose_on : (a b c : ℕ) → a ≤ b → Rose b c → Rose a c
@@ -51,6 +51,9 @@ module _ (limit : ℕ) (settled : Type 0) (s : State) where
 -- what its journal stands for
 pub settled_holds : (k : Kept) (t : State) → Stands k t → IsSettled k → HoldsCommitted t k.journal.told.now.reads
 settled_holds k t stands is = is.holds ∙ (λ i. Ok (record { entries = stands.committed.map i; number = stands.number i }))
+
+pub settled_now : (k : Kept) (t : State) → Stands k t → IsSettled k → HoldsNow t k.journal.told
+settled_now k t stands is = record { synced = is.synced; holds = settled_holds k t stands is }
 
 -- and what a crash leaves of it
 settled_left : (k : Kept) (t : State) → Stands k t → IsSettled k → (image : List ℕ) → IsImage k.journal.told.now image → HoldsCommitted t image
@@ -98,7 +101,7 @@ run_none limit settled s k h stands is = record {
   log = λ p. record {
     any_moment = started (HoldsFrom 0 s []) k.journal.told;
     left = acknowledges_all (start s) [] k h h stands (is p) ([], took_nothing h []);
-    done = λ d. cc;
+    done = tt;
   };
 }
 
@@ -114,12 +117,12 @@ of_stop P stop.WriteFault apart p = p
 of_stop P stop.DiskFault apart p = p
 of_stop P stop.NoMemory apart p = p
 
--- and its status isn't Done
-not_done : (e : Stop) → stopped e ≡ Done → ⊥
-not_done stop.LineTooLong h = cc
-not_done stop.WriteFault h = cc
-not_done stop.DiskFault h = cc
-not_done stop.NoMemory h = cc
+-- and its status says nothing of lines that were done
+none_done : (e : Stop) (read : List ℕ) (P : List (List ℕ) → Type 0) → OfLinesDone (stopped e) read P
+none_done stop.LineTooLong read P = tt
+none_done stop.WriteFault read P = tt
+none_done stop.DiskFault read P = tt
+none_done stop.NoMemory read P = tt
 
 writes_stopped : (limit : ℕ) (s : State) (e : Stop) (read : List ℕ) (h i : Option (List ℕ)) → TookFront h i (script_text s read) → Writes limit s (stopped e) read h i
 writes_stopped limit s stop.LineTooLong read h i p = p
@@ -132,16 +135,16 @@ logs_stopped : (s : State) (read : List ℕ) (old new : Kept) (h i : Option (Lis
 logs_stopped s read old new h i e apart p = record {
   any_moment = p.any_moment;
   left = of_stop (Acknowledges (start s) (lines_of read) new.journal.told h i) e apart p.stopped;
-  done = λ is. absurd (not_done e is);
+  done = none_done e read (λ lines. HoldsNow (state_after s lines) new.journal.told);
 }
 
 -- a script that did these lines and none behind them
-logs_settled : (s : State) (read : List ℕ) (status : Status) (old new : Kept) (h i : Option (List ℕ)) (xs ys : List (List ℕ)) → (status ≡ Done → ⊥) → lines_of read ≡ xs ++ ys → LeavesOnly (HoldsFrom 0 s (ended [] read)) old.journal.told new.journal.told
+logs_settled : (s : State) (read : List ℕ) (status : Status) (old new : Kept) (h i : Option (List ℕ)) (xs ys : List (List ℕ)) → (HoldsNow (state_after s xs) new.journal.told → OfLinesDone status read (λ lines. HoldsNow (state_after s lines) new.journal.told)) → lines_of read ≡ xs ++ ys → LeavesOnly (HoldsFrom 0 s (ended [] read)) old.journal.told new.journal.told
     → Stands new (state_after s xs) → IsSettled new → TookFront h i (text_of s xs) → RunLogs s read status old.journal.told new.journal.told h i
-logs_settled s read status old new h i xs ys apart lines moments stands is wrote = record {
+logs_settled s read status old new h i xs ys done lines moments stands is wrote = record {
   any_moment = weaker (HoldsFrom 0 s (ended [] read)) (HoldsFrom 0 s (lines_of read)) old.journal.told new.journal.told (holds_more 0 s (ended [] read) (last_line (unended [] read))) moments;
   left = subst (λ (ls : List (List ℕ)). Acknowledges (start s) ls new.journal.told h i) (sym lines) (acknowledges_more (start s) xs ys new.journal.told h i (acknowledges_all (start s) xs new h i stands is wrote));
-  done = λ d. absurd (apart d);
+  done = done (settled_now new (state_after s xs) stands is);
 }
 
 module _ (limit : ℕ) (settled : Type 0) (s : State) (a : Script) (new : IsNew a s) (h : Option (List ℕ)) (read : List ℕ) where
@@ -169,7 +172,7 @@ module _ (limit : ℕ) (settled : Type 0) (s : State) (a : Script) (new : IsNew 
             record {
               any_moment = all.any_moment;
               left = acknowledges_all (start s) (lines_of read) c.session h j ready all.settled ([], took_whole h j (script_text s read) text.0);
-              done = λ d. settled_holds c.session (state_after s (lines_of read)) ready all.settled;
+              done = settled_now c.session (state_after s (lines_of read)) ready all.settled;
             };
       }
 
@@ -194,7 +197,7 @@ module _ (limit : ℕ) (settled : Type 0) (s : State) (a : Script) (new : IsNew 
         text = text;
         log = λ is.
             let log = logs_start s a a.session b.session h i read (Ok tt) new (p.log is) in
-            logs_settled s read ReadFault a.session b.session h i (ended [] read) (last_line (unended [] read)) (λ d. cc) refl log.any_moment (subst (Stands b.session) fed.state p.leaves.1) log.settled ([], took_whole h i (text_of s (ended [] read)) text);
+            logs_settled s read ReadFault a.session b.session h i (ended [] read) (last_line (unended [] read)) (λ now. now) refl log.any_moment (subst (Stands b.session) fed.state p.leaves.1) log.settled ([], took_whole h i (text_of s (ended [] read)) text);
       }
 
   -- a step stopped for good
@@ -211,13 +214,13 @@ module _ (limit : ℕ) (settled : Type 0) (s : State) (a : Script) (new : IsNew 
       began stop.NoMemory apart q = q
 
   -- what a line that is too long leaves, once a front of the answers before it is written and the session is as it was
-  log_long : (b c : Script) (i j : Option (List ℕ)) (status : Status) (t : State) (over : Overran limit (start s) (with_state b t) h i read) → (status ≡ Done → ⊥) → Stands b.session t → c.session ≡ b.session → LogsFrom (with_state a s) a.session b.session h i (ended a.unended read) (Err stop.LineTooLong)
+  log_long : (b c : Script) (i j : Option (List ℕ)) (status : Status) (t : State) (over : Overran limit (start s) (with_state b t) h i read) → ((journal : Told) → HoldsNow (state_after s (ended [] over.done)) journal → OfLinesDone status read (λ lines. HoldsNow (state_after s lines) journal)) → Stands b.session t → c.session ≡ b.session → LogsFrom (with_state a s) a.session b.session h i (ended a.unended read) (Err stop.LineTooLong)
       → TookFront h j (text_of s (ended [] over.done)) → RunLogs s read status a.session.journal.told c.session.journal.told h j
-  log_long b c i j status t over apart stands same p wrote =
+  log_long b c i j status t over done stands same p wrote =
       let log = logs_start s a a.session b.session h i read (Err stop.LineTooLong) new p in
       let lines : lines_of read ≡ ended [] over.done ++ lines_from (unended [] over.done) (over.part ++ over.more) = ap lines_of (over.cut ∙ append_assoc over.done over.part over.more) ∙ lines_on over.done (over.part ++ over.more) in
       subst (λ (k : Kept). RunLogs s read status a.session.journal.told k.journal.told h j) (sym same)
-      (logs_settled s read status a.session b.session h j (ended [] over.done) _ apart lines log.any_moment (subst (Stands b.session) over.fed.state stands) log.settled wrote)
+      (logs_settled s read status a.session b.session h j (ended [] over.done) _ (done b.session.journal.told) lines log.any_moment (subst (Stands b.session) over.fed.state stands) log.settled wrote)
 
   -- a line is too long, and the answers before it are written
   pub run_too_long : (b c : Script) (i j : Option (List ℕ)) (n : ℕ) → TakesFrom limit settled s a b h i read (Err stop.LineTooLong) → Leaves limit b c i j [] (Ok tt) → c.session ≡ b.session → c.pending ≡ [] → n ≡ b.lines + 1
@@ -230,7 +233,7 @@ module _ (limit : ℕ) (settled : Type 0) (s : State) (a : Script) (new : IsNew 
       let front = whole_text limit s (with_state c flushed.0) h j over.done (fed_flush limit (start s) (with_state b t) (with_state c flushed.0) h i j over.done over.fed flushed.2) written in
       record {
         text = long_text limit s (with_state b t) (with_state c flushed.0) h i j read n over flushed.2 written number;
-        log = λ is. log_long b c i j (LineTooLong n) t over (λ d. cc) stands same (p.log is) ([], took_whole h j (text_of s (ended [] over.done)) front);
+        log = λ is. log_long b c i j (LineTooLong n) t over (λ journal. subst (λ (ls : List (List ℕ)). HoldsNow (state_after s ls) journal) (sym (long_lines limit s (with_state b t) h i read n over number))) stands same (p.log is) ([], took_whole h j (text_of s (ended [] over.done)) front);
       }
 
   -- a line is too long, and the sink took a front of the answers before it
@@ -243,5 +246,5 @@ module _ (limit : ℕ) (settled : Type 0) (s : State) (a : Script) (new : IsNew 
       let began = flush_began limit t b c i j e fault (leaves t stands) in
       record {
         text = long_front limit s (with_state b t) h i j read over began;
-        log = λ is. log_long b c i j WriteFault t over (λ d. cc) stands same (p.log is) (whole_front limit s (with_state b t) h i j over.done over.fed began);
+        log = λ is. log_long b c i j WriteFault t over (λ journal now. tt) stands same (p.log is) (whole_front limit s (with_state b t) h i j over.done over.fed began);
       }

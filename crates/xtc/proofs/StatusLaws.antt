@@ -4,12 +4,13 @@ use Rattle.std.specs.Prelude.{IfSome}
 use Rattle.outside_traits.specs.Disks.{rests}
 use Rattle.outside_traits.specs.CrashImages.{IsImage}
 use Rattle.outside_traits.specs.Moments.{Told, LeavesOnly}
-use Rattle.outside_traits.specs.DiskPairs.{Pair}
+use Rattle.outside_traits.specs.DiskPairs.{Pair, PairsHave}
 use Rattle.outside_traits.proofs.Laws.{took_none, took_nothing}
 use Rattle.outside_traits.proofs.ImageLaws.{image-rests}
 use Rattle.outside_traits.proofs.MomentLaws.{weaker}
 use Rattle.outside_traits.proofs.PairLaws.{journal_phase}
 use Rattle.tree_model.specs.Entries.{Entries}
+use Rattle.tree_model.specs.WellFormed.{WellFormed}
 use Rattle.tree_model.specs.Tree.{Tree}
 use Rattle.node_records.specs.declared.open_error.Place.{Place}
 use Rattle.node_records.specs.declared.open_error.OpenError.{OpenError}
@@ -21,14 +22,15 @@ use Rattle.xtc.specs.declared.status.Status.{Status}
 use Rattle.xtc.specs.declared.status.Status.TheVariants.{Done, Usage, LineTooLong, Damaged, ReadFault, WriteFault, DiskFault, NoMemory}
 use Rattle.xtc.specs.Statuses.{status_of}
 use Rattle.xtc.specs.Session.{State, fresh}
-use Rattle.xtc.specs.ScriptText.{script_text}
+use Rattle.xtc.specs.ScriptText.{script_text, state_after}
 use Rattle.xtc.specs.Commits.{committed_of}
 use Rattle.xtc.specs.Kept.{IsMapOf}
-use Rattle.xtc.specs.Durable.{HoldsFrom}
+use Rattle.xtc.specs.Lines.{ended, lines_of}
+use Rattle.xtc.specs.Durable.{HoldsNow, HoldsFrom}
 use Rattle.xtc.specs.Feeding.{start, Acknowledges}
 use Rattle.xtc.specs.Runs.{IsOfRun}
-use Rattle.xtc.specs.TopCall.{bytes_read, Writes, Fits, OpenAfterSome, OpenAfterAnswered, count_taken, Unopened, Ran, CrashLeaves, IsSilent}
-use Rattle.xtc.proofs.CrashLaws.{holds_some, holds_answered}
+use Rattle.xtc.specs.TopCall.{bytes_read, Writes, Fits, OfLinesDone, OpenAfterSome, OpenAfterAll, OpenAfterAnswered, count_taken, Unopened, Ran, CrashLeaves, IsSilent}
+use Rattle.xtc.proofs.CrashLaws.{holds_all, holds_some, holds_answered}
 
 -- whatever was read
 pub if_read : (P : List ℕ → Type 0) (left : Option (List ℕ)) (before now : ℕ) → ((read : List ℕ) → P read) → IfSome (bytes_read left before now) P
@@ -71,7 +73,23 @@ unopened_leaves limit lines taken old new (error.Damaged place) h = h
 unopened_leaves limit lines taken old new error.DiskFault h = inl h
 unopened_leaves limit lines taken old new error.NoMemory h = inl h
 
+pub unopened_done : (read : List ℕ) (P : List (List ℕ) → Type 0) (fault : OpenError) → OfLinesDone (status_of fault) read P
+unopened_done read P (error.Damaged place) = tt
+unopened_done read P error.DiskFault = tt
+unopened_done read P error.NoMemory = tt
+
 -- ---- a script that ran
+
+-- what holds of the lines that were done leads to what else does
+pub done_leads : (status : Status) (read : List ℕ) (P Q : List (List ℕ) → Type 0) → ((lines : List (List ℕ)) → P lines → Q lines) → OfLinesDone status read P → OfLinesDone status read Q
+done_leads Done read P Q leads h = leads (lines_of read) h
+done_leads (LineTooLong n) read P Q leads h = leads (take (n - 1) (lines_of read)) h
+done_leads ReadFault read P Q leads h = leads (ended [] read) h
+done_leads Usage read P Q leads h = tt
+done_leads (Damaged place) read P Q leads h = tt
+done_leads WriteFault read P Q leads h = tt
+done_leads DiskFault read P Q leads h = tt
+done_leads NoMemory read P Q leads h = tt
 
 -- the files stood for something
 pub run_fits : (contents : Contents) (opened : Result Contents Place) (status : Status) → IsOfRun status → opened ≡ Ok contents → Fits status opened
@@ -129,3 +147,13 @@ ran t n limit lines old opening new before now stood until_open still empty log 
   where
     none : (pages : List ℕ) → IsImage opening.pages.now pages → pages ≡ []
     none pages is = image-rests [] pages (subst (λ d. IsImage d pages) empty is)
+
+-- a journal that holds what is committed after these lines, beside pages that are empty: what is read, and what a crash leaves
+pub read_after_all : (t : Tree) (n limit : ℕ) (lines : List (List ℕ)) (journal : Told) (pages : List ℕ) → WellFormed t → pages ≡ [] → HoldsNow (state_after (fresh t n limit) lines) journal → OpenAfterAll t n limit lines journal.now.reads pages
+read_after_all t n limit lines journal pages formed empty h = subst (OpenAfterAll t n limit lines journal.now.reads) (sym empty) (holds_all t n limit formed lines journal.now.reads h.holds)
+
+pub left_after_all : (t : Tree) (n limit : ℕ) (lines : List (List ℕ)) (new : Pair) → WellFormed t → new.pages.now ≡ rests [] → HoldsNow (state_after (fresh t n limit) lines) new.journal → PairsHave (OpenAfterAll t n limit lines) new
+left_after_all t n limit lines new formed empty h journal pages of_journal of_pages =
+    let none : pages ≡ [] = image-rests [] pages (subst (λ d. IsImage d pages) empty of_pages) in
+    let same : journal ≡ new.journal.now.reads = image-rests new.journal.now.reads journal (subst (λ d. IsImage d journal) h.synced of_journal) in
+    subst (λ j. OpenAfterAll t n limit lines j pages) (sym same) (read_after_all t n limit lines new.journal pages formed none h)

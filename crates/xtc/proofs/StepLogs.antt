@@ -13,7 +13,7 @@ use Rattle.xtc.specs.ScriptLine.{line_of}
 use Rattle.xtc.specs.ScriptText.{after_line}
 use Rattle.xtc.specs.Session.{State}
 use Rattle.xtc.specs.Kept.{Kept, Stands, IsSettled}
-use Rattle.xtc.specs.Durable.{HoldsCommitted, HoldsEither, HoldsFrom, HasDiskCause}
+use Rattle.xtc.specs.Durable.{HoldsCommitted, HoldsEither, HoldsFrom, HaltsByDisk}
 use Rattle.xtc.specs.Feeding.{Script, Standing, with_state, stop_of, LeavesFrom, Acknowledges, IfGoesOn, IfStopped, LogsFrom}
 use Rattle.xtc.specs.declared.line.Line.{Line}
 use Rattle.xtc.specs.declared.halt.Halt.{Halt}
@@ -106,7 +106,7 @@ halted limit s a b held bytes halts.DiskFault = (_, took_nothing held _)
 halted limit s a b held bytes halts.NoMemory = (_, took_nothing held _)
 
 -- memory that isn't had is no fault of the disk
-pub no_cause : (before now : ℕ) → before ≤ now → HasDiskCause {T = Unit {0}} before now (Err halts.NoMemory)
+pub no_cause : (before now : ℕ) → before ≤ now → HaltsByDisk {T = Unit {0}} before now (Err halts.NoMemory)
 no_cause before now later = record { later = later; failed = λ e. cc }
 
 -- the moments of a line are those of the session's answer to it

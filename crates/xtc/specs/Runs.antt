@@ -4,14 +4,14 @@ use Rattle.outside_traits.specs.Moments.{Told, LeavesOnly}
 use Rattle.xtc.specs.Lines.{ended, lines_of}
 use Rattle.xtc.specs.Session.{State}
 use Rattle.xtc.specs.ScriptText.{state_after}
-use Rattle.xtc.specs.Durable.{HoldsCommitted, HoldsFrom}
+use Rattle.xtc.specs.Durable.{HoldsNow, HoldsFrom}
 use Rattle.xtc.specs.Feeding.{Script, with_state, start, LeavesFrom, LogsFrom, Acknowledges}
 use Rattle.xtc.specs.declared.feeding.Stop.{Stop}
 use Rattle.xtc.specs.declared.feeding.Stop.TheVariants as stop
 use Rattle.xtc.specs.declared.top_call.Input.{Input}
-use Rattle.xtc.specs.TopCall.{Writes}
+use Rattle.xtc.specs.TopCall.{Writes, OfLinesDone}
 use Rattle.xtc.specs.declared.status.Status.{Status}
-use Rattle.xtc.specs.declared.status.Status.TheVariants.{Done, Usage, Damaged, WriteFault, DiskFault, NoMemory}
+use Rattle.xtc.specs.declared.status.Status.TheVariants.{Usage, Damaged, WriteFault, DiskFault, NoMemory}
 
 -- ---- the steps of a run
 
@@ -37,7 +37,7 @@ stopped stop = NoMemory
 pub record RunLogs (s : State) (read : List ℕ) (status : Status) (old new : Told) (before now : Option (List ℕ)) : Type 0 where
   pub any_moment : LeavesOnly (HoldsFrom 0 s (lines_of read)) old new
   pub left : Acknowledges (start s) (lines_of read) new before now
-  pub done : status ≡ Done → HoldsCommitted (state_after s (lines_of read)) new.now.reads
+  pub done : OfLinesDone status read (λ lines. HoldsNow (state_after s lines) new)
 
 -- a script of which these bytes were read, from this state; the journal is spoken of where this is so
 pub record RunLeaves (limit : ℕ) (settled : Type 0) (s : State) (read : List ℕ) (status : Status) (old new : Told) (before now : Option (List ℕ)) : Type 0 where

@@ -63,6 +63,13 @@ pub record OpenAfterSome (t : Tree) (n : ℕ) (commits : List Transaction) (jour
   pub within : count ≤ length commits
   pub opens : OpenAfter t n commits count journal pages
 
+-- of the lines that a script has done where nothing has failed but a read: all of them, those that had ended, or those before a long one
+abbrev pub OfLinesDone : Status → List ℕ → (List (List ℕ) → Type 0) → Type 0
+OfLinesDone Done read P = P (lines_of read)
+OfLinesDone (LineTooLong n) read P = P (take (n - 1) (lines_of read))
+OfLinesDone ReadFault read P = P (ended [] read)
+OfLinesDone status read P = Unit {0}
+
 -- how many bytes a sink took, where it tells them
 abbrev pub count_taken : Option (List ℕ) → Option (List ℕ) → Option ℕ
 count_taken (Some before) (Some now) = Some (length now - length before)
@@ -103,7 +110,7 @@ CrashLeaves limit DiskFault lines taken old new = Unopened taken old new ⊎ Ran
 CrashLeaves limit NoMemory lines taken old new = Unopened taken old new ⊎ Ran limit lines taken old new
 CrashLeaves limit status lines taken old new = Ran limit lines taken old new
 
--- nothing is written where no line is taken
+-- so it is where no line is taken
 abbrev pub IsSilent : Status → Type 0 → Type 0
 IsSilent Usage P = P
 IsSilent (Damaged place) P = P

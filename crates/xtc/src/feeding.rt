@@ -2,7 +2,7 @@ ghost use Rattle.std.specs.Prelude.{◌≡◌, ◌==◌, position, ◌≢◌, �
 ghost use Rattle.outside_traits.specs.Faults.{HasCause};
 ghost use Rattle.xtc.specs.Session.{State};
 ghost use Rattle.xtc.specs.Kept.{Stands, IsReady, IsSettled};
-ghost use Rattle.xtc.specs.Durable.{HasDiskCause as HaltsByDisk, HoldsEither};
+ghost use Rattle.xtc.specs.Durable.{HaltsByDisk, HoldsEither};
 ghost use Rattle.xtc.specs.ScriptText.{after_line, state_after};
 ghost use Rattle.xtc.specs.Lines.{last_line};
 ghost use Rattle.xtc.specs.ScriptLine.{line_of};

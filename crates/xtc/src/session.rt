@@ -11,7 +11,7 @@ ghost use Rattle.node_records.specs.Changes.{Fits};
 ghost use Rattle.xtc.specs.ScriptLine.{IsLawfulRequest, IsLawfulLine};
 ghost use Rattle.xtc.specs.Session.{State, fresh, answer_to, after, commit_body};
 ghost use Rattle.xtc.specs.Kept.{Stands, IsReady, IsSettled, IsMapOf};
-ghost use Rattle.xtc.specs.Durable.{HoldsEither, HasDiskCause};
+ghost use Rattle.xtc.specs.Durable.{HoldsEither, HaltsByDisk};
 ghost use Rattle.xtc.specs.Calls.{OnTree, bare_element, entries_of_reply};
 ghost use Rattle.xtc.specs.ScriptText.{after_line};
 ghost use Rattle.xtc.specs.Replies.{line_text, answer_text};
@@ -143,7 +143,7 @@ impl<J: Disk> Session<J> {
         // A crash at any moment of it leaves what was committed before the line or what is after it.
         ensures any_moment { IsTrue J.tells → IsSettled self.old → (s : State) → Stands self.old s
             → LeavesOnly (HoldsEither s (after_line s line)) self.old.journal.told self.new.journal.told }
-        ensures cause { HasDiskCause self.old.journal.faults self.new.journal.faults result }
+        ensures cause { HaltsByDisk self.old.journal.faults self.new.journal.faults result }
     {
         match line {
             Line::Blank => Ok(()),
@@ -162,7 +162,7 @@ impl<J: Disk> Session<J> {
         ensures settled { OnOk result (IsTrue J.tells → IsSettled self.old → IsSettled self.new) }
         ensures any_moment { IsTrue J.tells → IsSettled self.old → (s : State) → Stands self.old s
             → LeavesOnly (HoldsEither s (after s what)) self.old.journal.told self.new.journal.told }
-        ensures cause { HasDiskCause self.old.journal.faults self.new.journal.faults result }
+        ensures cause { HaltsByDisk self.old.journal.faults self.new.journal.faults result }
     {
         let answer = match what {
             What::Begin => self.begin(),
@@ -199,7 +199,7 @@ impl<J: Disk> Session<J> {
         ensures settled { OnOk result (IsTrue J.tells → IsSettled self.old → IsSettled self.new) }
         ensures any_moment { IsTrue J.tells → IsSettled self.old → (s : State) → Stands self.old s
             → LeavesOnly (HoldsEither s (after s What.Commit)) self.old.journal.told self.new.journal.told }
-        ensures cause { HasDiskCause self.old.journal.faults self.new.journal.faults result }
+        ensures cause { HaltsByDisk self.old.journal.faults self.new.journal.faults result }
     {
         if !self.live {
             return Ok(write_answer(alloc, &Err(SessionError::NoTransaction), out)?);

@@ -1,6 +1,6 @@
 ghost use Rattle.std.specs.Prelude.{◌≡◌, ◌≢◌, ◌↔◌, ◌+◌, ◌<◌, ◌≤◌, ℕ, List, [], length, OnOk, IsTrue, false, Ok, Err, IfSome, IfOk};
 ghost use Rattle.outside_traits.specs.Bytes.{Gave};
-ghost use Rattle.outside_traits.specs.DiskPairs.{pair_of};
+ghost use Rattle.outside_traits.specs.DiskPairs.{PairsHave, pair_of};
 ghost use Rattle.outside_traits.specs.Disks.{rests};
 ghost use Rattle.outside_traits.specs.Faults.{Rose};
 ghost use Rattle.tree_model.specs.StoredTree.{IsStoredTree};
@@ -17,7 +17,7 @@ ghost use Rattle.xtc.specs.Feeding.{IsNew, HasWriteCause, HasDiskCause, IfGoesOn
 ghost use Rattle.xtc.specs.Lines.{lines_of};
 ghost use Rattle.xtc.specs.Commits.{IsSerial};
 ghost use Rattle.xtc.specs.Runs.{IsOfRun, RunLeaves, TakesFrom, stopped, went};
-ghost use Rattle.xtc.specs.TopCall.{bytes_read, Writes, ReadCause, Fits, OpenAfterAll, CrashLeaves, IsSilent, count_taken};
+ghost use Rattle.xtc.specs.TopCall.{bytes_read, Writes, ReadCause, Fits, OpenAfterAll, OfLinesDone, CrashLeaves, IsSilent, count_taken};
 
 use crate::feeding::{LINE_LIMIT, Script, Stop};
 use crate::session::Session;
@@ -65,15 +65,21 @@ pub fn xtc<S: Source, K: Sink, J: Disk + Send, P: Disk + Send>(
             (λ read. Writes LINE_LIMIT (fresh t n TX_LIMIT) result.status read (K.held sink.old) (K.held sink.new)) }
     ensures whole { result.status ≡ Status.Done → bytes_read (S.left source.old) (S.given source.old) (S.given source.new) ≡ S.left source.old }
     ensures nothing { IsSilent result.status (K.held sink.new ≡ K.held sink.old) }
+    ensures unread { IsSilent result.status ((S.left source.new ≡ S.left source.old) × (S.given source.new ≡ S.given source.old)) }
 
     // The commits of any bytes, run by one thread, give the replies that are written for them.
     ensures serial { IfSome (bytes_read (S.left source.old) (S.given source.old) (S.given source.new))
         (λ read. (t : Tree) (n : ℕ) → IsSerial (fresh t n TX_LIMIT) (lines_of read)) }
 
-    // What the files stand for at the end of the input, and what a crash leaves of them now and at any moment before.
+    // Where nothing has failed but a read, the files stand for the tree after all commits of the lines that were done, and so does what a crash leaves.
     ensures done { IsTrue J.tells → IsTrue P.tells → (t : Tree) (n : ℕ) → StandFor (J.told journal).now.reads (P.told pages).now.reads t n
-        → result.status ≡ Status.Done → IfSome (bytes_read (S.left source.old) (S.given source.old) (S.given source.new))
-            (λ read. OpenAfterAll t n TX_LIMIT (lines_of read) (J.told result.journal).now.reads (P.told result.pages).now.reads) }
+        → IfSome (bytes_read (S.left source.old) (S.given source.old) (S.given source.new)) (λ read. OfLinesDone result.status read
+            (λ lines. OpenAfterAll t n TX_LIMIT lines (J.told result.journal).now.reads (P.told result.pages).now.reads)) }
+    ensures lasting { IsTrue J.tells → IsTrue P.tells → (t : Tree) (n : ℕ) → StandFor (J.told journal).now.reads (P.told pages).now.reads t n
+        → IfSome (bytes_read (S.left source.old) (S.given source.old) (S.given source.new)) (λ read. OfLinesDone result.status read
+            (λ lines. PairsHave (OpenAfterAll t n TX_LIMIT lines) (pair_of (J.told result.journal) (P.told result.pages)))) }
+
+    // Whatever the status, what a crash leaves now and at any moment before.
     ensures crash { IsTrue J.tells → IsTrue P.tells → IfSome (bytes_read (S.left source.old) (S.given source.old) (S.given source.new))
         (λ read. CrashLeaves TX_LIMIT result.status (lines_of read) (count_taken (K.held sink.old) (K.held sink.new)) (pair_of (J.told journal) (P.told pages)) (pair_of (J.told result.journal) (P.told result.pages))) }
 
@@ -179,7 +185,7 @@ fn run<S: Source, K: Sink, J: Disk>(
     match take_all(script, alloc, source, sink, buffer) {
         Ok(Input::Ended) => match script.finish(alloc, sink) {
             Ok(()) => Status::Done,
-            Err(stop) => status_of(stop),
+            Err(stop) => status_of_stop(stop),
         },
         Ok(Input::Fault) => Status::ReadFault,
         Err(Stop::LineTooLong) => match script.flush(sink) {
@@ -188,12 +194,12 @@ fn run<S: Source, K: Sink, J: Disk>(
             },
             Err(_) => Status::WriteFault,
         },
-        Err(stop) => status_of(stop),
+        Err(stop) => status_of_stop(stop),
     }
 }
 
 /// The status of a script that stopped for good.
-fn status_of(stop: Stop) -> Status
+fn status_of_stop(stop: Stop) -> Status
     requires { stop ≢ Stop.LineTooLong }
     ensures { result ≡ stopped stop }
 {

@@ -1,9 +1,6 @@
-use Rattle.std.proofs.Common.{rules, ◌≡◌, ◌≢◌, ◌+◌, ◌≤◌, ℕ, List, ap, ◌∙◌, subst, sym, Ok, Err, IsTrue}
-use Rattle.std.specs.Prelude.{Option, Result}
-use Rattle.xtc.specs.Session.{State}
-use Rattle.xtc.specs.Kept.{Kept, IsSettled}
-use Rattle.xtc.specs.Feeding.{Script}
-use Rattle.xtc.specs.Runs.{TakesFrom, RunLeaves, IsOfRun, stopped}
+use Rattle.std.proofs.Common.{rules, ◌≢◌, ◌+◌, ap, ◌∙◌, subst, sym, Err, IsTrue}
+use Rattle.xtc.specs.Kept.{IsSettled}
+use Rattle.xtc.specs.Runs.{TakesFrom, RunLeaves}
 use Rattle.xtc.specs.declared.feeding.Stop.{Stop}
 use Rattle.xtc.specs.declared.feeding.Stop.TheVariants as stop
 use Rattle.xtc.specs.declared.status.Status.{Status}
@@ -24,7 +21,7 @@ returns-in-Err-finish-clause-leaves g c =
     let e = c.in-Err-finish.stop in
     let settled : Type 0 = IsTrue g.J.Disk.tells × IsSettled c.args.script.now.session in
     (so.0, so.1, so.2, λ s new.
-    subst (λ (v : Status). RunLeaves LINE_LIMIT settled s so.0 v c.args.script.now.session.journal.told c.finish.new.self.session.journal.told (g.K.Sink.held c.args.sink.now) (g.K.Sink.held c.finish.new.sink)) (sym c.status_of.ensures)
+    subst (λ (v : Status). RunLeaves LINE_LIMIT settled s so.0 v c.args.script.now.session.journal.told c.finish.new.self.session.journal.told (g.K.Sink.held c.args.sink.now) (g.K.Sink.held c.finish.new.sink)) (sym c.status_of_stop.ensures)
     (run_end_stopped LINE_LIMIT settled s c.args.script.now new _ so.0 c.take_all.new.script c.finish.new.self _ _ e (λ is. f.error (ap Err is)) (so.3 s new) f.ends (λ p. f.log p.0)))
 
 pub returns-in-Ok-Fault-clause-leaves : goal.returns-in-Ok-Fault-clause-leaves
@@ -57,5 +54,5 @@ returns-in-Err-clause-leaves g c =
     let apart : e ≢ stop.LineTooLong = search rules in
     let settled : Type 0 = IsTrue g.J.Disk.tells × IsSettled c.args.script.now.session in
     (so.0, so.1, so.2, λ s new.
-    subst (λ (v : Status). RunLeaves LINE_LIMIT settled s so.0 v c.args.script.now.session.journal.told c.take_all.new.script.session.journal.told (g.K.Sink.held c.args.sink.now) (g.K.Sink.held c.take_all.new.sink)) (sym c.status_of-in-Err.ensures)
+    subst (λ (v : Status). RunLeaves LINE_LIMIT settled s so.0 v c.args.script.now.session.journal.told c.take_all.new.script.session.journal.told (g.K.Sink.held c.args.sink.now) (g.K.Sink.held c.take_all.new.sink)) (sym c.status_of_stop-in-Err.ensures)
     (run_stopped LINE_LIMIT settled s c.args.script.now new _ so.0 c.take_all.new.script _ e apart (so.3 s new)))

@@ -1,15 +1,8 @@
-use Rattle.std.proofs.Common.{◌≡◌, ◌+◌, ℕ, List, [], length, refl, ap, ◌∙◌, subst, sym, arith, add-zero, IsTrue}
-use Rattle.std.specs.Prelude.{Option}
+use Rattle.std.proofs.Common.{◌≡◌, ◌+◌, [], length, ap, ◌∙◌, subst, sym, add-zero, IsTrue}
 use Rattle.outside_traits.specs.Bytes.{Gave}
-use Rattle.outside_traits.specs.Moments.{Told}
 use Rattle.outside_traits.proofs.Laws.{gave_none}
-use Rattle.tree_model.specs.Tree.{Tree}
 use Rattle.xtc.specs.Session.{fresh}
-use Rattle.xtc.specs.Kept.{Kept, HoldsAll, IsMapOf, IsSettled, Stands}
-use Rattle.xtc.specs.Feeding.{Script}
-use Rattle.xtc.specs.Runs.{RunLeaves}
-use Rattle.xtc.specs.declared.status.Status.{Status}
-use Rattle.xtc.specs.declared.status.Status.TheVariants.{NoMemory}
+use Rattle.xtc.specs.Kept.{HoldsAll, IsSettled}
 use Rattle.xtc.specs.declared.feeding.TheConstants.{LINE_LIMIT}
 use Rattle.xtc.specs.declared.top_call.TheConstants.{TX_LIMIT}
 use Rattle.xtc.proofs.RunLaws.{settled_new, run_as, run_where, run_none}

@@ -1,11 +1,9 @@
 use Rattle.std.specs.Option.{option_map}
-use Rattle.std.proofs.Common.{rules, arith, refl, ap, ◌∙◌, append-nil, ◌≡◌, ◌+◌, ◌≤◌, [], ◌++◌, List, ℕ, take, sym, subst, length-append, Ok, Err, IsTrue}
+use Rattle.std.proofs.Common.{rules, arith, refl, ap, ◌∙◌, append-nil, ◌≡◌, ◌+◌, ◌≤◌, [], ◌++◌, take, sym, subst, length-append, Ok, Err, IsTrue}
 use Rattle.outside_traits.specs.Bytes.{Gave}
 use Rattle.outside_traits.proofs.Laws.{gave_none, gave_on}
-use Rattle.xtc.specs.Session.{State}
 use Rattle.xtc.specs.Kept.{Kept, IsReady, IsSettled}
 use Rattle.xtc.specs.declared.feeding.TheConstants.{LINE_LIMIT}
-use Rattle.xtc.specs.declared.feeding.Stop.{Stop}
 use Rattle.xtc.specs.declared.feeding.Stop.TheVariants.{WriteFault, DiskFault}
 use Rattle.xtc.proofs.RunLaws.{takes_none, takes_on, takes_flushed, rose_on}
 use Rattle.xtc.proofs.top_call.take_pieces.Goals as goal

@@ -1,5 +1,5 @@
 use Rattle.std.proofs.Common.{◌≡◌, ◌∙◌, List, ℕ, [], refl, sym, ap, subst, Ok}
-use Rattle.outside_traits.specs.DiskPairs.{pair_of}
+use Rattle.outside_traits.specs.DiskPairs.{PairsHave, pair_of}
 use Rattle.outside_traits.specs.Disks.{rests}
 use Rattle.tree_model.specs.Tree.{Tree}
 use Rattle.recovery.specs.Trees.{StandFor}
@@ -8,13 +8,14 @@ use Rattle.xtc.specs.Lines.{lines_of}
 use Rattle.xtc.specs.Session.{fresh}
 use Rattle.xtc.specs.Commits.{IsSerial}
 use Rattle.xtc.specs.Kept.{IsMapOf, HoldsAll}
-use Rattle.xtc.specs.TopCall.{Writes, OpenAfterAll, Unopened, CrashLeaves, count_taken}
+use Rattle.xtc.specs.Durable.{HoldsNow}
+use Rattle.xtc.specs.ScriptText.{state_after}
+use Rattle.xtc.specs.TopCall.{Writes, OfLinesDone, OpenAfterAll, Unopened, CrashLeaves, count_taken}
 use Rattle.xtc.specs.declared.feeding.TheConstants.{LINE_LIMIT}
 use Rattle.xtc.specs.declared.top_call.TheConstants.{TX_LIMIT}
 use Rattle.xtc.proofs.Exits.{read_is, whole_is}
 use Rattle.xtc.proofs.SerialLaws.{is_serial}
-use Rattle.xtc.proofs.CrashLaws.{holds_all}
-use Rattle.xtc.proofs.StatusLaws.{if_read, stood_is, beside_none, unopened_text, nothing_taken, unopened_leaves, run_fits, run_not_silent, run_leaves, ran}
+use Rattle.xtc.proofs.StatusLaws.{if_read, stood_is, beside_none, unopened_text, nothing_taken, unopened_leaves, run_fits, run_not_silent, run_leaves, ran, unopened_done, done_leads, read_after_all, left_after_all}
 use Rattle.xtc.proofs.top_call.xtc.Goals as goal
 
 abbrev Serial : List ℕ → Type 0
@@ -49,6 +50,20 @@ returns-in-Err-clause-crash g c = λ tj tp.
     if_read (λ read. CrashLeaves TX_LIMIT c.from.result (lines_of read) (count_taken held held) old new) (g.S.Source.left c.args.source.now) (g.S.Source.given c.args.source.now) (g.S.Source.given c.args.source.now)
     (λ read. subst (λ status. CrashLeaves TX_LIMIT status (lines_of read) (count_taken held held) old new) (sym c.from.ensures) (unopened_leaves TX_LIMIT (lines_of read) (count_taken held held) old new refused.fault unopened))
 
+pub returns-in-Err-clause-done : goal.returns-in-Err-clause-done
+returns-in-Err-clause-done g c = λ tj tp t n stand.
+    let refused = c.in-Err.field-0 in
+    let Open : List (List ℕ) → Type 0 = λ lines. OpenAfterAll t n TX_LIMIT lines (g.J.Disk.told refused.journal).now.reads (g.P.Disk.told refused.pages).now.reads in
+    if_read (λ read. OfLinesDone c.from.result read Open) (g.S.Source.left c.args.source.now) (g.S.Source.given c.args.source.now) (g.S.Source.given c.args.source.now)
+    (λ read. subst (λ status. OfLinesDone status read Open) (sym c.from.ensures) (unopened_done read Open refused.fault))
+
+pub returns-in-Err-clause-lasting : goal.returns-in-Err-clause-lasting
+returns-in-Err-clause-lasting g c = λ tj tp t n stand.
+    let refused = c.in-Err.field-0 in
+    let Left : List (List ℕ) → Type 0 = λ lines. PairsHave (OpenAfterAll t n TX_LIMIT lines) (pair_of (g.J.Disk.told refused.journal) (g.P.Disk.told refused.pages)) in
+    if_read (λ read. OfLinesDone c.from.result read Left) (g.S.Source.left c.args.source.now) (g.S.Source.given c.args.source.now) (g.S.Source.given c.args.source.now)
+    (λ read. subst (λ status. OfLinesDone status read Left) (sym c.from.ensures) (unopened_done read Left refused.fault))
+
 -- ---- the script ran
 
 pub returns-in-Ok-clause-serial : goal.returns-in-Ok-clause-serial
@@ -77,24 +92,50 @@ returns-in-Ok-clause-whole g c = λ done.
 pub returns-in-Ok-clause-nothing : goal.returns-in-Ok-clause-nothing
 returns-in-Ok-clause-nothing g c = run_not_silent c.run_store.result.status _ c.run_store.ensures.status
 
+pub returns-in-Ok-clause-unread : goal.returns-in-Ok-clause-unread
+returns-in-Ok-clause-unread g c = run_not_silent c.run_store.result.status _ c.run_store.ensures.status
+
 pub returns-in-Ok-clause-files : goal.returns-in-Ok-clause-files
 returns-in-Ok-clause-files g c = λ tj tp. run_fits _ _ c.run_store.result.status c.run_store.ensures.status (c.in-Ok.ensures.opens tj tp)
 
+-- the tree that the files stand for is that of the store, and what is left stands for it after the lines that were done
 pub returns-in-Ok-clause-done : goal.returns-in-Ok-clause-done
-returns-in-Ok-clause-done g c = λ tj tp t n stand done.
+returns-in-Ok-clause-done g c = λ tj tp t n stand.
     let left = g.S.Source.left c.args.source.now in
     let rest = g.S.Source.left c.run_store.new.source in
     let given = g.S.Source.given c.args.source.now in
     let given_now = g.S.Source.given c.run_store.new.source in
     let store = c.in-Ok.store in
-    let journal = (g.J.Disk.told c.run_store.result.journal).now.reads in
+    let status = c.run_store.result.status in
+    let journal = g.J.Disk.told c.run_store.result.journal in
     let pages = (g.P.Disk.told c.run_store.result.pages).now.reads in
     let is = stood_is (g.J.Disk.told c.args.journal).now.reads (g.P.Disk.told c.args.pages).now.reads t n store.base store.number stand (c.in-Ok.ensures.opens tj tp) in
     let settled : HoldsAll store.journal.told store.base store.number = record { synced = c.in-Ok.ensures.journal_synced tj; holds = beside_none _ _ _ (c.in-Ok.ensures.opens_now tj tp) } in
     let run = c.run_store.ensures.leaves in
     let none : pages ≡ [] = ap (λ p. (g.P.Disk.told p).now.reads) c.run_store.ensures.pages ∙ pages_empty _ _ _ (c.in-Ok.ensures.opens_now tj tp) in
-    let opens : OpenAfterAll t store.number TX_LIMIT (lines_of run.0) journal [] = holds_all t store.number TX_LIMIT is.0.formed (lines_of run.0) journal (((run.3 t is.0).log (tj, settled)).done done) in
-    read_is (λ read. OpenAfterAll t n TX_LIMIT (lines_of read) journal pages) left rest given given_now run.0 run.1 run.2 (subst (λ k. OpenAfterAll t k TX_LIMIT (lines_of run.0) journal pages) is.1 (subst (λ p. OpenAfterAll t store.number TX_LIMIT (lines_of run.0) journal p) (sym none) opens))
+    let Holds : List (List ℕ) → Type 0 = λ lines. HoldsNow (state_after (fresh t store.number TX_LIMIT) lines) journal in
+    let Open : ℕ → List (List ℕ) → Type 0 = λ k lines. OpenAfterAll t k TX_LIMIT lines journal.now.reads pages in
+    read_is (λ read. OfLinesDone status read (Open n)) left rest given given_now run.0 run.1 run.2
+    (subst (λ k. OfLinesDone status run.0 (Open k)) is.1 (done_leads status run.0 Holds (Open store.number) (λ lines. read_after_all t store.number TX_LIMIT lines journal pages is.0.formed none) ((run.3 t is.0).log (tj, settled)).done))
+
+pub returns-in-Ok-clause-lasting : goal.returns-in-Ok-clause-lasting
+returns-in-Ok-clause-lasting g c = λ tj tp t n stand.
+    let left = g.S.Source.left c.args.source.now in
+    let rest = g.S.Source.left c.run_store.new.source in
+    let given = g.S.Source.given c.args.source.now in
+    let given_now = g.S.Source.given c.run_store.new.source in
+    let store = c.in-Ok.store in
+    let status = c.run_store.result.status in
+    let new = pair_of (g.J.Disk.told c.run_store.result.journal) (g.P.Disk.told c.run_store.result.pages) in
+    let opens = c.in-Ok.ensures.opens tj tp in
+    let is = stood_is (g.J.Disk.told c.args.journal).now.reads (g.P.Disk.told c.args.pages).now.reads t n store.base store.number stand opens in
+    let settled : HoldsAll store.journal.told store.base store.number = record { synced = c.in-Ok.ensures.journal_synced tj; holds = beside_none _ _ _ (c.in-Ok.ensures.opens_now tj tp) } in
+    let run = c.run_store.ensures.leaves in
+    let empty : new.pages.now ≡ rests [] = ap (λ p. (g.P.Disk.told p).now) c.run_store.ensures.pages ∙ c.in-Ok.ensures.pages_synced tp ∙ ap rests (pages_empty _ _ _ opens) in
+    let Holds : List (List ℕ) → Type 0 = λ lines. HoldsNow (state_after (fresh t store.number TX_LIMIT) lines) new.journal in
+    let Left : ℕ → List (List ℕ) → Type 0 = λ k lines. PairsHave (OpenAfterAll t k TX_LIMIT lines) new in
+    read_is (λ read. OfLinesDone status read (Left n)) left rest given given_now run.0 run.1 run.2
+    (subst (λ k. OfLinesDone status run.0 (Left k)) is.1 (done_leads status run.0 Holds (Left store.number) (λ lines. left_after_all t store.number TX_LIMIT lines new is.0.formed empty) ((run.3 t is.0).log (tj, settled)).done))
 
 pub returns-in-Ok-clause-crash : goal.returns-in-Ok-clause-crash
 returns-in-Ok-clause-crash g c = λ tj tp.

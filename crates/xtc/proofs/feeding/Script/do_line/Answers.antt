@@ -1,7 +1,7 @@
 use Rattle.std.proofs.Common.{rules, arith, ◌≡◌, ℕ, sym, ap, subst, Err}
 use Rattle.outside_traits.proofs.MomentLaws.{started}
 use Rattle.xtc.specs.Kept.{IsSettled}
-use Rattle.xtc.specs.Durable.{HasDiskCause}
+use Rattle.xtc.specs.Durable.{HaltsByDisk}
 use Rattle.xtc.specs.ScriptLine.{line_of}
 use Rattle.xtc.specs.declared.halt.Halt.TheVariants.{NoMemory}
 use Rattle.xtc.proofs.StepLogs.{no_cause, line_moments}
@@ -14,7 +14,7 @@ pub returns-in_err-line-clause-cause : goal.returns-in_err-line-clause-cause
 returns-in_err-line-clause-cause g c =
     let faults : ℕ = c.args.self.now.session.journal.faults in
     let stop : c.from_residual.result ≡ Err NoMemory = search rules in
-    subst (HasDiskCause faults faults) (sym stop) (no_cause faults faults (omega arith))
+    subst (HaltsByDisk faults faults) (sym stop) (no_cause faults faults (omega arith))
 
 pub returns-in_err-answer-clause-any_moment : goal.returns-in_err-answer-clause-any_moment
 returns-in_err-answer-clause-any_moment g c = λ tells settled s stands.
