@@ -1,3 +1,4 @@
+pub mod CommitRows
 pub mod LineEnds
 pub mod FeedingLaws
 pub mod LogLaws
