@@ -1,5 +1,5 @@
 -- What the files of a store stand for after a front of a script's lines, by the commits among them.
-use Rattle.std.proofs.Common.{◌≡◌, ◌⊎◌, ⊎_elim, ℕ, ◌+◌, ◌-◌, ◌≤◌, ◌<◌, Bool, true, false, List, [], ◌∷◌, ◌++◌, length, take, drop, Option, Some, None, Result, Ok, Err, if◌then◌else◌, refl, sym, ap, subst, ◌∙◌, arith, append-nil, length-append}
+use Rattle.std.proofs.Common.{◌≡◌, ⊎_elim, ℕ, ◌+◌, ◌≤◌, ◌<◌, Bool, true, false, List, [], ◌∷◌, ◌++◌, length, take, drop, Option, Some, None, Result, Ok, Err, if◌then◌else◌, refl, sym, ap, subst, ◌∙◌, arith, append-nil, length-append}
 use Rattle.std.specs.Prelude.{IfSome, ◌==◌, ◌&&◌, codes, option_and_then}
 use Rattle.std.specs.Str.{bytes_eq}
 use Rattle.std.specs.List.{list_all}
@@ -27,7 +27,6 @@ use Rattle.tree_model.proofs.Creates.{create_keeps}
 use Rattle.tree_model.proofs.PlainFragments.{plain-Element}
 use Rattle.recovery.specs.Trees.{StandFor}
 use Rattle.xtc.specs.Calls.{bare_element}
-use Rattle.xtc.specs.declared.line.What.{What}
 use Rattle.xtc.specs.declared.line.What.TheVariants.{Begin, Commit, Create, First}
 use Rattle.xtc.specs.declared.line.Line.{Line}
 use Rattle.xtc.specs.declared.line.Line.TheVariants.{Blank, Ask, Later}

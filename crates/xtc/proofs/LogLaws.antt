@@ -4,7 +4,6 @@ use Rattle.std.specs.Prelude.{Option, Result, Ok, Err}
 use Rattle.std.proofs.lemmas.List.{take-append-le}
 use Rattle.std.proofs.Math.Seq.{take-append-add}
 use Rattle.outside_traits.specs.Bytes.{TookAllBut, TookFront}
-use Rattle.outside_traits.specs.CrashImages.{IsImage}
 use Rattle.outside_traits.specs.Moments.{Told}
 use Rattle.outside_traits.proofs.Laws.{took_more}
 use Rattle.outside_traits.proofs.MomentLaws.{started, joined, weaker}

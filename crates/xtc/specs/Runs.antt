@@ -1,5 +1,5 @@
 -- What a script that ran leaves, between its opening and its end: private to the proof of the top call.
-use Rattle.std.specs.Prelude.{◌≡◌, ℕ, List, Option, Result, Ok, Err}
+use Rattle.std.specs.Prelude.{ℕ, List, Option, Result, Ok, Err}
 use Rattle.outside_traits.specs.Moments.{Told, LeavesOnly}
 use Rattle.xtc.specs.Lines.{ended, lines_of}
 use Rattle.xtc.specs.Session.{State}

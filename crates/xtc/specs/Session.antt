@@ -1,5 +1,5 @@
 -- A session as a machine over the tree: what a request does to it and what it is answered (docs/MANUAL.md, "Transactions").
-use Rattle.std.specs.Prelude.{ℕ, ◌+◌, ◌==◌, nat_lt, Bool, List, [], ◌∷◌, length, map, if◌then◌else◌, Option, Some, None, Result, Ok, Err}
+use Rattle.std.specs.Prelude.{ℕ, ◌+◌, ◌==◌, nat_lt, Bool, List, [], length, map, if◌then◌else◌, Option, Some, None, Result, Ok, Err}
 use Rattle.tree_model.specs.Entries.{Entries, put_all}
 use Rattle.tree_model.specs.Tree.{Tree}
 use Rattle.tree_model.specs.declared.change.Change.{Change}
