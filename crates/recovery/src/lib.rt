@@ -17,5 +17,7 @@ mod syncing;
 #[cfg(test)]
 mod tests;
 
-pub use laws::{a_commit_more_is_opened, opened_files_are_trees, pages_of_an_opened_store_are_empty};
+pub use laws::{
+    a_commit_more_is_opened, opened_files_are_trees, pages_of_an_opened_store_are_empty,
+};
 pub use opening::{Opened, StoreFault, open_store};

@@ -59,9 +59,9 @@ pub acknowledges_on : (a b : Standing) (xs ys : List (List ℕ)) (journal : Told
 acknowledges_on a b xs ys journal h i j state lines wrote p =
     let front : List ℕ = a.pending ++ answers a.state a.lines xs in
     let text : front ++ answers b.state b.lines (take p.done ys) ≡ a.pending ++ answers a.state a.lines (take (length xs + p.done) (xs ++ ys))
-        = append_assoc a.pending (answers a.state a.lines xs) _
-        ∙ ap (λ (t : List ℕ). a.pending ++ t) (sym (answers_of a b xs (take p.done ys) state lines))
-        ∙ ap (λ (ls : List (List ℕ)). a.pending ++ answers a.state a.lines ls) (sym (take-append-add xs ys p.done)) in
+    = append_assoc a.pending (answers a.state a.lines xs) _
+    ∙ ap (λ (t : List ℕ). a.pending ++ t) (sym (answers_of a b xs (take p.done ys) state lines))
+    ∙ ap (λ (ls : List (List ℕ)). a.pending ++ answers a.state a.lines ls) (sym (take-append-add xs ys p.done)) in
     record {
       done = length xs + p.done;
       within = omega (arith, p.within, length-append xs ys);
@@ -84,7 +84,7 @@ pub logs_lines : (a b : Standing) (old mid new : Kept) (h i j : Option (List ℕ
 logs_lines a b old mid new h i j xs ys r state lines wrote p q =
     let All : List ℕ → Type 0 = HoldsFrom 0 a.state (xs ++ ys) in
     let later : (image : List ℕ) → HoldsFrom 0 b.state ys image → All image
-        = λ image is. holds_fewer 0 (length xs + 0) a.state (xs ++ ys) image (omega arith) (holds_on 0 a.state xs ys image (subst (λ (t : State). HoldsFrom 0 t ys image) state is)) in
+    = λ image is. holds_fewer 0 (length xs + 0) a.state (xs ++ ys) image (omega arith) (holds_on 0 a.state xs ys image (subst (λ (t : State). HoldsFrom 0 t ys image) state is)) in
     record {
       any_moment = joined All old.journal.told mid.journal.told new.journal.told
           (weaker (HoldsFrom 0 a.state xs) All old.journal.told mid.journal.told (holds_more 0 a.state xs ys) p.any_moment)

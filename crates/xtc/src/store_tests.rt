@@ -93,9 +93,7 @@ fn an_empty_input_makes_a_journal_of_nine_bytes(rt: HostRuntime) -> Result<(), F
 }
 
 #[test]
-fn a_document_is_sixty_bytes_and_is_found_at_the_next_opening(
-    rt: HostRuntime,
-) -> Result<(), Fail> {
+fn a_document_is_sixty_bytes_and_is_found_at_the_next_opening(rt: HostRuntime) -> Result<(), Fail> {
     assert_eq!(rt; SIXTY.len(), 60);
     let mut closed = Vec::from_slice(rt.alloc(), SIXTY)?;
     closed[8] = 77;
@@ -182,13 +180,7 @@ fn each_end_keeps_the_commits_before_it_and_no_live_transaction(
         (live.as_slice(), 0, 0, Status::Done, 89),
         (live.as_slice(), 2, 0, Status::ReadFault, 89),
         (live.as_slice(), 0, 1, Status::WriteFault, 0),
-        (
-            long.as_slice(),
-            0,
-            0,
-            Status::LineTooLong { line: 6 },
-            89,
-        ),
+        (long.as_slice(), 0, 0, Status::LineTooLong { line: 6 }, 89),
     ] {
         let outcome = run_words(
             alloc,
@@ -327,11 +319,17 @@ fn a_failing_call_of_the_journal_is_named_and_leaves_what_was_answered(
         assert_eq!(rt; found, (0, 0), "at call {call}");
     }
     for (call, written, want) in CALLS {
-        let (status, text, faults, found) =
-            with_failing_call(rt.alloc(), opening.saturating_add(*call))?;
+        let (status, text, faults, found) = with_failing_call(
+            rt.alloc(),
+            opening.saturating_add(*call),
+        )?;
         assert_eq!(rt; status, Status::DiskFault, "at call {call}");
         assert_eq!(rt; faults, 1, "at call {call}");
-        assert_eq!(rt; Some(text.as_slice()), THREE_TEXT.get(..*written), "at call {call}");
+        assert_eq!(rt;
+            Some(text.as_slice()),
+            THREE_TEXT.get(..*written),
+            "at call {call}"
+        );
         assert_eq!(rt; found, *want, "at call {call}");
     }
     Ok(())

@@ -146,7 +146,8 @@ fn only_run_is_a_command_and_no_other_touches_a_disk(rt: HostRuntime) -> Result<
 }
 
 /// What seven requests are answered under a limit of two: begin, commit, begin, begin, commit, begin, commit.
-const LIMIT_TEXT: &[u8] = b"{\"ok\":1,\"s\":1}\n{\"ok\":1,\"s\":1}\n{\"ok\":2,\"s\":1}\n{\"err\":{\"name\":\"InTransaction\"},\"s\":1}\n{\"ok\":2,\"s\":1}\n{\"err\":{\"name\":\"TxLimit\"},\"s\":1}\n{\"err\":{\"name\":\"NoTransaction\"},\"s\":1}\n";
+const LIMIT_TEXT: &[u8] =
+    b"{\"ok\":1,\"s\":1}\n{\"ok\":1,\"s\":1}\n{\"ok\":2,\"s\":1}\n{\"err\":{\"name\":\"InTransaction\"},\"s\":1}\n{\"ok\":2,\"s\":1}\n{\"err\":{\"name\":\"TxLimit\"},\"s\":1}\n{\"err\":{\"name\":\"NoTransaction\"},\"s\":1}\n";
 
 /// A session over an empty store whose commits are numbered up to `limit`.
 fn new_session(alloc: Global, limit: u32) -> Result<Session<MemDisk>, Fail>
@@ -313,11 +314,7 @@ fn a_status_has_its_number_and_text(rt: HostRuntime) -> Result<(), Fail> {
             3,
             "xtc: line 7 is too long",
         ),
-        (
-            damaged(File::Journal, 8),
-            4,
-            "xtc: damaged journal at 8",
-        ),
+        (damaged(File::Journal, 8), 4, "xtc: damaged journal at 8"),
         (damaged(File::Pages, 0), 4, "xtc: damaged pages at 0"),
         (damaged(File::Tree, 1), 4, "xtc: damaged tree at 1"),
         (Status::ReadFault, 5, "xtc: input failed"),

@@ -62,7 +62,7 @@ pub fn xtc<S: Source, K: Sink, J: Disk + Send, P: Disk + Send>(
     // What is written, by the tree and the number that the files stand for.
     ensures text { IsTrue J.tells → IsTrue P.tells → (t : Tree) (n : ℕ) → StandFor (J.told journal).now.reads (P.told pages).now.reads t n
         → IfSome (bytes_read (S.left source.old) (S.given source.old) (S.given source.new))
-            (λ read. Writes LINE_LIMIT (fresh t n TX_LIMIT) result.status read (K.held sink.old) (K.held sink.new)) }
+        (λ read. Writes LINE_LIMIT (fresh t n TX_LIMIT) result.status read (K.held sink.old) (K.held sink.new)) }
     ensures whole { result.status ≡ Status.Done → bytes_read (S.left source.old) (S.given source.old) (S.given source.new) ≡ S.left source.old }
     ensures nothing { IsSilent result.status (K.held sink.new ≡ K.held sink.old) }
     ensures unread { IsSilent result.status ((S.left source.new ≡ S.left source.old) × (S.given source.new ≡ S.given source.old)) }
@@ -74,10 +74,10 @@ pub fn xtc<S: Source, K: Sink, J: Disk + Send, P: Disk + Send>(
     // Where nothing has failed but a read, the files stand for the tree after all commits of the lines that were done, and so does what a crash leaves.
     ensures done { IsTrue J.tells → IsTrue P.tells → (t : Tree) (n : ℕ) → StandFor (J.told journal).now.reads (P.told pages).now.reads t n
         → IfSome (bytes_read (S.left source.old) (S.given source.old) (S.given source.new)) (λ read. OfLinesDone result.status read
-            (λ lines. OpenAfterAll t n TX_LIMIT lines (J.told result.journal).now.reads (P.told result.pages).now.reads)) }
+        (λ lines. OpenAfterAll t n TX_LIMIT lines (J.told result.journal).now.reads (P.told result.pages).now.reads)) }
     ensures lasting { IsTrue J.tells → IsTrue P.tells → (t : Tree) (n : ℕ) → StandFor (J.told journal).now.reads (P.told pages).now.reads t n
         → IfSome (bytes_read (S.left source.old) (S.given source.old) (S.given source.new)) (λ read. OfLinesDone result.status read
-            (λ lines. PairsHave (OpenAfterAll t n TX_LIMIT lines) (pair_of (J.told result.journal) (P.told result.pages)))) }
+        (λ lines. PairsHave (OpenAfterAll t n TX_LIMIT lines) (pair_of (J.told result.journal) (P.told result.pages)))) }
 
     // Whatever the status, what a crash leaves now and at any moment before.
     ensures crash { IsTrue J.tells → IsTrue P.tells → IfSome (bytes_read (S.left source.old) (S.given source.old) (S.given source.new))
@@ -105,11 +105,13 @@ pub fn xtc<S: Source, K: Sink, J: Disk + Send, P: Disk + Send>(
     }
     match open_store(alloc, journal, pages) {
         Ok(store) => run_store(alloc, source, sink, store),
-        Err(StoreFault {
-            fault,
-            journal,
-            pages,
-        }) => Finish {
+        Err(
+            StoreFault {
+                fault,
+                journal,
+                pages,
+            },
+        ) => Finish {
             status: Status::from(fault),
             journal,
             pages,

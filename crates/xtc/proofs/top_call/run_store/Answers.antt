@@ -25,22 +25,22 @@ returns-clause-leaves g c =
     let after : g.J.Disk.told c.into_disk.result ≡ c.match-buffer.script.session.journal.told = c.into_disk.ensures.told ∙ ap (λ j. j.told) c.into_journal.ensures in
     elim c.match-buffer.branch [
       | in-Ok w ↦
-        let run = w.run-status.ensures.leaves in (
-          run.0,
-          subst (λ source. Gave left (g.S.Source.left source) run.0) (sym w.source-is) run.1,
-          subst (λ source. g.S.Source.given source ≡ given + length run.0) (sym w.source-is) run.2,
-          λ t is.
-            let new = c.new-script.ensures.new (fresh t n TX_LIMIT) (c.new-session.ensures.stands t is) in
-            run_as LINE_LIMIT holds (fresh t n TX_LIMIT) run.0 _ _ _ _ _ _ _ _ _ (sym w.status-is) before (ap (λ k. k.session.journal.told) (sym w.script-is) ∙ sym after) (ap g.K.Sink.held (sym w.sink-is))
-            (run_where LINE_LIMIT (IsTrue g.J.Disk.tells × IsSettled script.session) holds (fresh t n TX_LIMIT) run.0 _ _ _ _ _ (λ q. (q.0, settled_new script.session t n TX_LIMIT _ _ is new.stands before q.1)) (run.3 (fresh t n TX_LIMIT) new)),
-        )
+          let run = w.run-status.ensures.leaves in (
+            run.0,
+            subst (λ source. Gave left (g.S.Source.left source) run.0) (sym w.source-is) run.1,
+            subst (λ source. g.S.Source.given source ≡ given + length run.0) (sym w.source-is) run.2,
+            λ t is.
+                let new = c.new-script.ensures.new (fresh t n TX_LIMIT) (c.new-session.ensures.stands t is) in
+                run_as LINE_LIMIT holds (fresh t n TX_LIMIT) run.0 _ _ _ _ _ _ _ _ _ (sym w.status-is) before (ap (λ k. k.session.journal.told) (sym w.script-is) ∙ sym after) (ap g.K.Sink.held (sym w.sink-is))
+                (run_where LINE_LIMIT (IsTrue g.J.Disk.tells × IsSettled script.session) holds (fresh t n TX_LIMIT) run.0 _ _ _ _ _ (λ q. (q.0, settled_new script.session t n TX_LIMIT _ _ is new.stands before q.1)) (run.3 (fresh t n TX_LIMIT) new)),
+          )
       | in-Err w ↦ (
-          [],
-          subst (λ source. Gave left (g.S.Source.left source) []) (sym w.source-is) (gave_none left),
-          subst (λ source. g.S.Source.given source ≡ given + 0) (sym w.source-is) (sym (add-zero given)),
-          λ t is.
+        [],
+        subst (λ source. Gave left (g.S.Source.left source) []) (sym w.source-is) (gave_none left),
+        subst (λ source. g.S.Source.given source ≡ given + 0) (sym w.source-is) (sym (add-zero given)),
+        λ t is.
             let new = c.new-script.ensures.new (fresh t n TX_LIMIT) (c.new-session.ensures.stands t is) in
             run_as LINE_LIMIT holds (fresh t n TX_LIMIT) [] _ _ _ _ _ _ _ _ _ (sym w.status-is) before (ap (λ k. k.session.journal.told) (sym w.script-is) ∙ sym after) (ap g.K.Sink.held (sym w.sink-is))
             (run_none LINE_LIMIT holds (fresh t n TX_LIMIT) script.session _ new.stands (λ q. settled_new script.session t n TX_LIMIT _ _ is new.stands before q.1)),
-        )
+      )
     ]

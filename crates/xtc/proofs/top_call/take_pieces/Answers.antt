@@ -68,10 +68,14 @@ returns-in-Err-feed-clause-leaves g c =
     let so = c.pieces.invariant.so_far in
     let settled : Type 0 = IsTrue g.J.Disk.tells × IsSettled c.args.script.now.session in
     let piece = c.split_at.result.0.now in
-    let gave : Gave (g.S.Source.left c.pieces.source.inner.now) (g.S.Source.left c.read.new.self.inner.now) piece = subst (λ x. Gave (g.S.Source.left c.pieces.source.inner.now) (g.S.Source.left c.read.new.self.inner.now) x) (sym c.split_at.ensures.front) c.in-Ok.ensures.bytes in
-    (so.0 ++ piece, gave_on _ _ _ so.0 piece so.1 gave, omega (arith, so.2, c.in-Ok.ensures.count, c.split_at.ensures.front_len, length-append so.0 piece), λ s new.
-    let flushed = takes_flushed LINE_LIMIT settled s c.args.script.now c.pieces.script c.flush.new.self _ _ _ so.0 (Ok tt) (so.3 s new) c.in_default.ensures.leaves (λ p. c.in_default.ensures.log p.0) in
-    takes_on LINE_LIMIT settled s c.args.script.now c.flush.new.self c.feed.new.self _ _ _ so.0 piece (Err c.in-Err-feed.stop) flushed c.in-Err-feed.ensures.leaves (λ p. c.in-Err-feed.ensures.log p.0))
+    let gave : Gave (g.S.Source.left c.pieces.source.inner.now) (g.S.Source.left c.read.new.self.inner.now) piece = subst (λ x. Gave (g.S.Source.left c.pieces.source.inner.now) (g.S.Source.left c.read.new.self.inner.now) x) (sym c.split_at.ensures.front) c.in-Ok.ensures.bytes in (
+      so.0 ++ piece,
+      gave_on _ _ _ so.0 piece so.1 gave,
+      omega (arith, so.2, c.in-Ok.ensures.count, c.split_at.ensures.front_len, length-append so.0 piece),
+      λ s new.
+          let flushed = takes_flushed LINE_LIMIT settled s c.args.script.now c.pieces.script c.flush.new.self _ _ _ so.0 (Ok tt) (so.3 s new) c.in_default.ensures.leaves (λ p. c.in_default.ensures.log p.0) in
+          takes_on LINE_LIMIT settled s c.args.script.now c.flush.new.self c.feed.new.self _ _ _ so.0 piece (Err c.in-Err-feed.stop) flushed c.in-Err-feed.ensures.leaves (λ p. c.in-Err-feed.ensures.log p.0),
+    )
 
 pub returns-in-Err-feed-clause-disk : goal.returns-in-Err-feed-clause-disk
 returns-in-Err-feed-clause-disk g c =
@@ -90,9 +94,14 @@ pieces-preserved g c =
     let fed = c.in_default-feed.ensures in
     let before : c.args.script.now.session.journal.faults ≤ c.flush.new.self.session.journal.faults = subst (λ (k : Kept). c.args.script.now.session.journal.faults ≤ k.journal.faults) (sym c.in_default.ensures.session) c.pieces.invariant.disk_later in
     record {
-      so_far = (so.0 ++ piece, gave_on _ _ _ so.0 piece so.1 gave, omega (arith, so.2, c.in-Ok.ensures.count, c.split_at.ensures.front_len, length-append so.0 piece), λ s new.
-          let flushed = takes_flushed LINE_LIMIT settled s c.args.script.now c.pieces.script c.flush.new.self _ _ _ so.0 (Ok tt) (so.3 s new) c.in_default.ensures.leaves (λ p. c.in_default.ensures.log p.0) in
-          takes_on LINE_LIMIT settled s c.args.script.now c.flush.new.self c.feed.new.self _ _ _ so.0 piece (Ok tt) flushed fed.leaves (λ p. fed.log p.0));
+      so_far = (
+        so.0 ++ piece,
+        gave_on _ _ _ so.0 piece so.1 gave,
+        omega (arith, so.2, c.in-Ok.ensures.count, c.split_at.ensures.front_len, length-append so.0 piece),
+        λ s new.
+            let flushed = takes_flushed LINE_LIMIT settled s c.args.script.now c.pieces.script c.flush.new.self _ _ _ so.0 (Ok tt) (so.3 s new) c.in_default.ensures.leaves (λ p. c.in_default.ensures.log p.0) in
+            takes_on LINE_LIMIT settled s c.args.script.now c.flush.new.self c.feed.new.self _ _ _ so.0 piece (Ok tt) flushed fed.leaves (λ p. fed.log p.0),
+      );
       ready = fed.ready;
       same_reference = c.in-Ok.ensures.same_reference ∙ c.pieces.invariant.same_reference;
       used = omega (arith, c.pieces.invariant.used, c.in-Ok.ensures.room);

@@ -13,7 +13,7 @@ invariant-loop-place g l = record {
       × (l.piece ≡ done ++ l.rest)
       × ((s : State) → Stands l.fn.self.session s → FedFrom LINE_LIMIT s l.fn.self l.self (g.K.Sink.held l.fn.sink) (g.K.Sink.held l.sink) done)
       × (IsTrue g.J.Disk.tells → (s : State) → Stands l.fn.self.session s → IsSettled l.fn.self.session
-          → LogsFrom (with_state l.fn.self s) l.fn.self.session l.self.session (g.K.Sink.held l.fn.sink) (g.K.Sink.held l.sink) (ended l.fn.self.unended done) (Ok tt));
+      → LogsFrom (with_state l.fn.self s) l.fn.self.session l.self.session (g.K.Sink.held l.fn.sink) (g.K.Sink.held l.sink) (ended l.fn.self.unended done) (Ok tt));
   ready : IsReady l.self.session;
   room : l.self.lines + length l.rest ≤ l.fn.self.lines + length l.piece;
   later : g.K.Sink.faults l.fn.sink ≤ g.K.Sink.faults l.sink;
