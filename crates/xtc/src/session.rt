@@ -1,4 +1,4 @@
-ghost use Rattle.std.specs.Prelude.{◌≡◌, ◌≤◌, ℕ, [], ◌++◌, Some, IsTrue, IfOk, OnOk, vec_capacity, Ok, length, ◌+◌};
+ghost use Rattle.std.specs.Prelude.{◌≡◌, ◌≤◌, ℕ, true, [], ◌++◌, Some, IsTrue, IfOk, OnOk, vec_capacity, Ok, length, ◌+◌};
 ghost use Rattle.std.specs.List.{AllByRecursion};
 ghost use Rattle.outside_traits.specs.Moments.{LeavesOnly};
 ghost use Rattle.tree_model.specs.Names.{is_name};
@@ -208,17 +208,37 @@ impl<J: Disk> Session<J> {
         if body.as_slice().len() > BODY_LIMIT {
             return Ok(write_answer(alloc, &Err(SessionError::CommitLimit), out)?);
         }
+        let reply = self.prepare(alloc, body.as_slice().len(), out)?;
         let number = self.number + 1;
-        let reply = reply_of(alloc, number)?;
-        out.reserve(reply.len())?;
-        self.journal.make_room(alloc, body.as_slice().len())?;
-        let own = mem::replace(&mut self.own, SortedSeq::new(alloc));
-        commit_entries(alloc, &mut self.committed, own)?;
         self.journal.append_group(number, body.as_slice())?;
         self.live = false;
         self.number = number;
         add(out, &reply);
         Ok(())
+    }
+
+    /// Takes all memory of a commit with a body of so many bytes: it answers the reply, for which `out` and the journal have room, and the committed map has what the transaction has put.
+    fn prepare(
+        &mut self,
+        alloc: Global,
+        body: usize,
+        out: &mut Vec<u8>,
+    ) -> Result<Vec<u8>, NoMemory>
+        requires live { self.old.live ≡ true }
+        ensures reply { IfOk result (λ reply. reply.items ≡ answer_text (Ok (Number (self.old.number + 1)))) }
+        ensures out { OnOk result (out.new.items ≡ out.old.items) }
+        ensures room { IfOk result (λ reply. length out.new.items + length reply.items ≤ vec_capacity out.new) }
+        ensures kept { OnOk result (self.new ≡ record self.old { committed = put_all self.old.own self.old.committed; own = []; seen = put_all self.old.own self.old.committed; journal = self.new.journal }) }
+        ensures journal { OnOk result (self.new.journal ≡ record self.old.journal { room = self.new.journal.room }) }
+        ensures fits { OnOk result (body ≤ self.new.journal.room) }
+        ensures untouched { (self.new.journal.told ≡ self.old.journal.told) × (self.new.journal.faults ≡ self.old.journal.faults) }
+    {
+        let reply = reply_of(alloc, self.number + 1)?;
+        out.reserve(reply.len())?;
+        self.journal.make_room(alloc, body)?;
+        let own = mem::replace(&mut self.own, SortedSeq::new(alloc));
+        commit_entries(alloc, &mut self.committed, own)?;
+        Ok(reply)
     }
 
     fn create(&mut self, alloc: Global, name: &Text, element: &Text) -> Result<Answer, NoMemory>
