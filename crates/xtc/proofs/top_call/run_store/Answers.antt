@@ -12,7 +12,7 @@ use Rattle.xtc.proofs.top_call.run_store.Goals.{in-Ok, in-Err}
 pub run-status-requires-clause-new : goal.run-status-requires-clause-new
 run-status-requires-clause-new g c =
     let tree = c.requires.tree in
-    (fresh tree.tree c.args.store.number TX_LIMIT, c.new-script.ensures.new _ (c.new-session.ensures.stands tree.tree (record { formed = tree.well_formed; map = sym tree.map })))
+    (fresh tree.tree c.args.store.number TX_LIMIT, c.new-script.ensures.new (fresh tree.tree c.args.store.number TX_LIMIT) (c.new-session.ensures.stands tree.tree (record { formed = tree.well_formed; map = sym tree.map })))
 
 pub returns-clause-leaves : goal.returns-clause-leaves
 returns-clause-leaves g c =

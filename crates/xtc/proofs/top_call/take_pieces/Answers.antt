@@ -1,5 +1,6 @@
 use Rattle.std.specs.Option.{option_map}
-use Rattle.std.proofs.Common.{rules, arith, refl, ap, ◌∙◌, append-nil, ◌≡◌, ◌+◌, ◌≤◌, [], ◌++◌, take, sym, subst, length-append, Ok, Err, IsTrue}
+use Rattle.std.specs.Prelude.{Option}
+use Rattle.std.proofs.Common.{rules, arith, refl, ap, ◌∙◌, append-nil, ◌≡◌, ◌+◌, ◌≤◌, ℕ, List, [], ◌++◌, take, sym, subst, length-append, Ok, Err, IsTrue}
 use Rattle.outside_traits.specs.Bytes.{Gave}
 use Rattle.outside_traits.proofs.Laws.{gave_none, gave_on}
 use Rattle.xtc.specs.Kept.{Kept, IsReady, IsSettled}
@@ -7,6 +8,14 @@ use Rattle.xtc.specs.declared.feeding.TheConstants.{LINE_LIMIT}
 use Rattle.xtc.specs.declared.feeding.Stop.TheVariants.{WriteFault, DiskFault}
 use Rattle.xtc.proofs.RunLaws.{takes_none, takes_on, takes_flushed, rose_on}
 use Rattle.xtc.proofs.top_call.take_pieces.Goals as goal
+
+-- a session that is as it was has the faults that it had
+still_later : (n : ℕ) (old new : Kept) → new ≡ old → n ≤ old.journal.faults → n ≤ new.journal.faults
+still_later n old new same le = subst (λ (k : Kept). n ≤ k.journal.faults) (sym same) le
+
+-- one piece more was given
+gave_piece : (a b c : Option (List ℕ)) (read piece front : List ℕ) → Gave a b read → piece ≡ front → Gave b c front → Gave a c (read ++ piece)
+gave_piece a b c read piece front so_far is given = gave_on a b c read piece so_far (subst (Gave b c) (sym is) given)
 
 pub flush-requires : goal.flush-requires
 flush-requires g c = record { ready = c.pieces.invariant.ready }
@@ -36,7 +45,7 @@ returns-in-Err-clause-leaves g c =
 pub returns-in-Err-clause-disk : goal.returns-in-Err-clause-disk
 returns-in-Err-clause-disk g c =
     let apart : c.in-Err.stop ≡ WriteFault = let e = c.in-Err.ensures.error in cc in
-    record { later = subst (λ (k : Kept). c.args.script.now.session.journal.faults ≤ k.journal.faults) (sym c.in-Err.ensures.session) c.pieces.invariant.disk_later; failed = λ e. cc }
+    record { later = still_later _ _ _ c.in-Err.ensures.session c.pieces.invariant.disk_later; failed = λ e. cc }
 
 pub returns-in-Err-read-clause-leaves : goal.returns-in-Err-read-clause-leaves
 returns-in-Err-read-clause-leaves g c =
@@ -48,7 +57,7 @@ pub returns-in-Err-read-clause-ready : goal.returns-in-Err-read-clause-ready
 returns-in-Err-read-clause-ready g c = subst IsReady (sym c.in_default.ensures.session) c.pieces.invariant.ready
 
 pub returns-in-Err-read-clause-disk : goal.returns-in-Err-read-clause-disk
-returns-in-Err-read-clause-disk g c = record { later = subst (λ (k : Kept). c.args.script.now.session.journal.faults ≤ k.journal.faults) (sym c.in_default.ensures.session) c.pieces.invariant.disk_later; failed = λ e. cc }
+returns-in-Err-read-clause-disk g c = record { later = still_later _ _ _ c.in_default.ensures.session c.pieces.invariant.disk_later; failed = λ e. cc }
 
 pub returns-then-count-eq0-clause-leaves : goal.returns-then-count-eq0-clause-leaves
 returns-then-count-eq0-clause-leaves g c =
@@ -61,16 +70,15 @@ pub returns-then-count-eq0-clause-ready : goal.returns-then-count-eq0-clause-rea
 returns-then-count-eq0-clause-ready g c = subst IsReady (sym c.in_default.ensures.session) c.pieces.invariant.ready
 
 pub returns-then-count-eq0-clause-disk : goal.returns-then-count-eq0-clause-disk
-returns-then-count-eq0-clause-disk g c = record { later = subst (λ (k : Kept). c.args.script.now.session.journal.faults ≤ k.journal.faults) (sym c.in_default.ensures.session) c.pieces.invariant.disk_later; failed = λ e. cc }
+returns-then-count-eq0-clause-disk g c = record { later = still_later _ _ _ c.in_default.ensures.session c.pieces.invariant.disk_later; failed = λ e. cc }
 
 pub returns-in-Err-feed-clause-leaves : goal.returns-in-Err-feed-clause-leaves
 returns-in-Err-feed-clause-leaves g c =
     let so = c.pieces.invariant.so_far in
     let settled : Type 0 = IsTrue g.J.Disk.tells × IsSettled c.args.script.now.session in
-    let piece = c.split_at.result.0.now in
-    let gave : Gave (g.S.Source.left c.pieces.source.inner.now) (g.S.Source.left c.read.new.self.inner.now) piece = subst (λ x. Gave (g.S.Source.left c.pieces.source.inner.now) (g.S.Source.left c.read.new.self.inner.now) x) (sym c.split_at.ensures.front) c.in-Ok.ensures.bytes in (
+    let piece = c.split_at.result.0.now in (
       so.0 ++ piece,
-      gave_on _ _ _ so.0 piece so.1 gave,
+      gave_piece _ _ _ so.0 piece (take c.in-Ok.count c.read.new.buf) so.1 c.split_at.ensures.front c.in-Ok.ensures.bytes,
       omega (arith, so.2, c.in-Ok.ensures.count, c.split_at.ensures.front_len, length-append so.0 piece),
       λ s new.
           let flushed = takes_flushed LINE_LIMIT settled s c.args.script.now c.pieces.script c.flush.new.self _ _ _ so.0 (Ok tt) (so.3 s new) c.in_default.ensures.leaves (λ p. c.in_default.ensures.log p.0) in
@@ -79,7 +87,7 @@ returns-in-Err-feed-clause-leaves g c =
 
 pub returns-in-Err-feed-clause-disk : goal.returns-in-Err-feed-clause-disk
 returns-in-Err-feed-clause-disk g c =
-    let before : c.args.script.now.session.journal.faults ≤ c.flush.new.self.session.journal.faults = subst (λ (k : Kept). c.args.script.now.session.journal.faults ≤ k.journal.faults) (sym c.in_default.ensures.session) c.pieces.invariant.disk_later in
+    let before : c.args.script.now.session.journal.faults ≤ c.flush.new.self.session.journal.faults = still_later _ _ _ c.in_default.ensures.session c.pieces.invariant.disk_later in
     record {
       later = omega (arith, before, c.in-Err-feed.ensures.disk.later);
       failed = λ e. let stops : c.in-Err-feed.stop ≡ DiskFault = cc in rose_on _ _ _ before (c.in-Err-feed.ensures.disk.failed (ap Err stops));
@@ -90,13 +98,12 @@ pieces-preserved g c =
     let so = c.pieces.invariant.so_far in
     let settled : Type 0 = IsTrue g.J.Disk.tells × IsSettled c.args.script.now.session in
     let piece = c.split_at.result.0.now in
-    let gave : Gave (g.S.Source.left c.pieces.source.inner.now) (g.S.Source.left c.read.new.self.inner.now) piece = subst (λ x. Gave (g.S.Source.left c.pieces.source.inner.now) (g.S.Source.left c.read.new.self.inner.now) x) (sym c.split_at.ensures.front) c.in-Ok.ensures.bytes in
     let fed = c.in_default-feed.ensures in
-    let before : c.args.script.now.session.journal.faults ≤ c.flush.new.self.session.journal.faults = subst (λ (k : Kept). c.args.script.now.session.journal.faults ≤ k.journal.faults) (sym c.in_default.ensures.session) c.pieces.invariant.disk_later in
+    let before : c.args.script.now.session.journal.faults ≤ c.flush.new.self.session.journal.faults = still_later _ _ _ c.in_default.ensures.session c.pieces.invariant.disk_later in
     record {
       so_far = (
         so.0 ++ piece,
-        gave_on _ _ _ so.0 piece so.1 gave,
+        gave_piece _ _ _ so.0 piece (take c.in-Ok.count c.read.new.buf) so.1 c.split_at.ensures.front c.in-Ok.ensures.bytes,
         omega (arith, so.2, c.in-Ok.ensures.count, c.split_at.ensures.front_len, length-append so.0 piece),
         λ s new.
             let flushed = takes_flushed LINE_LIMIT settled s c.args.script.now c.pieces.script c.flush.new.self _ _ _ so.0 (Ok tt) (so.3 s new) c.in_default.ensures.leaves (λ p. c.in_default.ensures.log p.0) in
