@@ -127,6 +127,7 @@ impl<J: Disk> Script<J> {
         ensures short { OnOk result (length self.old.unended ≤ LINE_LIMIT) }
         ensures cause { HasWriteCause (K.faults sink.old) (K.faults sink.new) result }
         ensures disk { HasDiskCause self.old.session.journal.faults self.new.session.journal.faults result }
+        ensures lines { OnOk result (self.new.lines ≡ self.old.lines + length (last_line self.old.unended)) }
         ensures error { result ≢ Err Stop.LineTooLong }
     {
         if self.unended.as_slice().is_empty() {

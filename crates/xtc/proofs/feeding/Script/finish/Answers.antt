@@ -1,4 +1,4 @@
-use Rattle.std.proofs.Common.{rules, ◌≡◌, true, false, eqb, List, ℕ, [], ◌∷◌, length, sym, ap, ◌∙◌, subst, Err}
+use Rattle.std.proofs.Common.{rules, arith, ◌≡◌, ◌+◌, true, false, eqb, List, ℕ, [], ◌∷◌, length, sym, ap, ◌∙◌, subst, Err}
 use Rattle.outside_traits.proofs.Laws.{took_nothing}
 use Rattle.xtc.specs.Kept.{Stands}
 use Rattle.xtc.specs.Lines.{ended, last_line}
@@ -27,6 +27,11 @@ returns-then-is_empty-clause-state g c =
     on_ok _ c.flush.result (λ s stands.
     subst (λ k. Stands k (state_after s (last_line c.args.self.now.unended))) (sym c.flush.ensures.session)
     (subst (λ l. Stands c.args.self.now.session (state_after s (last_line l))) (sym empty) stands))
+
+pub returns-then-is_empty-clause-lines : goal.returns-then-is_empty-clause-lines
+returns-then-is_empty-clause-lines g c =
+    let empty = none_came c.self.inside.unended.items c.args.self.now.unended (ap (λ k. k.unended) c.self.view_is) (search rules) in
+    on_ok _ c.flush.result (omega (arith, c.flush.ensures.lines, ap (λ l. length (last_line l)) empty))
 
 pub returns-then-is_empty-clause-log : goal.returns-then-is_empty-clause-log
 returns-then-is_empty-clause-log g c = λ tells s stands settled.
@@ -62,6 +67,13 @@ returns-clause-state g c =
     let fed = c.in_ok-end_line.ensures.leaves h s stands in
     subst (λ k. Stands k (state_after s (last_line c.args.self.now.unended))) (sym c.flush-2.ensures.session)
     (subst (Stands c.end_line.new.self.session) (fed.2.state ∙ ap (state_after s) lines) fed.1))
+
+pub returns-clause-lines : goal.returns-clause-lines
+returns-clause-lines g c =
+    let ready = c.requires.ready in
+    let lines = one_ends c.self.inside.unended.items c.args.self.now.unended (ap (λ k. k.unended) c.self.view_is) (search rules) in
+    let fed = (c.in_ok-end_line.ensures.leaves (g.K.Sink.held c.args.sink.now) ready.state ready.stands).2 in
+    on_ok _ c.flush-2.result (c.flush-2.ensures.lines ∙ fed.lines ∙ ap (λ ls. c.args.self.now.lines + length ls) lines)
 
 pub returns-clause-log : goal.returns-clause-log
 returns-clause-log g c = λ tells s stands settled.
