@@ -4,9 +4,10 @@ use Rattle.std.proofs.lemmas.Bool.Decides.{nat_tests}
 use Rattle.std.specs.Ordering.{ordering_reverse, ordering_then}
 use Rattle.std.specs.Cmp.{nat_cmp_total}
 use Rattle.std.specs.Cmp.Lexicographic.{slice_cmp}
-use Rattle.dewey_labels.specs.Labels.{Label, is_odd, is_empty, is_code, is_child, parent}
+use Rattle.dewey_labels.specs.Labels.{Label, is_odd, is_code, is_child, parent}
 use Rattle.dewey_labels.specs.Sides.{under, right, turn, side, is_in, rest, first_code}
 use Rattle.dewey_labels.proofs.Sides.{equal_is, cmp_itself, in_is}
+use Rattle.dewey_labels.specs.Lists.{is_empty}
 
 -- ---- tests
 

@@ -3,7 +3,7 @@ use Rattle.std.proofs.Common.{◌≡◌, ℕ, ◌+◌, ◌*◌, ◌/◌, ◌%◌
 use Rattle.std.specs.List.{AllByRecursion}
 use Rattle.std.specs.Fmt.{decimal}
 use Rattle.std.proofs.lemmas.Fmt.{decimal_digit, decimal_step, decimal_by_steps}
-use Rattle.dewey_labels.specs.Labels.{is_empty}
+use Rattle.dewey_labels.specs.Lists.{is_empty}
 
 abbrev pub IsDigit : ℕ → Type 0
 IsDigit c = (48 ≤ c) × (c ≤ 57)

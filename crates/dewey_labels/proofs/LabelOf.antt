@@ -10,14 +10,13 @@ use Rattle.std.proofs.lemmas.Bool.{ne_eqb}
 use Rattle.std.proofs.lemmas.Slice.Eq.{bytes_eq-Decides}
 use Rattle.std.proofs.lemmas.List.Elements.{All-from_recursion}
 use Rattle.std.proofs.lemmas.List.Splits.{slice_split_none, slice_split_at}
-use Rattle.dewey_labels.specs.Labels.{Label, greatest, is_label, IsLabel}
-use Rattle.dewey_labels.specs.NewLabels.{is_within}
+use Rattle.dewey_labels.specs.Labels.{Label, greatest, is_label_within, IsLabel}
 use Rattle.dewey_labels.specs.LabelText.{label_text, numbers_in, if_text_of, label_of, HasCause}
 use Rattle.dewey_labels.specs.declared.label_text.LabelTextError.{LabelTextError}
 use Rattle.dewey_labels.specs.declared.label_text.LabelTextError.TheVariants.{NotALabel, NoMemory}
 use Rattle.dewey_labels.proofs.Decimals.{Digits, decimal_digits}
 use Rattle.dewey_labels.proofs.LabelTexts.{AllSmall}
-use Rattle.dewey_labels.proofs.NewLabels.{within_of_test, test_of_within}
+use Rattle.dewey_labels.proofs.Limits.{label_of_test, test_of_label}
 
 abbrev is_point : ℕ → Bool
 is_point b = eqb b 46
@@ -56,16 +55,15 @@ label_of-label_text [] h = cc h.0
 label_of-label_text (d ∷ l) h =
     let numbers : numbers_in (label_text (d ∷ l)) ≡ d ∷ l = numbers-label_text d l h.1.1 in
     ap (if_text_of (label_text (d ∷ l))) numbers
-    ∙ (λ i. if h.0 i && (test_of_within (d ∷ l) h.1 i && same_text (label_text (d ∷ l)) i) then Some (d ∷ l) else None)
+    ∙ (λ i. if test_of_label (d ∷ l) h i && same_text (label_text (d ∷ l)) i then Some (d ∷ l) else None)
 
 -- what is found has the text
-found_by : (t : List ℕ) (l m : Label) (b : Bool) → (is_label m && (is_within m && bytes_eq (label_text m) t)) ≡ b → (if b then Some m else None) ≡ Some l → IsLabel l × (t ≡ label_text l)
+found_by : (t : List ℕ) (l m : Label) (b : Bool) → (is_label_within m && bytes_eq (label_text m) t) ≡ b → (if b then Some m else None) ≡ Some l → IsLabel l × (t ≡ label_text l)
 found_by t l m false e h = cc
 found_by t l m true e h =
     let same : m ≡ l = cc in
-    let label = both (is_label m) (is_within m && bytes_eq (label_text m) t) e in
-    let within = both (is_within m) (bytes_eq (label_text m) t) label.1 in
-    subst (λ k. IsLabel k × (t ≡ label_text k)) same ((label.0, within_of_test m within.0), sym ((bytes_eq-Decides (label_text m) t).0 within.1))
+    let is = both (is_label_within m) (bytes_eq (label_text m) t) e in
+    subst (λ k. IsLabel k × (t ≡ label_text k)) same (label_of_test m is.0, sym ((bytes_eq-Decides (label_text m) t).0 is.1))
 
 pub label_of_is : (t : List ℕ) (l : Label) → label_of t ≡ Some l → IsLabel l × (t ≡ label_text l)
 label_of_is t l h = found_by t l (numbers_in t) _ refl h

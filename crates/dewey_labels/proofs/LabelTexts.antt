@@ -5,10 +5,11 @@ use Rattle.std.specs.Fmt.{decimal}
 use Rattle.std.proofs.lemmas.Fmt.{decimal_nonempty, decimal_injective}
 use Rattle.std.proofs.lemmas.List.{length-take-le}
 use Rattle.std.proofs.Math.Seq.{take-suc}
-use Rattle.dewey_labels.specs.Labels.{Label, greatest, is_empty}
+use Rattle.dewey_labels.specs.Labels.{Label, greatest}
 use Rattle.dewey_labels.specs.LabelText.{label_text}
-use Rattle.dewey_labels.specs.LabelReader.{ended_text}
+use Rattle.dewey_labels.specs.inside.LabelReader.{ended_text}
 use Rattle.dewey_labels.proofs.Decimals.{IsDigit, Digits, NoDigitFirst, decimal_digits, same_digits}
+use Rattle.dewey_labels.specs.Lists.{is_empty}
 
 abbrev pub AllSmall : List ℕ → Type 0
 AllSmall l = AllByRecursion (λ d. d ≤ greatest) l

@@ -4,10 +4,12 @@ use Rattle.std.specs.List.{AllByRecursion}
 use Rattle.std.specs.Bool.{MatchBool}
 use Rattle.std.specs.Cmp.Lexicographic.{pointwise}
 use Rattle.std.proofs.lemmas.Bool.{and_parts, and_from, and_right, cond-true, cond-false, eqb-true, eq-eqb}
-use Rattle.std.proofs.lemmas.Bool.Decides.{nat_tests}
 use Rattle.std.proofs.Math.Seq.{take-append_seam}
 use Rattle.std.proofs.lemmas.List.Sums.{sum_by-cons, sum_by-append}
-use Rattle.dewey_labels.specs.Labels.{Label, root, greatest, is_odd, is_empty, is_code, is_child, are_codes, is_label, parent, level, cut, IsAncestor, is_ancestor, Within, IsLabel}
+use Rattle.dewey_labels.specs.Labels.{Label, root, greatest, is_odd, is_code, is_child, are_codes, is_label, parent, level, cut, IsAncestor, is_ancestor, Within, IsLabel}
+use Rattle.dewey_labels.specs.Lists.{is_empty}
+use Rattle.dewey_labels.specs.Sides.{rest}
+use Rattle.dewey_labels.proofs.Codes.{is_child_append, child_is, child_code}
 
 -- an odd division ends the list
 abbrev pub ends_odd : List ℕ → Bool
@@ -93,28 +95,16 @@ pub record IsBehind (p l : Label) : Type 0 where
   pub is_one : is_code code ≡ true
 
 pub child_is_behind : (p l : Label) → is_child p l ≡ true → IsBehind p l
-child_is_behind [] l h = record { code = l; is = refl; is_one = h }
-child_is_behind (x ∷ p) [] h = absurd (true≢false (sym h))
-child_is_behind (x ∷ p) (y ∷ l) h =
-    let at = child_is_behind p l (and_parts _ _ h).1 in
-    let e : x ≡ y = eqb-true x y (and_parts _ _ h).0 in
-    record { code = at.code; is = λ i. sym e i ∷ at.is i; is_one = at.is_one }
-
-pub code_makes_child : (p c : Label) → is_code c ≡ true → is_child p (p ++ c) ≡ true
-code_makes_child [] c h = h
-code_makes_child (x ∷ p) c h = and_from _ _ (eq-itself x) (code_makes_child p c h)
-  where
-    eq-itself : (x : ℕ) → (x == x) ≡ true
-    eq-itself x = grind (arith, nat_tests)
+child_is_behind p l h = record { code = rest p l; is = child_is p l h; is_one = child_code p l h }
 
 -- the label of a child is a label, and its parent is the label that it is a child of
 pub child_label : (p l : Label) → is_label p ≡ true → is_child p l ≡ true → is_label l ≡ true
 child_label [] l h k = absurd (true≢false (sym h))
 child_label (x ∷ p) [] h k = absurd (true≢false (sym k))
 child_label (x ∷ p) (y ∷ l) h k =
-    let at = child_is_behind p l (and_parts _ _ k).1 in
+    let below = (and_parts _ _ k).1 in
     let e : x ≡ y = eqb-true x y (and_parts _ _ k).0 in
-    and_from _ _ (subst (λ z. (z == 1) ≡ true) e (and_parts _ _ h).0) (subst (λ w. are_codes w ≡ true) (sym at.is) (codes_and_code p at.code (and_parts _ _ h).1 at.is_one))
+    and_from _ _ (subst (λ z. (z == 1) ≡ true) e (and_parts _ _ h).0) (subst (λ w. are_codes w ≡ true) (sym (child_is p l below)) (codes_and_code p (rest p l) (and_parts _ _ h).1 (child_code p l below)))
 
 pub parent_of_child : (p l : Label) → is_label p ≡ true → is_child p l ≡ true → parent l ≡ p
 parent_of_child p l h k =
@@ -181,7 +171,7 @@ root_or_child (d ∷ e ∷ ds) h =
     inr (record {
       above = d ∷ at.before;
       is_above = and_from _ _ (and_parts _ _ h).0 at.are_before;
-      is_below = subst (λ w. is_child (d ∷ at.before) (d ∷ w) ≡ true) (sym at.is) (code_makes_child (d ∷ at.before) at.code at.is_last);
+      is_below = subst (λ w. is_child (d ∷ at.before) (d ∷ w) ≡ true) (sym at.is) (is_child_append (d ∷ at.before) at.code at.is_last);
     })
 
 pub is_label-parent : (l : Label) → is_label l ≡ true → is_label (parent l) ≡ true

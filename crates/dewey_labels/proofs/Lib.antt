@@ -1,3 +1,4 @@
+pub mod Ancestors
 pub mod Codes
 pub mod Decimals
 pub mod Fill
@@ -5,6 +6,7 @@ pub mod LabelOf
 mod LabelRows
 pub mod LabelTexts
 pub mod Labels
+pub mod Limits
 pub mod NewCodes
 mod NewLabelCalls
 mod NewLabelRows

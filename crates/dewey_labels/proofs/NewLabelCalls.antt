@@ -2,11 +2,12 @@
 use Rattle.std.proofs.Common.{◌≡◌, IsTrue, Option, Some, None, IsSome, IfSome, Result, Ok, Err, IfOk, ◌↔◌, ℕ, true, false, true≢false, if◌then◌else◌, List, ◌++◌, Less, nat_cmp, refl, sym, ap, subst, ◌∙◌}
 use Rattle.std.specs.Cmp.Lexicographic.{slice_cmp}
 use Rattle.std.specs.Option.{ok_or}
-use Rattle.dewey_labels.specs.Labels.{Label, is_child, is_label, IsLabel}
+use Rattle.dewey_labels.specs.Labels.{Label, is_child, is_label, is_within, IsLabel}
 use Rattle.dewey_labels.specs.Sides.{rest}
-use Rattle.dewey_labels.specs.NewLabels.{alone, after, before, between, new_divisions, is_within}
+use Rattle.dewey_labels.specs.NewLabels.{alone, after, before, between, new_divisions}
 use Rattle.dewey_labels.proofs.Labels.{child_label}
-use Rattle.dewey_labels.proofs.NewLabels.{AreNeighbours, new_child, new_behind, new_ahead, within_of_test, test_of_within}
+use Rattle.dewey_labels.proofs.NewLabels.{AreNeighbours, new_child, new_behind, new_ahead}
+use Rattle.dewey_labels.proofs.Limits.{within_of_test, test_of_within}
 
 -- the new divisions as each call puts them together, from the parent's and the neighbours' codes as it read them
 pub first_made : (p ds out : List ℕ) → ds ≡ p → out ≡ ds ++ alone → out ≡ new_divisions p None None

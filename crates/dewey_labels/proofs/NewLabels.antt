@@ -1,14 +1,15 @@
 -- The laws of new labels: each is a child of its parent, lies strictly between its neighbours, and is a label but for the limits.
-use Rattle.std.proofs.Common.{◌≡◌, IsTrue, Option, Some, None, length, ℕ, ◌≤◌, true, false, ◌&&◌, nat_le, if◌then◌else◌, List, [], ◌∷◌, ◌++◌, Less, nat_cmp, arith, refl, sym, ap, subst, ◌∙◌}
-use Rattle.std.proofs.lemmas.Bool.Decides.{nat_tests}
+use Rattle.std.proofs.Common.{◌≡◌, IsTrue, Option, Some, None, ◌≤◌, true, false, if◌then◌else◌, ◌++◌, Less, nat_cmp, refl, sym, ap, subst, ◌∙◌}
 use Rattle.std.specs.Cmp.Lexicographic.{slice_cmp}
-use Rattle.std.specs.List.{AllByRecursion, list_all}
-use Rattle.dewey_labels.specs.Labels.{Label, greatest, most_divisions, is_child, is_label, Within, IsLabel}
+use Rattle.std.specs.List.{AllByRecursion}
+use Rattle.dewey_labels.specs.Labels.{Label, greatest, is_child, is_label, Within, is_within, IsLabel}
 use Rattle.dewey_labels.specs.Sides.{right, side, rest}
-use Rattle.dewey_labels.specs.NewLabels.{IsCode, alone, after, before, between, new_divisions, is_within, new_label}
+use Rattle.dewey_labels.specs.NewLabels.{alone, after, before, between, new_divisions, new_label}
+use Rattle.dewey_labels.specs.inside.Codes.{IsCode}
 use Rattle.dewey_labels.proofs.Sides.{cmp_append}
-use Rattle.dewey_labels.proofs.Codes.{first_of_both, second_of_both, is_child_append, child_is, child_code, children_right}
+use Rattle.dewey_labels.proofs.Codes.{is_child_append, child_is, child_code, children_right}
 use Rattle.dewey_labels.proofs.Labels.{child_label}
+use Rattle.dewey_labels.proofs.Limits.{within_of_test, test_of_within}
 use Rattle.dewey_labels.proofs.Fill.{all_behind}
 use Rattle.dewey_labels.proofs.NewCodes.{after_code, after_behind, before_code, before_ahead, LiesBetween, between_lies}
 
@@ -58,27 +59,6 @@ pub code_within : (p l : Label) → is_child p l ≡ true → Within l → IsCod
 code_within p l h within =
     (child_code p l h, all_behind (λ d. d ≤ greatest) p (rest p l) (subst (AllByRecursion (λ d. d ≤ greatest)) (child_is p l h) within.1))
 
-le_true : (d n : ℕ) → nat_le d n ≡ true → d ≤ n
-le_true d n h = grind (arith, nat_tests)
-
-true_le : (d n : ℕ) → d ≤ n → nat_le d n ≡ true
-true_le d n h = grind (arith, nat_tests)
-
-at_most_all : (l : List ℕ) → list_all (λ d. nat_le d greatest) l ≡ true → AllByRecursion (λ d. d ≤ greatest) l
-at_most_all [] h = tt
-at_most_all (d ∷ l) h = (le_true d greatest (first_of_both _ _ h), at_most_all l (second_of_both (nat_le d greatest) _ h))
-
-all_at_most : (l : List ℕ) → AllByRecursion (λ d. d ≤ greatest) l → list_all (λ d. nat_le d greatest) l ≡ true
-all_at_most [] h = refl
-all_at_most (d ∷ l) h = ap (λ b. b && list_all (λ d. nat_le d greatest) l) (true_le d greatest h.0) ∙ all_at_most l h.1
-
--- the test of the limits decides them
-pub within_of_test : (l : Label) → is_within l ≡ true → Within l
-within_of_test l h = (le_true (length l) most_divisions (first_of_both _ _ h), at_most_all l (second_of_both (nat_le (length l) most_divisions) _ h))
-
-pub test_of_within : (l : Label) → Within l → is_within l ≡ true
-test_of_within l h = ap (λ b. b && list_all (λ d. nat_le d greatest) l) (true_le (length l) most_divisions h.0) ∙ all_at_most l h.1
-
 -- where no limit is passed, the new label is the parent's divisions and the code; where one is, there is none
 pub new_label_within : (p : Label) (l r : Option Label) → Within (new_divisions p l r) → new_label p l r ≡ Some (new_divisions p l r)
 new_label_within p l r h =
@@ -102,8 +82,8 @@ new_label_is p new l r h =
     ] refl h
 
 -- a new label is a label within the limits
-pub new_label_lawful : (p new : Label) (l r : Option Label) → is_label p ≡ true → AreNeighbours p l r → new_label p l r ≡ Some new → IsLabel new
-new_label_lawful p new l r label n h =
+pub new_label_valid : (p new : Label) (l r : Option Label) → is_label p ≡ true → AreNeighbours p l r → new_label p l r ≡ Some new → IsLabel new
+new_label_valid p new l r label n h =
     let is = new_label_is p new l r h in
     let child : is_child p new ≡ true = subst (λ v. is_child p v ≡ true) (sym is.0) (new_child p l r n) in
     (child_label p new label child, is.1)

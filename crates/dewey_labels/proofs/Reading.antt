@@ -7,12 +7,13 @@ use Rattle.std.proofs.lemmas.Fmt.{decimal_digit, decimal_nonempty, decimal_injec
 use Rattle.std.proofs.lemmas.Bool.{and_parts, and_from, or_cases, or_left, or_right, cases_Bool, cond-true, cond-false, eqb-true, eqb-false, eq-eqb, ne_eqb, leb-true, le-leb, ltb-true, ltb-false, lt-ltb, cases_eq, cases_lt, both_ways, not-true}
 use Rattle.std.proofs.lemmas.List.{take-append-drop, length-take-le}
 use Rattle.std.proofs.Math.Seq.{take-suc}
-use Rattle.dewey_labels.specs.Labels.{Label, greatest, most_divisions, is_odd, is_empty, are_codes, is_label, IsLabel}
+use Rattle.dewey_labels.specs.Labels.{Label, greatest, most_divisions, is_odd, are_codes, is_label, IsLabel}
 use Rattle.dewey_labels.specs.LabelText.{label_text, IsLabelText, BeginsLabelText, IsNoLabelText}
-use Rattle.dewey_labels.specs.LabelReader.{ended_text, begun_text, text_so_far, begin_label, begins_odd, begins_division, ends_division, CanGoOn}
+use Rattle.dewey_labels.specs.inside.LabelReader.{ended_text, begun_text, text_so_far, begin_label, begins_odd, begins_division, ends_division, CanGoOn}
 use Rattle.dewey_labels.proofs.Decimals.{Digits, digits_on, decimal_digits, same_digits, begins_digits, begins_decimal, decimal_more}
 use Rattle.dewey_labels.proofs.LabelTexts.{AllSmall, after, after_no_digit, label_text-cons, text_some, label_text-injective, goes_on, text_behind, IsTextByte, text_bytes}
 use Rattle.dewey_labels.proofs.Labels.{ends_odd, label_ends_odd, low, are_codes-tail}
+use Rattle.dewey_labels.specs.Lists.{is_empty}
 
 -- a division of a label
 pub record IsDivision (ds : List ℕ) (d : ℕ) (more : List ℕ) : Type 0 where

@@ -5,7 +5,7 @@ use Rattle.std.specs.Ordering.{ordering_reverse, ordering_then}
 use Rattle.std.specs.Cmp.{nat_cmp_total, ranked, tied_itself}
 use Rattle.std.specs.Cmp.Lexicographic.{slice_cmp, nat_list_cmp_total}
 use Rattle.dewey_labels.specs.Labels.{Label, is_ancestor}
-use Rattle.dewey_labels.specs.Sides.{above, left, same, under, right, turn, side, is_under, is_in, ahead, rest}
+use Rattle.dewey_labels.specs.Sides.{Side, above, left, same, under, right, turn, side, is_under, is_in, ahead, rest}
 
 -- ---- the order of divisions
 
@@ -87,6 +87,14 @@ same_is (x ∷ l) (y ∷ k) h =
       | Equal ↦ λ q e i. equal_is y x q i ∷ same_is l k e i
       | Greater ↦ λ _ e. cc
     ] refl h
+
+-- what lies under a label lies in its subtree
+pub under_is_in : (s : Side) → is_under s ≡ true → is_in s ≡ true
+under_is_in Side.above h = cc
+under_is_in Side.left h = cc
+under_is_in Side.same h = cc
+under_is_in Side.under h = refl
+under_is_in Side.right h = cc
 
 -- what lies in a label's subtree begins with that label
 pub in_is : (l k : Label) → is_in (side l k) ≡ true → k ≡ l ++ rest l k

@@ -1,11 +1,12 @@
 -- The child of a label on the way to another one below it is a label.
 use Rattle.std.proofs.Common.{◌≡◌, ℕ, ◌+◌, ◌≤◌, true, false, cond, not, ◌&&◌, nat_le, List, [], ◌∷◌, ◌++◌, length, take, drop, refl, sym, ap, subst, ◌∙◌, arith, true≢false, append_assoc, append-nil, length-append}
 use Rattle.std.proofs.Math.Seq.{take-append_seam, drop-append_seam}
-use Rattle.dewey_labels.specs.Labels.{Label, is_odd, is_empty, is_code, is_child, are_codes, is_label, is_ancestor, Within, IsLabel}
-use Rattle.dewey_labels.specs.Sides.{Side, side, is_under, is_in, rest, first_code}
-use Rattle.dewey_labels.proofs.Labels.{are_codes-tail, code_makes_child, child_label, Within-begins}
-use Rattle.dewey_labels.proofs.Codes.{first_of_both, second_of_both}
-use Rattle.dewey_labels.proofs.Sides.{in_is, side_itself, ancestor_under}
+use Rattle.dewey_labels.specs.Labels.{Label, is_odd, is_code, is_child, are_codes, is_label, is_ancestor, Within, IsLabel}
+use Rattle.dewey_labels.specs.Sides.{side, is_under, rest, first_code}
+use Rattle.dewey_labels.proofs.Labels.{are_codes-tail, child_label, Within-begins}
+use Rattle.dewey_labels.proofs.Codes.{first_of_both, second_of_both, is_child_append}
+use Rattle.dewey_labels.proofs.Sides.{in_is, side_itself, ancestor_under, under_is_in}
+use Rattle.dewey_labels.specs.Lists.{is_empty}
 
 -- what stands behind codes in a row, in codes in a row, is codes in a row
 codes_behind : (d : ℕ) (ds w : List ℕ) → are_codes (d ∷ ds) ≡ true → are_codes ((d ∷ ds) ++ w) ≡ true → are_codes w ≡ true
@@ -49,24 +50,17 @@ pub record GoesOn (p l : Label) : Type 0 where
   pub rest_is : rest p l ≡ next ∷ more
   pub whole : l ≡ p ++ (next ∷ more)
 
-in_side : (s : Side) → is_under s ≡ true → is_in s ≡ true
-in_side Side.above h = cc
-in_side Side.left h = cc
-in_side Side.same h = cc
-in_side Side.under h = refl
-in_side Side.right h = cc
-
 pub under_goes_on : (p l : Label) → is_under (side p l) ≡ true → GoesOn p l
 under_goes_on p l h = elim (rest p l) as (λ r. rest p l ≡ r → GoesOn p l) [
-  | [] ↦ λ e. let same_label : l ≡ p = in_is p l (in_side (side p l) h) ∙ ap (λ r. p ++ r) e ∙ append-nil p in absurd (true≢false (sym h ∙ ap is_under (ap (side p) same_label ∙ side_itself p)))
-  | d ∷ w ↦ λ e. record { next = d; more = w; rest_is = e; whole = in_is p l (in_side (side p l) h) ∙ ap (λ r. p ++ r) e }
+  | [] ↦ λ e. let same_label : l ≡ p = in_is p l (under_is_in (side p l) h) ∙ ap (λ r. p ++ r) e ∙ append-nil p in absurd (true≢false (sym h ∙ ap is_under (ap (side p) same_label ∙ side_itself p)))
+  | d ∷ w ↦ λ e. record { next = d; more = w; rest_is = e; whole = in_is p l (under_is_in (side p l) h) ∙ ap (λ r. p ++ r) e }
 ] refl
 
 pub toward_is_child : (p l : Label) → is_label p ≡ true → is_label l ≡ true → is_under (side p l) ≡ true → is_child p (p ++ first_code (rest p l)) ≡ true
 toward_is_child p l hp hl h =
     let on = under_goes_on p l h in
     let codes : are_codes (on.next ∷ on.more) ≡ true = label_behind p (on.next ∷ on.more) hp (ap is_label (sym on.whole) ∙ hl) in
-    subst (λ r. is_child p (p ++ first_code r) ≡ true) (sym on.rest_is) (code_makes_child p (first_code (on.next ∷ on.more)) (first_is_code on.next on.more codes))
+    subst (λ r. is_child p (p ++ first_code r) ≡ true) (sym on.rest_is) (is_child_append p (first_code (on.next ∷ on.more)) (first_is_code on.next on.more codes))
 
 pub toward_is_label : (p l : Label) → IsLabel p → IsLabel l → is_under (side p l) ≡ true → IsLabel (p ++ first_code (rest p l))
 toward_is_label p l hp hl h =
@@ -76,7 +70,7 @@ toward_is_label p l hp hl h =
     let code : is_code (first_code w) ≡ true = first_is_code on.next on.more codes in
     let cut = first_begins w in
     let whole : l ≡ (p ++ first_code w) ++ cut.0 = on.whole ∙ ap (λ r. p ++ r) cut.1 ∙ sym (append_assoc p (first_code w) cut.0) in
-    subst (λ r. IsLabel (p ++ first_code r)) (sym on.rest_is) (child_label p (p ++ first_code w) hp.0 (code_makes_child p (first_code w) code), Within-begins (p ++ first_code w) cut.0 (subst Within whole hl.1))
+    subst (λ r. IsLabel (p ++ first_code r)) (sym on.rest_is) (child_label p (p ++ first_code w) hp.0 (is_child_append p (first_code w) code), Within-begins (p ++ first_code w) cut.0 (subst Within whole hl.1))
 
 -- cut out of the label below
 pub toward_is_taken : (p l : Label) → is_under (side p l) ≡ true → (drop (length p) l ≡ rest p l) × (take (length p + length (first_code (rest p l))) l ≡ p ++ first_code (rest p l))

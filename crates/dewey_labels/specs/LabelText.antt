@@ -4,8 +4,7 @@ use Rattle.std.specs.List.{join_with_byte, slice_split}
 use Rattle.std.specs.Str.{bytes_eq}
 use Rattle.std.specs.Str.Parse.{digits_value}
 use Rattle.std.specs.Fmt.{decimal}
-use Rattle.dewey_labels.specs.Labels.{Label, is_label, IsLabel}
-use Rattle.dewey_labels.specs.NewLabels.{is_within}
+use Rattle.dewey_labels.specs.Labels.{Label, is_label_within, IsLabel}
 use Rattle.dewey_labels.specs.declared.label_text.LabelTextError.{LabelTextError}
 use Rattle.dewey_labels.specs.declared.label_text.LabelTextError.TheVariants.{NotALabel, NoMemory}
 
@@ -23,7 +22,7 @@ numbers_in t = map (digits_value 10) (slice_split (λ b. b == 46) t)
 
 -- a label, where this is its text
 abbrev pub if_text_of : List ℕ → Label → Option Label
-if_text_of t l = if is_label l && (is_within l && bytes_eq (label_text l) t) then Some l else None
+if_text_of t l = if is_label_within l && bytes_eq (label_text l) t then Some l else None
 
 -- the label whose text t is, if there is one; its divisions are the numbers in the text
 abbrev pub label_of : List ℕ → Option Label

@@ -1,6 +1,7 @@
 -- Labels as lists of divisions (docs/PROFILE.md, "Labels"; after the DeweyIDs of Haustein and Härder).
 use Rattle.std.specs.Prelude.{◌≡◌, ℕ, zero, suc, ◌≤◌, ◌-◌, ◌%◌, Bool, true, false, cond, ◌&&◌, not, List, [], ◌∷◌, length, ◌==◌, nat_le, count_by, IsTrue}
-use Rattle.std.specs.List.{AllByRecursion}
+use Rattle.std.specs.List.{AllByRecursion, list_all}
+use Rattle.dewey_labels.specs.Lists.{is_empty}
 
 -- a label as contracts see it: the list of its divisions
 abbrev pub Label : Type 0
@@ -21,10 +22,6 @@ most_divisions = 255
 -- an odd division ends a code, an even one is an overflow division
 abbrev pub is_odd : ℕ → Bool
 is_odd d = d % 2 == 1
-
-abbrev pub is_empty : List ℕ → Bool
-is_empty [] = true
-is_empty (d ∷ ds) = false
 
 -- one code: even divisions from 2 on, then an odd one from 3 on
 abbrev pub is_code : List ℕ → Bool
@@ -75,6 +72,14 @@ is_ancestor (x ∷ a) (y ∷ l) = (x == y) && is_ancestor a l
 abbrev pub Within : Label → Type 0
 Within l = (length l ≤ most_divisions) × AllByRecursion (λ d. d ≤ greatest) l
 
+-- the same as a test
+abbrev pub is_within : Label → Bool
+is_within l = nat_le (length l) most_divisions && list_all (λ d. nat_le d greatest) l
+
 -- a label within the limits
 abbrev pub IsLabel : Label → Type 0
 IsLabel l = IsTrue (is_label l) × Within l
+
+-- the same as a test
+abbrev pub is_label_within : Label → Bool
+is_label_within l = is_label l && is_within l

@@ -1,6 +1,11 @@
-pub mod LabelReader
-pub mod LabelText
+-- words of public clauses: what a label is, its ancestors, its sides, its text, and the label of a new node
 pub mod Labels
-pub mod NewLabels
+pub mod Ancestors
 pub mod Sides
+pub mod LabelText
+pub mod NewLabels
+pub mod Lists
+-- words that only the proof uses
+pub mod inside
+-- how a type may hold a list of itself
 pub mod formers

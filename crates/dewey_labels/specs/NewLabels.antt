@@ -1,17 +1,16 @@
 -- The label of a new node, from its parent and its neighbours (docs/PROFILE.md, "New labels").
 -- l is the code of the neighbour to the left, r that of the one to the right.
-use Rattle.std.specs.Prelude.{ℕ, ◌+◌, ◌-◌, Bool, ◌&&◌, ◌==◌, nat_le, nat_lt, if◌then◌else◌, List, [], ◌∷◌, ◌++◌, length, Option, Some, None, option_map, ◌≤◌, IsTrue}
-use Rattle.std.specs.List.{AllByRecursion, list_all}
-use Rattle.dewey_labels.specs.Labels.{Label, greatest, most_divisions, is_odd, is_code}
+use Rattle.std.specs.Prelude.{ℕ, ◌+◌, ◌-◌, ◌&&◌, ◌==◌, nat_le, nat_lt, if◌then◌else◌, List, [], ◌∷◌, ◌++◌, Option, Some, None, option_map}
+use Rattle.dewey_labels.specs.Labels.{Label, is_odd, is_within}
 use Rattle.dewey_labels.specs.Sides.{rest}
 
--- a code with no division above the greatest
-abbrev pub IsCode : List ℕ → Type 0
-IsCode c = IsTrue (is_code c) × AllByRecursion (λ d. d ≤ greatest) c
+-- the odd division with which the children of a node are begun: there is room on both sides of it
+abbrev pub first_division : ℕ
+first_division = 1001
 
 -- the code of a child with no neighbour
 abbrev pub alone : List ℕ
-alone = 1001 ∷ []
+alone = first_division ∷ []
 
 -- the least odd number above a
 abbrev pub odd_above : ℕ → ℕ
@@ -27,7 +26,7 @@ abbrev pub before : List ℕ → List ℕ
 before [] = []
 before (b ∷ r) =
     if is_odd b && nat_le 5 b then (b - 2) ∷ []
-    else if b == 3 then 2 ∷ 1001 ∷ []
+    else if b == 3 then 2 ∷ first_division ∷ []
     else if nat_le 4 b then (b - 1) ∷ []
     else 2 ∷ before r
 
@@ -38,7 +37,7 @@ between (a ∷ l) [] = []
 between (a ∷ l) (b ∷ r) =
     if a == b then a ∷ between l r
     else if nat_lt (odd_above a) b then odd_above a ∷ []
-    else if is_odd a && b == a + 2 then (a + 1) ∷ 1001 ∷ []
+    else if is_odd a && b == a + 2 then (a + 1) ∷ first_division ∷ []
     else if is_odd a then b ∷ before r
     else a ∷ after l
 
@@ -52,10 +51,6 @@ new_code (Some l) (Some r) = between l r
 -- the divisions of a new child of p between the labels of its neighbours
 abbrev pub new_divisions : Label → Option Label → Option Label → List ℕ
 new_divisions p left right = p ++ new_code (option_map (rest p) left) (option_map (rest p) right)
-
--- the limits on divisions, as a test
-abbrev pub is_within : List ℕ → Bool
-is_within l = nat_le (length l) most_divisions && list_all (λ d. nat_le d greatest) l
 
 -- the label of a new child of p between the labels of its neighbours; None where it would pass a limit
 abbrev pub new_label : Label → Option Label → Option Label → Option Label

@@ -1,3 +1,4 @@
+//! Copies into the memory of an allocator.
 ghost use Rattle.std.specs.Prelude.{◌≡◌, IfOk};
 
 use crate::NoMemory;

@@ -1,3 +1,4 @@
+//! Labels, their order, and the labels that lie above one.
 ghost use Rattle.std.specs.Prelude.{◌≡◌, ◌≢◌, ◌↔◌, ◌<◌, ◌≤◌, [], ◌∷◌, ◌++◌, length, nat_eq, IsTrue, IsNone, IsSome, IfOk, IfSome, Some, refl};
 ghost use Rattle.std.specs.Ordering.{nat_cmp};
 ghost use Rattle.std.specs.Cmp.{partial_equiv_from_equiv};
@@ -11,10 +12,10 @@ use std::alloc::Global;
 use std::cmp::Ordering;
 use std::marker::Model;
 
-/// The most divisions of a label.
+/// The most divisions of a label: `most_divisions` of the definitions.
 pub const MOST_DIVISIONS: usize = 255;
 
-/// The greatest division of a label.
+/// The greatest division of a label: `greatest` of the definitions.
 pub const GREATEST: u32 = 4_294_967_291;
 
 /// A label, seen as the list of its divisions.

@@ -1,7 +1,8 @@
+//! Reading the text of a label, byte by byte.
 ghost use Rattle.std.specs.Prelude.{◌≡◌, ◌+◌, ◌<◌, [], ◌∷◌, ◌++◌, length, IfOk, IfSome, IfNone};
 ghost use Rattle.std.specs.Bool.{OnTrue, OnFalse};
 ghost use Rattle.dewey_labels.specs.Labels.{IsLabel};
-ghost use Rattle.dewey_labels.specs.LabelReader.{begins_division, ends_division};
+ghost use Rattle.dewey_labels.specs.inside.LabelReader.{begins_division, ends_division};
 ghost use Rattle.dewey_labels.specs.LabelText.{label_text, IsLabelText, BeginsLabelText};
 
 use crate::label::{GREATEST, Label, MOST_DIVISIONS};
@@ -22,7 +23,7 @@ pub struct LabelReader {
 
 impl Model for LabelReader {
     ghost use Rattle.std.specs.Prelude as p;
-    ghost use Rattle.dewey_labels.specs.LabelReader.{text_so_far, CanGoOn};
+    ghost use Rattle.dewey_labels.specs.inside.LabelReader.{text_so_far, CanGoOn};
 
     ghost Value = { p.List p.ℕ };
 

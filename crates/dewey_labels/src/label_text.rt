@@ -1,3 +1,4 @@
+//! The text of a label, written and read.
 ghost use Rattle.std.specs.Prelude.{◌≡◌, ◌≢◌, ◌++◌, Some, None, IfOk, IfErr, OnOk, OnErr};
 ghost use Rattle.dewey_labels.specs.Labels.{Label as LabelValue, IsLabel};
 ghost use Rattle.dewey_labels.specs.LabelText.{label_text, label_of, HasCause};
@@ -45,7 +46,7 @@ impl Label {
         ensures err { OnErr result (out.new ≡ out.old) }
     {
         let text = self.text(alloc)?;
-        out.extend_from_slice(text.as_str().as_bytes())
+        out.extend_from_slice(alloc, text.as_str().as_bytes())
     }
 
     /// The label whose text this is.

@@ -7,6 +7,7 @@ mod copied;
 mod label;
 mod label_reader;
 mod label_text;
+mod laws;
 mod list;
 #[cfg(test)]
 mod new_label_tests;
@@ -19,7 +20,10 @@ mod text;
 pub use copied::Copied;
 pub use label::{GREATEST, Label, MOST_DIVISIONS};
 pub use label_text::LabelTextError;
+pub use laws::a_labels_text_is_read_again;
 pub use list::List;
-pub use new_labels::{LabelError, child_after, child_before, child_between, child_first};
+pub use new_labels::{
+    FIRST_DIVISION, LabelError, child_after, child_before, child_between, child_first,
+};
 pub use no_memory::NoMemory;
 pub use text::Text;

@@ -1,4 +1,5 @@
-ghost use Rattle.std.specs.Prelude.{◌≡◌, ◌↔◌, [], ◌∷◌, ◌++◌, length, IsTrue, IfOk, OnOk, OnErr, MatchOption};
+//! Lists of items that a type may hold of itself, and that are copied item by item.
+ghost use Rattle.std.specs.Prelude.{◌≡◌, ◌↔◌, [], ◌∷◌, ◌++◌, length, take, IsTrue, IfOk, OnOk, OnErr, MatchOption};
 ghost use Rattle.std.specs.Cmp.Lexicographic.{pointwise, lists_per, lists_equiv};
 
 use crate::{Copied, NoMemory};
@@ -65,7 +66,7 @@ impl<T> List<T> {
         self.cells.is_empty()
     }
 
-    /// Takes the last item off.
+    /// Takes the last item off, if there is one.
     pub fn pop(&mut self) -> Option<T>
         ensures { MatchOption result ((self.old ≡ []) × (self.new ≡ [])) (λ last. self.old ≡ self.new ++ last ∷ []) }
     {
@@ -74,6 +75,13 @@ impl<T> List<T> {
 }
 
 impl<T: Drop> List<T> {
+    /// Lets go of the items behind the first `len`. It takes no memory.
+    pub fn truncate(&mut self, len: usize)
+        ensures { self.new ≡ take len self.old }
+    {
+        self.cells.truncate(len);
+    }
+
     /// Puts an item at the end. It takes its memory from the allocator that the list was made with.
     pub fn push(&mut self, item: T) -> Result<(), NoMemory>
         ensures ok { OnOk result (self.new ≡ self.old ++ item ∷ []) }
@@ -85,8 +93,8 @@ impl<T: Drop> List<T> {
 }
 
 impl<T: Copy> List<T> {
-    /// Puts items at the end, all of them or none.
-    pub fn extend_from_slice(&mut self, items: &[T]) -> Result<(), NoMemory>
+    /// Puts items at the end, all of them or none. Their memory comes from the allocator that the list was made with, of which there is one.
+    pub fn extend_from_slice(&mut self, _alloc: Global, items: &[T]) -> Result<(), NoMemory>
         ensures ok { OnOk result (self.new ≡ self.old ++ items.now) }
         ensures err { OnErr result (self.new ≡ self.old) }
     {

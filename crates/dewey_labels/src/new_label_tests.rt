@@ -1,3 +1,4 @@
+//! New labels, worked by hand.
 use crate::{Label, LabelError, List, child_after, child_before, child_between, child_first};
 use std::alloc::Global;
 use std::test::Fail;

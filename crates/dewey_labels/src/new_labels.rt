@@ -1,16 +1,18 @@
+//! The label of a new node, between those of its neighbours.
 ghost use Rattle.std.specs.Prelude.{◌≡◌, ◌≢◌, ◌↔◌, ◌≤◌, ◌++◌, if◌then◌else◌, Some, None, IsTrue, IfOk, OnOk};
 ghost use Rattle.std.specs.declared.cmp.Ordering.TheVariants.{Less};
 ghost use Rattle.std.specs.Ordering.{nat_cmp};
 ghost use Rattle.std.specs.Cmp.Lexicographic.{slice_cmp};
-ghost use Rattle.dewey_labels.specs.Labels.{greatest, is_child, is_label, IsLabel};
+ghost use Rattle.dewey_labels.specs.Labels.{greatest, is_child, is_label, is_within, IsLabel};
 ghost use Rattle.dewey_labels.specs.Sides.{rest as rest_behind};
-ghost use Rattle.dewey_labels.specs.NewLabels.{IsCode, odd_above as least_odd_above, after, before, between, is_within, new_label};
+ghost use Rattle.dewey_labels.specs.NewLabels.{odd_above as least_odd_above, after, before, between, new_label};
+ghost use Rattle.dewey_labels.specs.inside.Codes.{IsCode};
 
 use crate::{Label, List, NoMemory};
 use std::alloc::Global;
 
-/// The odd division with which a code begins that has room on both sides.
-const MIDDLE: u32 = 1001;
+/// The odd division with which the children of a node are begun: there is room on both sides of it; `first_division` of the definitions.
+pub const FIRST_DIVISION: u32 = 1001;
 
 /// Why there is no new label.
 #[derive(Debug, Drop, Clone, Copy, PartialEq, Eq)]
@@ -40,7 +42,7 @@ pub fn child_first(alloc: Global, parent: &Label) -> Result<Label, LabelError>
     ensures child { IfOk result (λ new. IsTrue (is_child parent.now new)) }
 {
     let mut divisions = divisions_of(alloc, parent)?;
-    divisions.push(MIDDLE)?;
+    divisions.push(FIRST_DIVISION)?;
     within_limits(divisions)
 }
 
@@ -136,7 +138,7 @@ fn push_before(divisions: &mut List<u32>, right: &[u32]) -> Result<(), NoMemory>
         [first, ..] if first % 2 == 1 && *first >= 5 => divisions.push(first - 2),
         [3, ..] => {
             divisions.push(2)?;
-            divisions.push(MIDDLE)
+            divisions.push(FIRST_DIVISION)
         }
         [first, ..] if *first >= 4 => divisions.push(first - 1),
         [_, rest @ ..] => {
@@ -163,7 +165,7 @@ fn push_between(divisions: &mut List<u32>, left: &[u32], right: &[u32]) -> Resul
         divisions.push(odd_above(*a))
     } else if a % 2 == 1 && *b == a + 2 {
         divisions.push(a + 1)?;
-        divisions.push(MIDDLE)
+        divisions.push(FIRST_DIVISION)
     } else if a % 2 == 1 {
         divisions.push(*b)?;
         push_before(divisions, after_b)

@@ -1,3 +1,4 @@
+//! The one error of a call that only runs out of memory.
 use std::alloc::{AllocError, AllocFailed};
 
 /// The allocator had no memory left.

@@ -1,3 +1,4 @@
+//! Lists, texts, labels and their texts, as tables.
 ghost use Rattle.std.specs.Prelude.{◌≡◌, IfOk};
 
 use crate::{Copied, Label, LabelTextError, List, NoMemory, Text};
@@ -73,6 +74,31 @@ fn shown(alloc: Global, label: Option<&Label>) -> Result<List<u8>, NoMemory> {
     Ok(out)
 }
 
+#[test]
+fn a_list_grows_at_its_end_and_is_cut_back(rt: HostRuntime) -> Result<(), Fail> {
+    let alloc = rt.alloc();
+    let mut list = List::new(alloc);
+    list.extend_from_slice(alloc, &[5_u8, 3])?;
+    list.extend_from_slice(alloc, &[4])?;
+    assert_eq!(rt; list.as_slice(), [5, 3, 4].as_slice());
+    list.truncate(3);
+    assert_eq!(rt; list.len(), 3);
+    list.truncate(1);
+    assert_eq!(rt; list.as_slice(), [5].as_slice());
+    Ok(())
+}
+
+#[test]
+fn a_text_is_made_of_a_string_and_gives_it_back(rt: HostRuntime) -> Result<(), Fail> {
+    let alloc = rt.alloc();
+    for written in ["", "a", "Bücher"] {
+        let text = Text::from_string(String::from_str(alloc, written)?);
+        assert_eq!(rt; text.copy(alloc)?.as_str(), written);
+        assert_eq!(rt; text.into_string().as_str(), written);
+    }
+    Ok(())
+}
+
 /// Labels, their levels and the labels of their parents, nothing for the root.
 const LEVELS: [(&[u8], u32, &[u8]); 4] = [
     (b"1", 0, b""),
@@ -93,6 +119,30 @@ fn levels_and_parents_go_by_codes(rt: HostRuntime) -> Result<(), Fail> {
             "of {text:?}"
         );
         assert_eq!(rt; shown(alloc, Some(&label))?.as_slice(), text);
+    }
+    Ok(())
+}
+
+/// Two labels, and that of the child of the first on the way to the second, or nothing.
+const CHILDREN_TOWARD: [(&[u8], &[u8], &[u8]); 5] = [
+    (b"1", b"1.1001.1001", b"1.1001"),
+    (b"1.1001", b"1.1001.2.1001.3", b"1.1001.2.1001"),
+    (b"1.1001", b"1.1001", b""),
+    (b"1.3", b"1.5.3", b""),
+    (b"1.3.3", b"1.3", b""),
+];
+
+#[test]
+fn the_child_toward_a_label_lies_below_or_is_none(rt: HostRuntime) -> Result<(), Fail> {
+    let alloc = rt.alloc();
+    for (above, below, child) in CHILDREN_TOWARD {
+        let at = Label::read_text(alloc, above)?;
+        let toward = at.child_toward(alloc, &Label::read_text(alloc, below)?)?;
+        assert_eq!(rt;
+            shown(alloc, toward.as_ref())?.as_slice(),
+            child,
+            "from {above:?} to {below:?}"
+        );
     }
     Ok(())
 }

@@ -1,4 +1,6 @@
-ghost use Rattle.std.specs.Prelude.{◌≡◌, nat_eq, IfOk, Some, refl, string_bytes};
+//! Texts: strings that contracts see as the bytes of their UTF-8.
+ghost use Rattle.std.specs.Prelude.{◌≡◌, nat_eq, IsTrue, IfOk, Some, refl, string_bytes};
+ghost use Rattle.std.specs.Str.{is_utf8};
 ghost use Rattle.std.specs.Ordering.{nat_cmp};
 ghost use Rattle.std.specs.Cmp.{partial_equiv_from_equiv};
 ghost use Rattle.std.specs.Cmp.Lexicographic.{pointwise, slice_cmp, nat_list_eq_equiv, nat_list_cmp_total, texts_ties, texts_po};
@@ -8,7 +10,7 @@ use std::alloc::Global;
 use std::cmp::Ordering;
 use std::marker::Model;
 
-/// A text, seen as the bytes of its UTF-8.
+/// A text, seen as its bytes, which are UTF-8.
 #[derive(Debug, Drop)]
 pub struct Text {
     chars: String,
@@ -16,10 +18,13 @@ pub struct Text {
 
 impl Model for Text {
     ghost use Rattle.std.specs.Prelude as p;
+    ghost use Rattle.std.specs.Str.{is_utf8};
 
     ghost Value = { p.List p.ℕ };
 
     ghost view = { λ t. p.string_bytes t.chars };
+
+    ghost invariant = { λ t. p.IsTrue (is_utf8 (p.string_bytes t.chars)) };
 }
 
 impl Text {
@@ -28,18 +33,30 @@ impl Text {
         ensures { IfOk result (λ t. t ≡ s.now) }
     {
         let chars = String::from_str(alloc, s)?;
-        Ok(Text { chars })
+        Ok(Text::from_string(chars))
     }
 
     /// The text of a string. It takes no memory.
-    pub(crate) fn from_string(chars: String) -> Text
+    pub fn from_string(chars: String) -> Text
         ensures { result ≡ string_bytes chars }
     {
+        // A `&str` is UTF-8: by it the proof knows that the string is.
+        let _str = chars.as_str();
         Text { chars }
     }
 
+    /// The string of the text. It takes no memory.
+    pub fn into_string(self) -> String
+        ensures bytes { string_bytes result ≡ self }
+        ensures utf8 { IsTrue (is_utf8 self) }
+    {
+        let Text { chars } = self;
+        chars
+    }
+
     pub fn as_str(&self) -> &str
-        ensures { result.now ≡ self.now }
+        ensures bytes { result.now ≡ self.now }
+        ensures utf8 { IsTrue (is_utf8 self.now) }
     {
         self.chars.as_str()
     }

@@ -1,7 +1,7 @@
 use Rattle.std.proofs.Common.{rules, ◌≡◌, true, ◌≤◌, ◌-◌, length, take, drop, sym, subst, ◌∙◌, take_all, arith, length-drop}
 use Rattle.dewey_labels.specs.Labels.{Label, is_child}
 use Rattle.dewey_labels.specs.Sides.{rest}
-use Rattle.dewey_labels.specs.NewLabels.{IsCode}
+use Rattle.dewey_labels.specs.inside.Codes.{IsCode}
 use Rattle.dewey_labels.proofs.Codes.{child_longer, child_drop}
 use Rattle.dewey_labels.proofs.NewLabels.{code_within}
 use Rattle.dewey_labels.proofs.new_labels.code.Goals as goal

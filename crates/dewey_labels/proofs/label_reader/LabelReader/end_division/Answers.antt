@@ -1,6 +1,6 @@
 use Rattle.std.proofs.Common.{◌≡◌, ◌+◌, true, false, refl, sym, ap, subst, ◌∙◌, ◌++◌, ◌∷◌, [], length, length-append, arith}
 use Rattle.dewey_labels.specs.LabelText.{BeginsLabelText}
-use Rattle.dewey_labels.specs.LabelReader.{ends_division, text_so_far, CanGoOn}
+use Rattle.dewey_labels.specs.inside.LabelReader.{ends_division, text_so_far, CanGoOn}
 use Rattle.dewey_labels.proofs.Reading.{refused_point, taken_point, goes_on_by_point, ended_some, short}
 use Rattle.dewey_labels.proofs.label_reader.LabelReader.end_division.Goals as goal
 

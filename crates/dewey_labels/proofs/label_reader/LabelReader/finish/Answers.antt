@@ -1,7 +1,7 @@
 use Rattle.std.proofs.Common.{◌≡◌, sym, ap, subst, ◌∙◌, ◌++◌, ◌∷◌, []}
 use Rattle.dewey_labels.specs.Labels.{IsLabel}
 use Rattle.dewey_labels.specs.LabelText.{label_text, IsLabelText}
-use Rattle.dewey_labels.specs.LabelReader.{text_so_far, CanGoOn}
+use Rattle.dewey_labels.specs.inside.LabelReader.{text_so_far, CanGoOn}
 use Rattle.dewey_labels.proofs.Reading.{not_begun, not_whole, whole_text, found_whole, found_none}
 use Rattle.dewey_labels.proofs.label_reader.LabelReader.finish.Goals as goal
 

@@ -1,6 +1,6 @@
 use Rattle.std.proofs.Common.{◌≡◌, ◌+◌, ◌*◌, true, false, refl, sym, ap, subst, ◌∙◌, ◌++◌, ◌∷◌, [], length, length-append, arith}
 use Rattle.dewey_labels.specs.LabelText.{BeginsLabelText}
-use Rattle.dewey_labels.specs.LabelReader.{begins_division, text_so_far, CanGoOn}
+use Rattle.dewey_labels.specs.inside.LabelReader.{begins_division, text_so_far, CanGoOn}
 use Rattle.dewey_labels.proofs.Reading.{refused_digit, taken_digit, goes_on_by_digit, short}
 use Rattle.dewey_labels.proofs.label_reader.LabelReader.read_digit.Goals as goal
 
