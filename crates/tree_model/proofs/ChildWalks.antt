@@ -6,11 +6,12 @@ use Rattle.tree_model.specs.declared.reply.Reply.TheVariants.{Places, Refused}
 use Rattle.tree_model.specs.declared.refusal.Refusal.TheVariants.{Dom}
 use Rattle.tree_model.specs.Keys.{node_key}
 use Rattle.tree_model.specs.Entries.{get, first_above}
-use Rattle.tree_model.specs.Seeks.{behind_attributes, behind_tree, if_under}
-use Rattle.tree_model.specs.Tree.{Forest, none, node, Tree, map_of, at, found, up, head_label, first_of, next_of, children_of, following_of}
-use Rattle.tree_model.specs.WellFormed.{KeysRise, WellFormed}
+use Rattle.tree_model.specs.inside.Seeks.{behind_attributes, behind_tree, if_under}
+use Rattle.tree_model.specs.Tree.{Forest, none, node, Tree, map_of, at, found, head_label, first_of, next_of, children_of}
+use Rattle.tree_model.specs.inside.FoundNodes.{up, following_of}
+use Rattle.tree_model.specs.ValidTrees.{KeysRise, IsValidTree}
 use Rattle.tree_model.specs.Outcomes.{see, not_found_err}
-use Rattle.tree_model.specs.DomReads.{children}
+use Rattle.tree_model.specs.Navigation.{children}
 use Rattle.tree_model.proofs.Found.{some_is, at_keys, at_label, up_parent}
 use Rattle.tree_model.proofs.Steps.{Stepped, step_first, step_next, none_within, none_follows}
 use Rattle.tree_model.proofs.WholeTree.{there_in_tree}
@@ -30,7 +31,7 @@ label_odd l f w y =
     ] there.1 (at_label l f y) y
 
 -- it begins with the first child
-pub walk_begins : (t : Tree) (l : Label) (next : Option Label) → WellFormed t → found (at l t.documents) ≡ true → next ≡ if_under l (first_above (behind_attributes l) (map_of t)) → Walked t l [] next
+pub walk_begins : (t : Tree) (l : Label) (next : Option Label) → IsValidTree t → found (at l t.documents) ≡ true → next ≡ if_under l (first_above (behind_attributes l) (map_of t)) → Walked t l [] next
 walk_begins t l next w y e = by next (e ∙ first_in_tree l t w y)
   where
     by : (next : Option Label) → next ≡ first_of (at l t.documents) → Walked t l [] next
@@ -38,7 +39,7 @@ walk_begins t l next w y e = by next (e ∙ first_in_tree l t w y)
     by (Some c) q = let s : Stepped t.documents c (children_of (at l t.documents)) l = step_first root root l c t.documents w.keys y (sym q) in (y, sym s.follows, s.there, s.is_child_of)
 
 -- it goes on with the right neighbour
-pub walk_goes : (t : Tree) (l c : Label) (out : List Label) (next : Option Label) → WellFormed t → Walked t l out (Some c) → next ≡ if_under l (first_above (behind_tree c) (map_of t)) → Walked t l (out ++ (c ∷ [])) next
+pub walk_goes : (t : Tree) (l c : Label) (out : List Label) (next : Option Label) → IsValidTree t → Walked t l out (Some c) → next ≡ if_under l (first_above (behind_tree c) (map_of t)) → Walked t l (out ++ (c ∷ [])) next
 walk_goes t l c out next w h e = by next (e ∙ ap (λ p. if_under p (first_above (behind_tree c) (map_of t))) (sym parent_of_c) ∙ next_in_tree c t w h.2)
   where
     parent_of_c : parent c ≡ l
@@ -58,7 +59,7 @@ walk_ends t l out h = by (at l t.documents) h.0 h.1
     by (node m r ats ch nx) y e = ap Places e
 
 -- where no node has the label there is no walk
-pub no_walk : (t : Tree) (l : Label) (there : Bool) → WellFormed t → there ≡ is_some (get (node_key l) (map_of t)) → there ≡ false → Refused (Dom not_found_err) ≡ children l t
+pub no_walk : (t : Tree) (l : Label) (there : Bool) → IsValidTree t → there ≡ is_some (get (node_key l) (map_of t)) → there ≡ false → Refused (Dom not_found_err) ≡ children l t
 no_walk t l there w is_there h = by (at l t.documents) (sym h ∙ is_there ∙ there_in_tree l t w)
   where
     by : (g : Forest) → false ≡ found g → Refused (Dom not_found_err) ≡ see (λ found. Places (children_of found)) g

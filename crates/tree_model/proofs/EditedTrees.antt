@@ -1,12 +1,13 @@
--- A change at one place of a tree keeps the tree well formed where it keeps its place so.
+-- A change at one place of a tree keeps the tree valid where it keeps its place so.
 use Rattle.std.proofs.Common.{◌≡◌, true, ◌∷◌, Some, None, refl, sym, ap, subst, false, ◌∙◌, true≢false}
 use Rattle.dewey_labels.specs.Labels.{Label, root, is_child, is_label}
 use Rattle.dewey_labels.proofs.Sides.{same_is}
 use Rattle.dewey_labels.specs.Sides.{above, left, same, under, right, side}
 use Rattle.dewey_labels.proofs.Labels.{child_label}
-use Rattle.tree_model.specs.Tree.{Forest, none, node, Tree, choose, at, found, up, low, head_label, labels, edit}
-use Rattle.tree_model.specs.WellFormed.{KeysRise, KindsAllowed, LimitsKept, IsCatalogueOf, WellFormed}
-use Rattle.tree_model.specs.DomWrites.{edited}
+use Rattle.tree_model.specs.Tree.{Forest, none, node, Tree, choose, at, found, head_label, labels, edit}
+use Rattle.tree_model.specs.inside.FoundNodes.{up, low}
+use Rattle.tree_model.specs.ValidTrees.{KeysRise, KindsAllowed, LimitsKept, IsCatalogueOf, IsValidTree}
+use Rattle.tree_model.specs.Edits.{edited}
 use Rattle.tree_model.proofs.Found.{some_is, at_keys, at_label}
 use Rattle.tree_model.proofs.Edits.{over, edit_keys, edit_kinds, edit_limits}
 
@@ -39,8 +40,8 @@ pub record KeepsPlace (l : Label) (h : Forest → Forest) (f : Forest) : Type 0 
   pub kinds : KindsAllowed (over l None f) (at l f) → KindsAllowed (over l None f) (h (at l f))
   pub limits : LimitsKept (at l f) → LimitsKept (h (at l f))
 
--- then the tree stays well formed
-pub edited_keeps : (l : Label) (h : Forest → Forest) (t : Tree) → WellFormed t → KeepsPlace l h t.documents → WellFormed (edited l h t)
+-- then the tree stays valid
+pub edited_keeps : (l : Label) (h : Forest → Forest) (t : Tree) → IsValidTree t → KeepsPlace l h t.documents → IsValidTree (edited l h t)
 edited_keeps l h t w k = record {
   keys = edit_keys root root l h t.documents w.keys k.keys;
   kinds = edit_kinds None l h t.documents w.kinds k.kinds;

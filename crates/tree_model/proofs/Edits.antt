@@ -5,8 +5,9 @@ use Rattle.dewey_labels.specs.Labels.{Label, is_child, Within}
 use Rattle.dewey_labels.specs.Sides.{above, left, same, under, right, side}
 use Rattle.tree_model.specs.declared.record.Record.{Record}
 use Rattle.tree_model.specs.declared.record.Record.TheVariants.{Document, Element, Text, Attr}
-use Rattle.tree_model.specs.Tree.{Attributes, Forest, none, node, own, entries_of, choose, at, found, up, low, head_label, edit}
-use Rattle.tree_model.specs.WellFormed.{NamesRise, KeysRise, KindsAllowed, LimitsKept, may_follow}
+use Rattle.tree_model.specs.Tree.{Attributes, Forest, none, node, own, entries_of, choose, at, found, head_label, edit}
+use Rattle.tree_model.specs.inside.FoundNodes.{up, low}
+use Rattle.tree_model.specs.ValidTrees.{NamesRise, KeysRise, KindsAllowed, LimitsKept, may_follow}
 use Rattle.tree_model.proofs.Split.{before_of, after_of, regroup_down, regroup_along}
 use Rattle.tree_model.proofs.Found.{some_is, at_label}
 
@@ -37,7 +38,7 @@ edit_keys p lo l h (node m r ats ch nx) w k =
     ] k
 
 -- a forest under another bound
-raise : (p a b : Label) (f : Forest) → KeysRise p b f → ((m : Label) → head_label f ≡ Some m → slice_cmp nat_cmp a m ≡ Less) → KeysRise p a f
+pub raise : (p a b : Label) (f : Forest) → KeysRise p b f → ((m : Label) → head_label f ≡ Some m → slice_cmp nat_cmp a m ≡ Less) → KeysRise p a f
 raise p a b none w h = tt
 raise p a b (node m r ats ch nx) w h = (w.0, h m refl, w.2, w.3, w.4, w.5)
 

@@ -6,9 +6,9 @@ use Rattle.dewey_labels.specs.Labels.{Label, is_child}
 use Rattle.dewey_labels.specs.Sides.{right, side, is_in, ahead}
 use Rattle.dewey_labels.proofs.Sides.{side_itself, left_within}
 use Rattle.dewey_labels.proofs.Codes.{children_right}
-use Rattle.tree_model.specs.Entries.{or_else}
+use Rattle.std.specs.Option.{option_or}
 use Rattle.tree_model.specs.Tree.{Forest, none, node, own, entries_of, labels, last_label}
-use Rattle.tree_model.specs.WellFormed.{KeysRise}
+use Rattle.tree_model.specs.ValidTrees.{KeysRise}
 use Rattle.tree_model.proofs.Lists.{all_append, all_on}
 use Rattle.tree_model.proofs.Split.{Labelled, SideIn, tree_in}
 use Rattle.tree_model.proofs.Found.{some_is}
@@ -17,7 +17,7 @@ use Rattle.tree_model.proofs.Joins.{end_of}
 -- the last tree is that of a child
 pub last_is_child : (p b m : Label) (f : Forest) → KeysRise p b f → last_label f ≡ Some m → is_child p m ≡ true
 last_is_child p b m none w h = cc
-last_is_child p b m (node l r ats ch nx) w h = elim (last_label nx) as (λ o. last_label nx ≡ o → or_else o (Some l) ≡ Some m → is_child p m ≡ true) [
+last_is_child p b m (node l r ats ch nx) w h = elim (last_label nx) as (λ o. last_label nx ≡ o → option_or o (Some l) ≡ Some m → is_child p m ≡ true) [
   | None ↦ λ _ g. subst (λ v. is_child p v ≡ true) (some_is l m g) w.0
   | Some k ↦ λ e g. last_is_child p l m nx w.5 (e ∙ g)
 ] refl h

@@ -1,12 +1,15 @@
 -- Laws of maps as sorted lists of entries: what is found where a key cuts the list in two, and what a put and a del do.
-use Rattle.std.proofs.Common.{◌≡◌, true, false, cond, List, [], ◌∷◌, ◌++◌, filter, Option, Some, None, unwrap_or, Ordering, Less, Equal, Greater, is_lt, is_eq, refl, sym, ap, subst, ◌∙◌, append_assoc}
+use Rattle.std.proofs.Common.{◌≡◌, true, false, cond, List, [], ◌∷◌, ◌++◌, Option, Some, None, unwrap_or, Less, Equal, is_lt, is_eq, refl, sym, ap, subst, ◌∙◌, append_assoc}
 use Rattle.std.specs.Cmp.{alike_right}
 use Rattle.std.specs.List.{AllByRecursion}
 use Rattle.tree_model.specs.declared.change.Change.{Change}
 use Rattle.tree_model.specs.declared.key.Key.{Key}
 use Rattle.tree_model.specs.declared.record.Record.{Record}
 use Rattle.tree_model.specs.Keys.{key_cmp}
-use Rattle.tree_model.specs.Entries.{Entries, Below, Above, Sorted, get, first_above, last_below, or_else, by_order, put, del, set, changed, put_all}
+use Rattle.tree_model.specs.Entries.{Entries, Below, Above, Sorted, get, first_above, last_below, entries_above, put, del, set, changed, put_all}
+use Rattle.std.specs.Option.{option_or}
+use Rattle.tree_model.specs.Orders.{by_order}
+use Rattle.tree_model.proofs.Orders.{by_cases, lt_is}
 use Rattle.tree_model.proofs.Keys.{key_total, key_itself, key_turned, key_turned_back, key_tied}
 use Rattle.tree_model.proofs.Lists.{all_append, all_on, all_by, all_behind}
 
@@ -32,7 +35,7 @@ head_of (e ∷ es) = Some e
 
 abbrev pub last_of : Entries → Option (Key × Record)
 last_of [] = None
-last_of (e ∷ es) = or_else (last_of es) (Some e)
+last_of (e ∷ es) = option_or (last_of es) (Some e)
 
 -- ---- what is found in two parts of which the key lies between
 
@@ -46,15 +49,15 @@ first_above_head k (y ∷ ys) h = ap (λ o. cond (is_lt o) (Some y) (first_above
 
 pub last_below_none : (k : Key) (ys : Entries) → AllByRecursion (NotBelow k) ys → last_below k ys ≡ None
 last_below_none k [] h = refl
-last_below_none k (y ∷ ys) h = λ i. or_else (last_below_none k ys h.1 i) (cond (h.0 i) (Some y) None)
+last_below_none k (y ∷ ys) h = λ i. option_or (last_below_none k ys h.1 i) (cond (h.0 i) (Some y) None)
 
 pub last_below_past : (k : Key) (xs ys : Entries) → AllByRecursion (NotBelow k) ys → last_below k (xs ++ ys) ≡ last_below k xs
 last_below_past k [] ys h = last_below_none k ys h
-last_below_past k (x ∷ xs) ys h = ap (λ o. or_else o (cond (is_lt (key_cmp x.0 k)) (Some x) None)) (last_below_past k xs ys h)
+last_below_past k (x ∷ xs) ys h = ap (λ o. option_or o (cond (is_lt (key_cmp x.0 k)) (Some x) None)) (last_below_past k xs ys h)
 
 pub last_below_last : (k : Key) (xs : Entries) → AllByRecursion (Below k) xs → last_below k xs ≡ last_of xs
 last_below_last k [] h = refl
-last_below_last k (x ∷ xs) h = λ i. or_else (last_below_last k xs h.1 i) (cond (is_lt (h.0 i)) (Some x) None)
+last_below_last k (x ∷ xs) h = λ i. option_or (last_below_last k xs h.1 i) (cond (is_lt (h.0 i)) (Some x) None)
 
 pub get_past : (k : Key) (xs ys : Entries) → AllByRecursion (Below k) xs → get k (xs ++ ys) ≡ get k ys
 get_past k [] ys h = refl
@@ -68,11 +71,6 @@ pub get_here : (x : Key × Record) (ys : Entries) → get x.0 (x ∷ ys) ≡ Som
 get_here x ys = ap (λ o. cond (is_eq o) (Some x.1) (get x.0 ys)) (key_itself x.0)
 
 -- ---- what is found is an entry of the map, above the key or below it
-
-lt_is : (o : Ordering) → is_lt o ≡ true → o ≡ Less
-lt_is Less h = refl
-lt_is Equal h = cc
-lt_is Greater h = cc
 
 entry_is : (a b : Key × Record) → Some a ≡ Some b → a ≡ b
 entry_is a b e = ap (λ o. unwrap_or o a) e
@@ -90,25 +88,19 @@ first_above_above k e (x ∷ es) h = elim (is_lt (key_cmp k x.0)) as (λ b. is_l
 
 pub last_below_has : (P : Key × Record → Type 0) (k : Key) (e : Key × Record) (es : Entries) → AllByRecursion P es → last_below k es ≡ Some e → P e
 last_below_has P k e [] a h = cc
-last_below_has P k e (x ∷ es) a h = elim (last_below k es) as (λ o. last_below k es ≡ o → or_else o (cond (is_lt (key_cmp x.0 k)) (Some x) None) ≡ Some e → P e) [
+last_below_has P k e (x ∷ es) a h = elim (last_below k es) as (λ o. last_below k es ≡ o → option_or o (cond (is_lt (key_cmp x.0 k)) (Some x) None) ≡ Some e → P e) [
   | None ↦ λ _. elim (is_lt (key_cmp x.0 k)) as (λ b. cond b (Some x) None ≡ Some e → P e) [ true ↦ λ g. subst P (entry_is x e g) a.0 | false ↦ λ g. cc ]
   | Some y ↦ λ q g. last_below_has P k e es a.1 (q ∙ g)
 ] refl h
 
 pub last_below_below : (k : Key) (e : Key × Record) (es : Entries) → last_below k es ≡ Some e → Below k e
 last_below_below k e [] h = cc
-last_below_below k e (x ∷ es) h = elim (last_below k es) as (λ o. last_below k es ≡ o → or_else o (cond (is_lt (key_cmp x.0 k)) (Some x) None) ≡ Some e → Below k e) [
+last_below_below k e (x ∷ es) h = elim (last_below k es) as (λ o. last_below k es ≡ o → option_or o (cond (is_lt (key_cmp x.0 k)) (Some x) None) ≡ Some e → Below k e) [
   | None ↦ λ _. elim (is_lt (key_cmp x.0 k)) as (λ b. is_lt (key_cmp x.0 k) ≡ b → cond b (Some x) None ≡ Some e → Below k e) [ true ↦ λ q g. subst (Below k) (entry_is x e g) (lt_is _ q) | false ↦ λ _ g. cc ] refl
   | Some y ↦ λ q g. last_below_below k e es (q ∙ g)
 ] refl h
 
 -- ---- a put
-
--- the cases of an order, with what is known in each
-by_cases : {A : Type 0} (P : A → Type 0) (o : Ordering) (less equal greater : A) → (o ≡ Less → P less) → (o ≡ Equal → P equal) → (o ≡ Greater → P greater) → P (by_order o less equal greater)
-by_cases P Less less equal greater f g h = f refl
-by_cases P Equal less equal greater f g h = g refl
-by_cases P Greater less equal greater f g h = h refl
 
 pub put_past : (x : Key × Record) (xs ys : Entries) → AllByRecursion (Below x.0) xs → put x (xs ++ ys) ≡ xs ++ put x ys
 put_past x [] ys h = refl
@@ -139,18 +131,19 @@ get_put x [] = get_here x []
 get_put x (e ∷ es) = by_cases (λ v. get x.0 v ≡ Some x.1) (key_cmp x.0 e.0) (x ∷ e ∷ es) (x ∷ es) (e ∷ put x es)
     (λ _. get_here x (e ∷ es)) (λ _. get_here x es) (λ greater. ap (λ o. cond (is_eq o) (Some e.1) (get x.0 (put x es))) greater ∙ get_put x es)
 
-skip : (k : Key) (e : Key × Record) (es : Entries) → is_eq (key_cmp k e.0) ≡ false → get k (e ∷ es) ≡ get k es
-skip k e es h = ap (λ b. cond b (Some e.1) (get k es)) h
+-- an entry of another key is passed over
+pub get_skip : (k : Key) (e : Key × Record) (es : Entries) → is_eq (key_cmp k e.0) ≡ false → get k (e ∷ es) ≡ get k es
+get_skip k e es h = ap (λ b. cond b (Some e.1) (get k es)) h
 
 -- what stands at a key that is not one stands at no key equal to it
 apart : (k a b : Key) → key_cmp a b ≡ Equal → is_eq (key_cmp k a) ≡ false → is_eq (key_cmp k b) ≡ false
 apart k a b h g = sym (ap is_eq (alike_right key_total a b k h)) ∙ g
 
 pub get_put_other : (k : Key) (x : Key × Record) (es : Entries) → is_eq (key_cmp k x.0) ≡ false → get k (put x es) ≡ get k es
-get_put_other k x [] h = skip k x [] h
+get_put_other k x [] h = get_skip k x [] h
 get_put_other k x (e ∷ es) h = by_cases (λ v. get k v ≡ get k (e ∷ es)) (key_cmp x.0 e.0) (x ∷ e ∷ es) (x ∷ es) (e ∷ put x es)
-    (λ _. skip k x (e ∷ es) h)
-    (λ equal. skip k x es h ∙ sym (skip k e es (apart k x.0 e.0 equal h)))
+    (λ _. get_skip k x (e ∷ es) h)
+    (λ equal. get_skip k x es h ∙ sym (get_skip k e es (apart k x.0 e.0 equal h)))
     (λ _. ap (λ v. cond (is_eq (key_cmp k e.0)) (Some e.1) v) (get_put_other k x es h))
 
 -- ---- a del
@@ -187,7 +180,7 @@ pub get_del_other : (k j : Key) (es : Entries) → is_eq (key_cmp k j) ≡ false
 get_del_other k j [] h = refl
 get_del_other k j (e ∷ es) h = by_cases (λ v. get k v ≡ get k (e ∷ es)) (key_cmp j e.0) (e ∷ es) es (e ∷ del j es)
     (λ _. refl)
-    (λ equal. sym (skip k e es (apart k j e.0 equal h)))
+    (λ equal. sym (get_skip k e es (apart k j e.0 equal h)))
     (λ _. ap (λ v. cond (is_eq (key_cmp k e.0)) (Some e.1) v) (get_del_other k j es h))
 
 -- ---- changes
@@ -244,31 +237,37 @@ pub sorted_behind : (xs ys : Entries) → Sorted (xs ++ ys) → Sorted ys
 sorted_behind [] ys s = s
 sorted_behind (x ∷ xs) ys s = sorted_behind xs ys s.1
 
+-- where the map with a stretch more is sorted, the stretch is what the puts of it make
+pub put_sorted : (a s b : Entries) → Sorted (a ++ (s ++ b)) → put_all s (a ++ b) ≡ a ++ (s ++ b)
+put_sorted a [] b h = refl
+put_sorted a (x ∷ s) b h =
+    let lows = sorted_below a (s ++ b) x h in
+    let behind = sorted_behind a (x ∷ (s ++ b)) h in
+    let moved : Sorted ((a ++ (x ∷ [])) ++ (s ++ b)) = subst Sorted (sym (append_assoc a (x ∷ []) (s ++ b))) h in
+    ap (put_all s) (put_past x a b lows ∙ ap (λ v. a ++ v) (put_new x b (all_behind (Above x.0) s b behind.0)) ∙ sym (append_assoc a (x ∷ []) b))
+    ∙ put_sorted (a ++ (x ∷ [])) s b moved ∙ append_assoc a (x ∷ []) (s ++ b)
+
 -- ---- a walk over the entries, one `first_above` after another
 
--- what lies above a key
-abbrev pub beyond : Key → Entries → Entries
-beyond k es = filter (λ e. is_lt (key_cmp k e.0)) es
-
-pub beyond_all : (k : Key) (es : Entries) → AllByRecursion (Above k) es → beyond k es ≡ es
+pub beyond_all : (k : Key) (es : Entries) → AllByRecursion (Above k) es → entries_above k es ≡ es
 beyond_all k [] h = refl
-beyond_all k (e ∷ es) h = ap (λ o. cond (is_lt o) (e ∷ beyond k es) (beyond k es)) h.0 ∙ ap (λ v. e ∷ v) (beyond_all k es h.1)
+beyond_all k (e ∷ es) h = ap (λ o. cond (is_lt o) (e ∷ entries_above k es) (entries_above k es)) h.0 ∙ ap (λ v. e ∷ v) (beyond_all k es h.1)
 
-pub beyond_past : (k : Key) (xs ys : Entries) → AllByRecursion (Below k) xs → beyond k (xs ++ ys) ≡ beyond k ys
+pub beyond_past : (k : Key) (xs ys : Entries) → AllByRecursion (Below k) xs → entries_above k (xs ++ ys) ≡ entries_above k ys
 beyond_past k [] ys h = refl
-beyond_past k (e ∷ xs) ys h = ap (λ o. cond (is_lt o) (e ∷ beyond k (xs ++ ys)) (beyond k (xs ++ ys))) (key_turned e.0 k h.0) ∙ beyond_past k xs ys h.1
+beyond_past k (e ∷ xs) ys h = ap (λ o. cond (is_lt o) (e ∷ entries_above k (xs ++ ys)) (entries_above k (xs ++ ys))) (key_turned e.0 k h.0) ∙ beyond_past k xs ys h.1
 
 -- the next entry heads what lies above, and the rest lies above it
-pub scan_on : (k : Key) (e : Key × Record) (es : Entries) → Sorted es → first_above k es ≡ Some e → beyond k es ≡ e ∷ beyond e.0 es
+pub scan_on : (k : Key) (e : Key × Record) (es : Entries) → Sorted es → first_above k es ≡ Some e → entries_above k es ≡ e ∷ entries_above e.0 es
 scan_on k e [] s h = cc
-scan_on k e (x ∷ es) s h = elim (is_lt (key_cmp k x.0)) as (λ b. is_lt (key_cmp k x.0) ≡ b → cond b (Some x) (first_above k es) ≡ Some e → cond b (x ∷ beyond k es) (beyond k es) ≡ e ∷ beyond e.0 (x ∷ es)) [
-  | true ↦ λ q g. subst (λ v. x ∷ beyond k es ≡ v ∷ beyond v.0 (x ∷ es)) (entry_is x e g) (ap (λ v. x ∷ v) (
+scan_on k e (x ∷ es) s h = elim (is_lt (key_cmp k x.0)) as (λ b. is_lt (key_cmp k x.0) ≡ b → cond b (Some x) (first_above k es) ≡ Some e → cond b (x ∷ entries_above k es) (entries_above k es) ≡ e ∷ entries_above e.0 (x ∷ es)) [
+  | true ↦ λ q g. subst (λ v. x ∷ entries_above k es ≡ v ∷ entries_above v.0 (x ∷ es)) (entry_is x e g) (ap (λ v. x ∷ v) (
       beyond_all k es (all_above_lower k x.0 (lt_is _ q) es s.0)
       ∙ sym (beyond_all x.0 es s.0)
-      ∙ sym (ap (λ o. cond (is_lt o) (x ∷ beyond x.0 es) (beyond x.0 es)) (key_itself x.0))))
-  | false ↦ λ q g. scan_on k e es s.1 g ∙ ap (λ v. e ∷ v) (sym (ap (λ o. cond (is_lt o) (x ∷ beyond e.0 es) (beyond e.0 es)) (key_turned x.0 e.0 (first_above_has (Above x.0) k e es s.0 g))))
+      ∙ sym (ap (λ o. cond (is_lt o) (x ∷ entries_above x.0 es) (entries_above x.0 es)) (key_itself x.0))))
+  | false ↦ λ q g. scan_on k e es s.1 g ∙ ap (λ v. e ∷ v) (sym (ap (λ o. cond (is_lt o) (x ∷ entries_above e.0 es) (entries_above e.0 es)) (key_turned x.0 e.0 (first_above_has (Above x.0) k e es s.0 g))))
 ] refl h
 
-pub scan_end : (k : Key) (es : Entries) → first_above k es ≡ None → beyond k es ≡ []
+pub scan_end : (k : Key) (es : Entries) → first_above k es ≡ None → entries_above k es ≡ []
 scan_end k [] h = refl
-scan_end k (x ∷ es) h = elim (is_lt (key_cmp k x.0)) as (λ b. cond b (Some x) (first_above k es) ≡ None → cond b (x ∷ beyond k es) (beyond k es) ≡ []) [ true ↦ λ g. cc | false ↦ λ g. scan_end k es g ] h
+scan_end k (x ∷ es) h = elim (is_lt (key_cmp k x.0)) as (λ b. cond b (Some x) (first_above k es) ≡ None → cond b (x ∷ entries_above k es) (entries_above k es) ≡ []) [ true ↦ λ g. cc | false ↦ λ g. scan_end k es g ] h

@@ -10,14 +10,15 @@ use Rattle.dewey_labels.proofs.Codes.{child_under}
 use Rattle.tree_model.specs.declared.record.Record.{Record}
 use Rattle.tree_model.specs.Keys.{node_key, top_name}
 use Rattle.tree_model.specs.Entries.{Entries, Below, Above, get, first_above}
-use Rattle.tree_model.specs.Seeks.{behind_attributes, behind_tree, if_under}
-use Rattle.tree_model.specs.Tree.{Attributes, Forest, none, node, attr_entry, own, entries_of, at, found, up, record_of, head_label, first_of, next_of}
-use Rattle.tree_model.specs.WellFormed.{KeysRise}
+use Rattle.tree_model.specs.inside.Seeks.{behind_attributes, behind_tree, if_under}
+use Rattle.tree_model.specs.Tree.{Attributes, Forest, none, node, attr_entry, own, entries_of, at, found, record_of, head_label, first_of, next_of}
+use Rattle.tree_model.specs.inside.FoundNodes.{up}
+use Rattle.tree_model.specs.ValidTrees.{KeysRise}
 use Rattle.tree_model.proofs.Lists.{all_append, all_on, all_by}
 use Rattle.tree_model.proofs.Entries.{head_of, get_past, get_none, first_above_past, first_above_head}
 use Rattle.tree_model.proofs.Split.{own_all, Labelled, SideIs, SideIn, Later, under_in, all_under, all_right, before_of, after_of, split, all_ahead, all_later}
 use Rattle.tree_model.proofs.Found.{some_is, at_label, Lies, lies}
-use Rattle.tree_model.proofs.Limits.{Fits, list_itself, own_below_top, own_fit, all_fit}
+use Rattle.tree_model.proofs.EntryLimits.{Fits, list_itself, own_below_top, own_fit, all_fit}
 use Rattle.tree_model.proofs.Seeks.{in_below_tree, ahead_below, ahead_below_node, right_above_tree, later_above}
 
 none_under : (p : Label) (es : Entries) → AllByRecursion (Labelled (SideIs p right)) es → if_under p (head_of es) ≡ None
@@ -44,16 +45,16 @@ module _ (p l : Label) (r : Record) (ats : Attributes) (ch nx : Forest) (es : En
   pub first_child_law : if_under l (first_above (behind_attributes l) es) ≡ head_label ch
   first_child_law =
       let k = behind_attributes l in
-      let front = z.before ++ own l r ats in
+      let prefix = z.before ++ own l r ats in
       let back = entries_of ch ++ (entries_of nx ++ z.after) in
-      let cut : es ≡ front ++ back = z.whole ∙ append_assoc front (entries_of ch) _ in
-      let lows : AllByRecursion (Below k) front = all_append (Below k) z.before (own l r ats) (all_on (Labelled (λ v. ahead (side l v) ≡ true)) (Below k) (ahead_below_node l top_name) z.before z.before_ahead) (own_below_top l r ats z.names) in
+      let cut : es ≡ prefix ++ back = z.whole ∙ append_assoc prefix (entries_of ch) _ in
+      let lows : AllByRecursion (Below k) prefix = all_append (Below k) z.before (own l r ats) (all_on (Labelled (λ v. ahead (side l v) ≡ true)) (Below k) (ahead_below_node l top_name) z.before z.before_ahead) (own_below_top l r ats z.names) in
       let highs : AllByRecursion (Above k) back = all_append (Above k) (entries_of ch) _ (all_on (Labelled (SideIs l under)) (Above k) (λ e h. later_above l top_name e (under_before l e.0.label h)) (entries_of ch) (all_under l l ch z.children)) (all_on (Labelled (SideIs l right)) (Above k) (λ e h. later_above l top_name e (right_before l e.0.label h)) _ behind_right) in
-      ap (if_under l) (ap (first_above k) cut ∙ first_above_past k front back lows ∙ first_above_head k back highs) ∙ first_child_found l ch (entries_of nx ++ z.after) z.children behind_right
+      ap (if_under l) (ap (first_above k) cut ∙ first_above_past k prefix back lows ∙ first_above_head k back highs) ∙ first_child_found l ch (entries_of nx ++ z.after) z.children behind_right
 
   -- all up to the end of the tree lies below the key above the tree, and all else above it
-  pub front_below : AllByRecursion (Below (behind_tree l)) ((z.before ++ own l r ats) ++ entries_of ch)
-  front_below =
+  pub prefix_below : AllByRecursion (Below (behind_tree l)) ((z.before ++ own l r ats) ++ entries_of ch)
+  prefix_below =
       let k = behind_tree l in
       let tree = own l r ats ++ entries_of ch in
       let in_tree : AllByRecursion (Labelled (SideIn l)) tree = all_append (Labelled (SideIn l)) (own l r ats) (entries_of ch) (own_all (SideIn l) l r ats (ap is_in (side_itself l))) (all_on (Labelled (SideIs l under)) (Labelled (SideIn l)) (λ e h. under_in l e.0.label h) (entries_of ch) (all_under l l ch z.children)) in
@@ -69,7 +70,7 @@ module _ (p l : Label) (r : Record) (ats : Attributes) (ch nx : Forest) (es : En
   pub next_law : if_under p (first_above (behind_tree l) es) ≡ head_label nx
   next_law =
       let k = behind_tree l in
-      ap (if_under p) (ap (first_above k) z.whole ∙ first_above_past k _ (entries_of nx ++ z.after) front_below ∙ first_above_head k (entries_of nx ++ z.after) back_above) ∙ next_found p l nx z.after z.siblings z.after_right
+      ap (if_under p) (ap (first_above k) z.whole ∙ first_above_past k _ (entries_of nx ++ z.after) prefix_below ∙ first_above_head k (entries_of nx ++ z.after) back_above) ∙ next_found p l nx z.after z.siblings z.after_right
 
 -- ---- from a found node
 

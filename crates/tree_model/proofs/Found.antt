@@ -7,8 +7,9 @@ use Rattle.dewey_labels.proofs.Sides.{same_is, side_itself, in_under, right_with
 use Rattle.dewey_labels.proofs.Codes.{child_under, OddEnd, child_odd, parent_is}
 use Rattle.tree_model.specs.declared.record.Record.{Record}
 use Rattle.tree_model.specs.Entries.{Entries}
-use Rattle.tree_model.specs.Tree.{Attributes, Forest, none, node, own, entries_of, choose, at, up, found, head_label}
-use Rattle.tree_model.specs.WellFormed.{NamesRise, KeysRise}
+use Rattle.tree_model.specs.Tree.{Attributes, Forest, none, node, own, entries_of, choose, at, found, head_label}
+use Rattle.tree_model.specs.inside.FoundNodes.{up}
+use Rattle.tree_model.specs.ValidTrees.{NamesRise, KeysRise}
 use Rattle.tree_model.proofs.Lists.{all_append, all_on}
 use Rattle.tree_model.proofs.Split.{Labelled, SideIs, all_right, before_of, after_of, split, all_ahead}
 
@@ -43,7 +44,7 @@ all_right_of_up p lo l (node m r ats ch nx) w y =
       | right ↦ λ s e. all_right_of_up p m l nx w.5 e
     ] refl y
 
--- the tree found is well formed, with the trees behind it
+-- the tree found is valid, with the trees behind it
 pub at_keys : (p lo l : Label) (f : Forest) → KeysRise p lo f → (b : Label) × KeysRise (up l p f) b (at l f)
 at_keys p lo l none w = (lo, tt)
 at_keys p lo l (node m r ats ch nx) w =
@@ -67,7 +68,7 @@ at_label l (node m r ats ch nx) y =
       | right ↦ λ _ e. at_label l nx e
     ] refl y
 
--- ---- the parent is the one that the label tells
+-- ---- the parent is the one that the label says
 
 -- a parent's label ends in an odd division
 pub up_odd : (p lo l : Label) (f : Forest) → OddEnd p → KeysRise p lo f → OddEnd (up l p f)

@@ -1,22 +1,23 @@
--- A lawful fragment within the limits is a well formed tree below the label that it is grafted at.
+-- A valid fragment within the limits is a valid tree below the label that it is grafted at.
 use Rattle.std.proofs.Common.{◌≡◌, ℕ, ◌+◌, ◌≤◌, ◌%◌, suc, Bool, true, false, cond, ◌&&◌, ◌==◌, nat_le, nat_lt, true≢false, List, [], ◌∷◌, ◌++◌, length, Some, Less, Equal, Greater, nat_cmp, refl, sym, ap, ◌∙◌, arith, length-append}
 use Rattle.std.proofs.lemmas.Bool.Decides.{nat_tests}
 use Rattle.std.specs.Ordering.{ordering_then}
 use Rattle.std.specs.Cmp.Lexicographic.{slice_cmp}
 use Rattle.std.specs.List.{list_all}
-use Rattle.dewey_labels.specs.Labels.{Label, greatest, most_divisions, is_odd, is_code, is_child, is_label, level}
-use Rattle.dewey_labels.specs.NewLabels.{is_within}
+use Rattle.dewey_labels.specs.Labels.{Label, greatest, most_divisions, is_odd, is_code, is_child, is_label, level, is_within}
 use Rattle.dewey_labels.proofs.Sides.{cmp_append, under_before}
 use Rattle.dewey_labels.proofs.Labels.{level_of_child, child_label}
-use Rattle.dewey_labels.proofs.NewLabels.{within_of_test}
+use Rattle.dewey_labels.proofs.Limits.{within_of_test}
 use Rattle.dewey_labels.proofs.Codes.{eq_is, first_of_both, second_of_both, code_cases, is_child_append, child_under}
 use Rattle.tree_model.specs.declared.record.Record.TheVariants.{Element}
 use Rattle.tree_model.specs.Limits.{deepest_level}
 use Rattle.tree_model.specs.Names.{Name}
 use Rattle.tree_model.specs.Tree.{Forest, none}
-use Rattle.tree_model.specs.WellFormed.{KeysRise, KindsAllowed, LimitsKept}
-use Rattle.tree_model.specs.Fragments.{Fragments, no_more, element, text, IsLawful, depth}
-use Rattle.tree_model.specs.Graft.{first_division, graft_below, graft, all_within, fit_below, fit_at}
+use Rattle.tree_model.specs.ValidTrees.{KeysRise, KindsAllowed, LimitsKept}
+use Rattle.tree_model.specs.Fragments.{Fragments, no_more, element, text, IsValid, depth}
+use Rattle.dewey_labels.specs.NewLabels.{first_division}
+use Rattle.tree_model.specs.Graft.{graft_below, graft, all_within}
+use Rattle.tree_model.specs.inside.GraftLimits.{fit_below, fit_at}
 
 -- ---- the codes 1001, 1003 and so on
 
@@ -42,7 +43,7 @@ child_before p c = cmp_append p (c ∷ []) ((c + 2) ∷ []) ∙ (let less : nat_
 -- ---- keys
 
 -- keys of children that are placed
-pub keys-graft_below : (p b : Label) (c : ℕ) (f : Fragments) → IsOneCode c → slice_cmp nat_cmp b (p ++ (c ∷ [])) ≡ Less → all_within (graft_below p c f) ≡ true → IsLawful f → KeysRise p b (graft_below p c f)
+pub keys-graft_below : (p b : Label) (c : ℕ) (f : Fragments) → IsOneCode c → slice_cmp nat_cmp b (p ++ (c ∷ [])) ≡ Less → all_within (graft_below p c f) ≡ true → IsValid f → KeysRise p b (graft_below p c f)
 keys-graft_below p b c no_more o lt h w = tt
 keys-graft_below p b c (element n ats ch nx) o lt h w =
     let l = p ++ (c ∷ []) in
@@ -54,7 +55,7 @@ keys-graft_below p b c (text t nx) o lt h w =
     (is_child_append p (c ∷ []) o, lt, within_of_test l (first_of_both _ _ h), tt, tt, keys-graft_below p l (c + 2) nx (code_after c o) (child_before p c) (second_of_both (is_within l) _ h) w.1)
 
 -- keys of one tree that is placed before others
-pub keys-graft : (p b l : Label) (f : Fragments) (behind : Forest) → is_child p l ≡ true → slice_cmp nat_cmp b l ≡ Less → all_within (graft l f none) ≡ true → IsLawful f → KeysRise p b behind → KeysRise p l behind → KeysRise p b (graft l f behind)
+pub keys-graft : (p b l : Label) (f : Fragments) (behind : Forest) → is_child p l ≡ true → slice_cmp nat_cmp b l ≡ Less → all_within (graft l f none) ≡ true → IsValid f → KeysRise p b behind → KeysRise p l behind → KeysRise p b (graft l f behind)
 keys-graft p b l no_more behind c lt h w v u = v
 keys-graft p b l (element n ats ch nx) behind c lt h w v u =
     let rest_within = second_of_both (is_within l) _ h in
@@ -76,7 +77,7 @@ child_of : (p : Label) (c : ℕ) → IsOneCode c → is_label p ≡ true → (le
 child_of p c o h = let k = is_child_append p (c ∷ []) o in (level_of_child p (p ++ (c ∷ [])) h k, child_label p (p ++ (c ∷ [])) h k)
 
 -- their levels, names and texts
-pub limits-graft_below : (p : Label) (c : ℕ) (f : Fragments) → IsOneCode c → is_label p ≡ true → level p + depth f ≤ deepest_level → IsLawful f → LimitsKept (graft_below p c f)
+pub limits-graft_below : (p : Label) (c : ℕ) (f : Fragments) → IsOneCode c → is_label p ≡ true → level p + depth f ≤ deepest_level → IsValid f → LimitsKept (graft_below p c f)
 limits-graft_below p c no_more o k h w = tt
 limits-graft_below p c (element n ats ch nx) o k h w =
     let l = p ++ (c ∷ []) in
@@ -86,13 +87,13 @@ limits-graft_below p c (element n ats ch nx) o k h w =
 limits-graft_below p c (text t nx) o k h w =
     let at_l = child_of p c o k in
     let is_level : level (p ++ (c ∷ [])) ≡ level p + 1 = at_l.0 in
-    (omega arith, (let e = w.0 in grind (arith, nat_tests)), tt, tt, limits-graft_below p (c + 2) nx (code_after c o) k (omega arith) w.1)
+    (omega arith, w.0, tt, tt, limits-graft_below p (c + 2) nx (code_after c o) k (omega arith) w.1)
 
 -- those of one tree
-pub limits-graft : (p l : Label) (f : Fragments) (behind : Forest) → level l ≡ level p + 1 → is_label l ≡ true → level p + depth f ≤ deepest_level → IsLawful f → LimitsKept behind → LimitsKept (graft l f behind)
+pub limits-graft : (p l : Label) (f : Fragments) (behind : Forest) → level l ≡ level p + 1 → is_label l ≡ true → level p + depth f ≤ deepest_level → IsValid f → LimitsKept behind → LimitsKept (graft l f behind)
 limits-graft p l no_more behind e k h w v = v
 limits-graft p l (element n ats ch nx) behind e k h w v = (omega arith, w.0, w.2, limits-graft_below l first_division ch refl k (omega arith) w.3, v)
-limits-graft p l (text t nx) behind e k h w v = (omega arith, (let few = w.0 in grind (arith, nat_tests)), tt, tt, v)
+limits-graft p l (text t nx) behind e k h w v = (omega arith, w.0, tt, tt, v)
 
 -- ---- the test on a forest is the one on the fragments
 
@@ -100,7 +101,7 @@ all-append : (q : ℕ → Bool) (xs ys : List ℕ) → list_all q xs ≡ true �
 all-append q [] ys h = refl
 all-append q (x ∷ xs) ys h = ap (λ b. b && list_all q (xs ++ ys)) (first_of_both (q x) (list_all q xs) h) ∙ all-append q xs ys (second_of_both (q x) _ h)
 
-and_true : (b : Bool) → (b && true) ≡ b
+pub and_true : (b : Bool) → (b && true) ≡ b
 and_true true = refl
 and_true false = refl
 

@@ -2,9 +2,9 @@
 use Rattle.std.proofs.Common.{◌≡◌, true, ◌∷◌, ◌++◌, Option, Some, None, refl, sym, ap, ◌∙◌, append_assoc}
 use Rattle.dewey_labels.specs.Labels.{Label}
 use Rattle.tree_model.specs.declared.record.Record.{Record}
-use Rattle.tree_model.specs.Entries.{or_else}
+use Rattle.std.specs.Option.{option_or}
 use Rattle.tree_model.specs.Tree.{Forest, none, node, own, entries_of, labels, last_label, then_trees}
-use Rattle.tree_model.specs.WellFormed.{KeysRise, KindsAllowed, LimitsKept, may_follow}
+use Rattle.tree_model.specs.ValidTrees.{KeysRise, KindsAllowed, LimitsKept, may_follow}
 use Rattle.tree_model.proofs.Found.{some_is}
 
 -- their entries
@@ -27,7 +27,7 @@ pub end_of_empty : (b : Label) (f : Forest) → last_label f ≡ None → end_of
 end_of_empty b none h = refl
 end_of_empty b (node l r ats ch nx) h = absurd (no_node (last_label nx) h)
   where
-    no_node : (o : Option Label) → or_else o (Some l) ≡ None → ⊥
+    no_node : (o : Option Label) → option_or o (Some l) ≡ None → ⊥
     no_node None e = cc
     no_node (Some m) e = cc
 
@@ -35,7 +35,7 @@ end_of_empty b (node l r ats ch nx) h = absurd (no_node (last_label nx) h)
 pub end_of_last : (b m : Label) (f : Forest) → last_label f ≡ Some m → end_of b f ≡ m
 end_of_last b m none h = cc
 end_of_last b m (node l r ats ch nx) h =
-    elim (last_label nx) as (λ o. last_label nx ≡ o → or_else o (Some l) ≡ Some m → end_of l nx ≡ m) [
+    elim (last_label nx) as (λ o. last_label nx ≡ o → option_or o (Some l) ≡ Some m → end_of l nx ≡ m) [
       | None ↦ λ e g. end_of_empty l nx e ∙ some_is l m g
       | Some k ↦ λ e g. end_of_last l m nx (e ∙ g)
     ] refl h

@@ -118,7 +118,7 @@ name_bytes n h = utf8_bytes n (parts n h).1
 pub name_length : (n : Name) → is_name n ≡ true → length n ≤ most_name_bytes
 name_length n h = (parts n h).0
 
--- ---- the name of a lawful key: empty, or a Name
+-- ---- the name of a valid key: empty, or a Name
 
 key_name : (P : Name → Type 0) (n : Name) → P [] → (is_name n ≡ true → P n) → IsKeyName n → P n
 key_name P n none named h = ⊎_elim (λ empty. subst P (sym empty) none) named h

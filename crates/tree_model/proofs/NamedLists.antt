@@ -1,5 +1,5 @@
 -- The catalogue with a new document's entry, and attributes with one more.
-use Rattle.std.proofs.Common.{◌≡◌, ℕ, suc, Bool, true, false, cond, ◌||◌, List, [], ◌∷◌, ◌++◌, map, Some, is_some, Less, Equal, Greater, nat_cmp, is_eq, refl, sym, ap, subst, ◌∙◌, true≢false}
+use Rattle.std.proofs.Common.{◌≡◌, ℕ, suc, Bool, true, false, cond, ◌||◌, List, [], ◌∷◌, ◌++◌, map, Option, None, Some, is_some, Less, Equal, Greater, nat_cmp, is_eq, refl, sym, ap, subst, ◌∙◌, true≢false, ◌⊎◌, inl, inr, ⊎_elim}
 use Rattle.std.specs.Ordering.{ordering_then, ordering_reverse}
 use Rattle.std.specs.Cmp.Lexicographic.{slice_cmp, nat_list_cmp_total}
 use Rattle.std.specs.List.{AllByRecursion}
@@ -8,14 +8,16 @@ use Rattle.dewey_labels.specs.Labels.{Label}
 use Rattle.dewey_labels.specs.LabelText.{label_text}
 use Rattle.tree_model.specs.Names.{Name, is_name}
 use Rattle.tree_model.specs.Keys.{key_at}
-use Rattle.tree_model.specs.Entries.{Entries, Above, put, by_order}
+use Rattle.tree_model.specs.Entries.{Entries, Above, put}
+use Rattle.tree_model.specs.Orders.{by_order}
 use Rattle.tree_model.specs.Tree.{Attributes, attr_entry, Catalogue, root_attribute, root_attributes, beside}
-use Rattle.tree_model.specs.WellFormed.{NamesRise, same_label, entries_with, is_among, IsCatalogueOf}
-use Rattle.tree_model.specs.DomWrites.{with_entry}
+use Rattle.tree_model.specs.ValidTrees.{NamesRise, same_label, entries_with, is_among, IsCatalogueOf}
+use Rattle.tree_model.specs.Edits.{with_entry}
 use Rattle.tree_model.proofs.Lists.{all_append, all_on}
 use Rattle.tree_model.proofs.Keys.{list_tied}
+use Rattle.tree_model.proofs.Found.{some_is}
 use Rattle.tree_model.proofs.Entries.{put_new}
-use Rattle.tree_model.proofs.Limits.{list_itself}
+use Rattle.tree_model.proofs.EntryLimits.{list_itself}
 
 -- no Name is empty
 pub name_starts : (n : Name) → is_name n ≡ true → slice_cmp nat_cmp [] n ≡ Less
@@ -112,3 +114,37 @@ put_attribute l n v (a ∷ ats) es h =
 pub root-with_entry : (n : Name) (l : Label) (cat : Catalogue) → root_attributes (with_entry n l cat) ≡ with_entry n (label_text l) (root_attributes cat)
 root-with_entry n l [] = refl
 root-with_entry n l (c ∷ cat) = elim (slice_cmp nat_cmp n c.0) as (λ o. root_attributes (by_order o ((n, l) ∷ c ∷ cat) ((n, l) ∷ cat) (c ∷ with_entry n l cat)) ≡ by_order o ((n, label_text l) ∷ root_attributes (c ∷ cat)) ((n, label_text l) ∷ root_attributes cat) (root_attribute c ∷ with_entry n (label_text l) (root_attributes cat))) [ Less ↦ refl | Equal ↦ refl | Greater ↦ ap (λ v. root_attribute c ∷ v) (root-with_entry n l cat) ]
+
+-- ---- what stands beside a name
+
+pub none_named : {A : Type 0} (lo n : Name) (xs : List (Name × A)) → NamesRise lo xs → (slice_cmp nat_cmp n lo ≡ Less) ⊎ (n ≡ lo) → beside n xs ≡ None
+none_named lo n [] w h = refl
+none_named lo n (x ∷ xs) w h =
+    let less : slice_cmp nat_cmp n x.0 ≡ Less = ⊎_elim (λ e. nat_list_cmp_total.trans n lo x.0 e w.0) (λ e. subst (λ v. slice_cmp nat_cmp v x.0 ≡ Less) (sym e) w.0) h in
+    ap (λ o. cond (is_eq o) (Some x.1) (beside n xs)) less ∙ none_named x.0 n xs w.2 (inl less)
+
+pub beside_first : {A : Type 0} (x : Name × A) (xs : List (Name × A)) → beside x.0 (x ∷ xs) ≡ Some x.1
+beside_first x xs = ap (λ o. cond (is_eq o) (Some x.1) (beside x.0 xs)) (list_itself x.0)
+
+no_value : {A P : Type 0} (a : A) → ◌≡◌ {A = Option A} (Some a) None → P
+no_value a e = absurd (true≢false (ap is_some e))
+
+-- two lists with the same at each name are one
+pub same_named : {A : Type 0} (lo hi : Name) (xs ys : List (Name × A)) → NamesRise lo xs → NamesRise hi ys → ((n : Name) → beside n xs ≡ beside n ys) → xs ≡ ys
+same_named lo hi [] [] w v alike = refl
+same_named lo hi [] (y ∷ ys) w v alike = no_value y.1 (sym (beside_first y ys) ∙ sym (alike y.0))
+same_named lo hi (x ∷ xs) [] w v alike = no_value x.1 (sym (beside_first x xs) ∙ alike x.0)
+same_named lo hi (x ∷ xs) (y ∷ ys) w v alike =
+    elim (slice_cmp nat_cmp x.0 y.0) as (λ o. slice_cmp nat_cmp x.0 y.0 ≡ o → x ∷ xs ≡ y ∷ ys) [
+      | Less ↦ λ e. no_value x.1 (sym (beside_first x xs) ∙ alike x.0 ∙ ap (λ o. cond (is_eq o) (Some y.1) (beside x.0 ys)) e ∙ none_named y.0 x.0 ys v.2 (inl e))
+      | Equal ↦ λ e.
+          let names : x.0 ≡ y.0 = list_tied x.0 y.0 e in
+          let values : x.1 ≡ y.1 = some_is x.1 y.1 (sym (beside_first x xs) ∙ alike x.0 ∙ ap (λ o. cond (is_eq o) (Some y.1) (beside x.0 ys)) e) in
+          let rest = same_named x.0 y.0 xs ys w.2 v.2 (λ n. elim (slice_cmp nat_cmp n x.0) as (λ o. slice_cmp nat_cmp n x.0 ≡ o → beside n xs ≡ beside n ys) [
+            | Less ↦ λ g. none_named x.0 n xs w.2 (inl g) ∙ sym (none_named y.0 n ys v.2 (inl (subst (λ z. slice_cmp nat_cmp n z ≡ Less) names g)))
+            | Equal ↦ λ g. let is = list_tied n x.0 g in none_named x.0 n xs w.2 (inr is) ∙ sym (none_named y.0 n ys v.2 (inr (is ∙ names)))
+            | Greater ↦ λ g. sym (ap (λ o. cond (is_eq o) (Some x.1) (beside n xs)) g) ∙ alike n ∙ ap (λ o. cond (is_eq o) (Some y.1) (beside n ys)) (subst (λ z. slice_cmp nat_cmp n z ≡ Greater) names g)
+          ] refl) in
+          λ i. (names i, values i) ∷ rest i
+      | Greater ↦ λ e. let less : slice_cmp nat_cmp y.0 x.0 ≡ Less = nat_list_cmp_total.antisymm y.0 x.0 ∙ ap ordering_reverse e in no_value y.1 (sym (beside_first y ys) ∙ sym (alike y.0) ∙ ap (λ o. cond (is_eq o) (Some x.1) (beside y.0 xs)) less ∙ none_named x.0 y.0 xs w.2 (inl less))
+    ] refl

@@ -1,14 +1,10 @@
 -- A call's fragment as plain trees, level by level.
-use Rattle.std.proofs.Common.{◌≡◌, List, map, ℕ, rules}
+use Rattle.std.proofs.Common.{◌≡◌, List, ℕ, rules}
 use Rattle.tree_model.specs.declared.fragment.Fragment.{Fragment, the_lemmas}
 use Rattle.tree_model.specs.declared.fragment.Fragment.TheVariants.{Element, Text}
 use Rattle.tree_model.specs.Names.{Name}
 use Rattle.tree_model.specs.Tree.{Attributes}
-use Rattle.tree_model.specs.Fragments.{Fragments, no_more, element, text, before_row, in_a_row, plain}
-
--- fragments in a row
-abbrev pub plain_row : List Fragment → Fragments
-plain_row fs = in_a_row (map before_row fs)
+use Rattle.tree_model.specs.Fragments.{Fragments, no_more, element, text, before_row, plain, plain_row}
 
 -- an element before others
 pub before_row-Element : (n : Name) (ats : Attributes) (ch : List Fragment) (nx : Fragments) → before_row (Element n ats ch) nx ≡ element n ats (plain_row ch) nx

@@ -8,7 +8,7 @@ use Rattle.dewey_labels.specs.Sides.{right, is_in}
 use Rattle.dewey_labels.proofs.Sides.{side_itself, right_within, right_before}
 use Rattle.tree_model.specs.Entries.{Entries, Below, Above, Sorted, put_all}
 use Rattle.tree_model.specs.Tree.{Forest, Tree, map_of, at, found, entries_of}
-use Rattle.tree_model.specs.DomWrites.{edited}
+use Rattle.tree_model.specs.Edits.{edited}
 use Rattle.tree_model.proofs.Lists.{all_on}
 use Rattle.tree_model.proofs.Entries.{put_stretch}
 use Rattle.tree_model.proofs.Split.{Labelled, SideIs, SideIn, before_of, after_of, split}
@@ -25,17 +25,17 @@ regroup c b f s k a = simp append_assoc refl
 regroup_without : (c b f k a : Entries) → c ++ (b ++ ((f ++ k) ++ a)) ≡ (c ++ (b ++ f)) ++ (k ++ a)
 regroup_without c b f k a = simp append_assoc refl
 
--- the place's entries in front of the new ones and behind them
-pub put_in_place : (l : Label) (h : Forest → Forest) (t : Tree) (front s back : Entries) → found (at l t.documents) ≡ true
-    → entries_of (at l t.documents) ≡ front ++ back → entries_of (h (at l t.documents)) ≡ front ++ (s ++ back) → Sorted s
-    → AllByRecursion (λ x. AllByRecursion (Below x.0) (catalogue_entries t.catalogue ++ (before_of l t.documents ++ front))) s
+-- the place's entries before the new ones and behind them
+pub put_in_place : (l : Label) (h : Forest → Forest) (t : Tree) (prefix s back : Entries) → found (at l t.documents) ≡ true
+    → entries_of (at l t.documents) ≡ prefix ++ back → entries_of (h (at l t.documents)) ≡ prefix ++ (s ++ back) → Sorted s
+    → AllByRecursion (λ x. AllByRecursion (Below x.0) (catalogue_entries t.catalogue ++ (before_of l t.documents ++ prefix))) s
     → AllByRecursion (λ x. AllByRecursion (Above x.0) (back ++ after_of l t.documents)) s
     → map_of (edited l h t) ≡ put_all s (map_of t)
-put_in_place l h t front s back y old new sorted low high =
+put_in_place l h t prefix s back y old new sorted low high =
     let cat = catalogue_entries t.catalogue in
     let before = before_of l t.documents in
     let after = after_of l t.documents in
     ap (λ v. cat ++ v) (edit_entries l h t.documents y ∙ ap (λ v. before ++ (v ++ after)) new)
-    ∙ regroup cat before front s back after
-    ∙ sym (put_stretch (cat ++ (before ++ front)) s (back ++ after) sorted low high)
-    ∙ ap (put_all s) (sym (ap (λ v. cat ++ v) (split l t.documents ∙ ap (λ v. before ++ (v ++ after)) old) ∙ regroup_without cat before front back after))
+    ∙ regroup cat before prefix s back after
+    ∙ sym (put_stretch (cat ++ (before ++ prefix)) s (back ++ after) sorted low high)
+    ∙ ap (put_all s) (sym (ap (λ v. cat ++ v) (split l t.documents ∙ ap (λ v. before ++ (v ++ after)) old) ∙ regroup_without cat before prefix back after))

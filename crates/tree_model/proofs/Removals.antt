@@ -8,8 +8,9 @@ use Rattle.tree_model.specs.declared.key.Key.{Key}
 use Rattle.tree_model.specs.declared.record.Record.{Record}
 use Rattle.tree_model.specs.Keys.{key_at}
 use Rattle.tree_model.specs.Entries.{Entries, Below}
-use Rattle.tree_model.specs.Tree.{Attributes, Forest, none, node, own, entries_of, at, found, up, edit}
-use Rattle.tree_model.specs.WellFormed.{KeysRise}
+use Rattle.tree_model.specs.Tree.{Attributes, Forest, none, node, own, entries_of, at, found, edit}
+use Rattle.tree_model.specs.inside.FoundNodes.{up}
+use Rattle.tree_model.specs.ValidTrees.{KeysRise}
 use Rattle.tree_model.proofs.Lists.{all_append, all_on}
 use Rattle.tree_model.proofs.Entries.{del_all, del_stretch}
 use Rattle.tree_model.proofs.Split.{own_all, Labelled, SideIs, SideIn, under_in, all_under, before_of, after_of}
@@ -22,8 +23,8 @@ ahead_below_in : (l : Label) (x e : Key × Record) → SideIn l x.0.label → ah
 ahead_below_in l x e i h = subst (λ v. Below (key_at v x.0.name) e) (sym (in_is l x.0.label i)) (ahead_below l (rest l x.0.label) x.0.name e h)
 
 -- what lies ahead of a label lies below every key of its subtree
-pub all_below_each : (l : Label) (front xs : Entries) → AllByRecursion (Labelled (λ k. ahead (side l k) ≡ true)) front → AllByRecursion (Labelled (SideIn l)) xs → AllByRecursion (λ x. AllByRecursion (Below x.0) front) xs
-all_below_each l front xs a h = all_on (Labelled (SideIn l)) (λ x. AllByRecursion (Below x.0) front) (λ x i. all_on (Labelled (λ k. ahead (side l k) ≡ true)) (Below x.0) (λ e g. ahead_below_in l x e i g) front a) xs h
+pub all_below_each : (l : Label) (prefix xs : Entries) → AllByRecursion (Labelled (λ k. ahead (side l k) ≡ true)) prefix → AllByRecursion (Labelled (SideIn l)) xs → AllByRecursion (λ x. AllByRecursion (Below x.0) prefix) xs
+all_below_each l prefix xs a h = all_on (Labelled (SideIn l)) (λ x. AllByRecursion (Below x.0) prefix) (λ x i. all_on (Labelled (λ k. ahead (side l k) ≡ true)) (Below x.0) (λ e g. ahead_below_in l x e i g) prefix a) xs h
 
 -- without the first tree
 abbrev pub without_first : Forest → Forest

@@ -1,5 +1,5 @@
 -- Worked rows: what the definitions compute, by hand.
-use Rattle.std.proofs.Common.{◌≡◌, ℕ, ◌++◌, List, [], ◌∷◌, Some, None, refl, ap}
+use Rattle.std.proofs.Common.{◌≡◌, ℕ, zero, suc, ◌++◌, List, [], ◌∷◌, Some, None, refl, ap}
 use Rattle.std.specs.Prelude.{codes}
 use Rattle.std.specs.Str.{chars, is_utf8}
 use Rattle.std.specs.Fmt.{digits}
@@ -9,12 +9,14 @@ use Rattle.tree_model.specs.declared.dom_call.DomCall.TheVariants as call
 use Rattle.tree_model.specs.declared.fragment.Fragment.{Fragment}
 use Rattle.tree_model.specs.declared.fragment.Fragment.TheVariants as fragment
 use Rattle.tree_model.specs.declared.reply.Reply.TheVariants.{Nothing, Number, Place, Places, Tree as ATree, Refused}
-use Rattle.tree_model.specs.declared.refusal.Refusal.TheVariants.{Dom, DocumentExists}
+use Rattle.tree_model.specs.declared.refusal.Refusal.TheVariants.{Dom, DocumentExists, TooDeep}
 use Rattle.tree_model.specs.declared.record.Record.TheVariants.{Document, Element, Text, Attr}
 use Rattle.tree_model.specs.Keys.{key_at, node_key}
 use Rattle.tree_model.specs.Names.{Name, is_name, is_start_char, is_name_char}
 use Rattle.tree_model.specs.Tree.{Tree, Forest, none, node, empty_tree, map_of}
-use Rattle.tree_model.specs.DomWrites.{create, append, insert}
+use Rattle.tree_model.specs.Documents.{create}
+use Rattle.tree_model.specs.Placing.{append, insert}
+use Rattle.tree_model.specs.Texts.{set_text_of}
 use Rattle.tree_model.specs.DomCalls.{dom}
 use Rattle.tree_model.proofs.PlainFragments.{plain-Element, plain-Text}
 
@@ -169,3 +171,29 @@ two_characters = 0xC3 ∷ 0xA9 ∷ 0xF0 ∷ 0x9F ∷ 0x98 ∷ 0x80 ∷ []
 length_in_characters : dom (call.Length (E ++ 1001 ∷ [])) (with_texts (text_node (1001 ∷ []) two_characters none)) ≡ (Number 2, with_texts (text_node (1001 ∷ []) two_characters none))
 unfolding chars
 length_in_characters = refl
+
+-- ---- attributes and texts that are set
+
+abbrev with_attribute : List ℕ → Tree
+with_attribute n = record { catalogue = (x, D) ∷ []; documents = node D Document [] (node E (Element a) ((n, []) ∷ []) none none) none }
+
+attribute_removed : dom (call.RemoveAttr E b) (with_attribute b) ≡ (Nothing, with_a)
+unfolding is_name is_utf8 chars encode is_start_char is_name_char
+attribute_removed = refl
+
+-- what is no Name is no attribute
+no_name_removed : dom (call.RemoveAttr E (codes "1a")) (with_attribute (codes "1a")) ≡ (Nothing, with_attribute (codes "1a"))
+unfolding is_name is_utf8 chars encode is_start_char is_name_char
+no_name_removed = refl
+
+-- an element n levels below E
+abbrev deep_label : ℕ → Label
+deep_label zero = E
+deep_label (suc n) = deep_label n ++ (1001 ∷ [])
+
+-- without data nothing is placed, so nothing lies too deep
+set_to_nothing : set_text_of (deep_label 100) [] with_a (node (deep_label 100) (Element a) [] none none) ≡ (Nothing, with_a)
+set_to_nothing = refl
+
+set_too_deep : set_text_of (deep_label 100) a with_a (node (deep_label 100) (Element a) [] none none) ≡ (Refused TooDeep, with_a)
+set_too_deep = refl

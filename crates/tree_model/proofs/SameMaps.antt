@@ -1,4 +1,4 @@
--- A map is that of one well formed tree alone.
+-- A map is that of one valid tree alone.
 use Rattle.std.proofs.Common.{◌≡◌, ℕ, true, false, List, [], ◌∷◌, ◌++◌, map, filter, is_eq, refl, sym, ap, subst, ◌∙◌, append_assoc, append-nil}
 use Rattle.std.proofs.lemmas.List.{append_cancel_left}
 use Rattle.dewey_labels.specs.Labels.{Label, root}
@@ -9,16 +9,16 @@ use Rattle.tree_model.specs.declared.record.Record.TheVariants.{Document, Elemen
 use Rattle.tree_model.specs.Keys.{node_key}
 use Rattle.tree_model.specs.Entries.{Entries}
 use Rattle.tree_model.specs.Tree.{Attributes, Forest, none, node, attr_entry, own, entries_of, Tree, map_of}
-use Rattle.tree_model.specs.WellFormed.{KeysRise, WellFormed, same_label}
+use Rattle.tree_model.specs.ValidTrees.{KeysRise, IsValidTree, same_label}
 use Rattle.tree_model.specs.StoredTree.{catalogue_in}
 use Rattle.tree_model.proofs.Lists.{all_append, all_on}
 use Rattle.tree_model.proofs.Entries.{head_of}
 use Rattle.tree_model.proofs.Split.{own_all, Labelled, SideIs, all_under, all_right}
 use Rattle.tree_model.proofs.Stretches.{middle}
 use Rattle.tree_model.proofs.Found.{some_is}
-use Rattle.tree_model.proofs.Limits.{list_itself}
+use Rattle.tree_model.proofs.EntryLimits.{list_itself}
 use Rattle.tree_model.proofs.WholeTree.{catalogue_entries}
-use Rattle.tree_model.proofs.StoredCatalogues.{catalogue_in_front, forest_not_root}
+use Rattle.tree_model.proofs.StoredCatalogues.{catalogue_before, forest_not_root}
 use Rattle.tree_model.proofs.UnbrokenTrees.{catalogue_of_entries, catalogue_labels}
 
 -- ---- attributes are read from their entries
@@ -85,10 +85,10 @@ same_forest p b c (node l r ats ch nx) (node m q ats' ch' nx') w v h =
     λ i. node (labels i) (records i) (attributes i) (children i) (behind i)
 
 -- the catalogue is the one that the map gives
-catalogue_again : (t : Tree) → WellFormed t → catalogue_in (map_of t) ≡ t.catalogue
-catalogue_again t w = catalogue_in_front (catalogue_entries t.catalogue) (entries_of t.documents) (forest_not_root root t.documents w.keys) ∙ catalogue_of_entries t.catalogue (catalogue_labels t w)
+catalogue_again : (t : Tree) → IsValidTree t → catalogue_in (map_of t) ≡ t.catalogue
+catalogue_again t w = catalogue_before (catalogue_entries t.catalogue) (entries_of t.documents) (forest_not_root root t.documents w.keys) ∙ catalogue_of_entries t.catalogue (catalogue_labels t w)
 
-pub same_tree : (t u : Tree) → WellFormed t → WellFormed u → map_of t ≡ map_of u → t ≡ u
+pub same_tree : (t u : Tree) → IsValidTree t → IsValidTree u → map_of t ≡ map_of u → t ≡ u
 same_tree t u w v h =
     let catalogues : t.catalogue ≡ u.catalogue = sym (catalogue_again t w) ∙ ap catalogue_in h ∙ catalogue_again u v in
     let behind : entries_of t.documents ≡ entries_of u.documents = append_cancel_left (catalogue_entries t.catalogue) (entries_of t.documents) (entries_of u.documents) (h ∙ ap (λ c. catalogue_entries c ++ entries_of u.documents) (sym catalogues)) in

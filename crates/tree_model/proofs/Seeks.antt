@@ -11,9 +11,9 @@ use Rattle.tree_model.specs.declared.record.Record.{Record}
 use Rattle.tree_model.specs.Names.{Name}
 use Rattle.tree_model.specs.Keys.{key_at, top_name}
 use Rattle.tree_model.specs.Entries.{Below, Above}
-use Rattle.tree_model.specs.Seeks.{behind_tree}
+use Rattle.tree_model.specs.inside.Seeks.{behind_tree}
 use Rattle.tree_model.proofs.Split.{SideIs, SideIn, Later}
-use Rattle.tree_model.proofs.Limits.{Fits}
+use Rattle.tree_model.proofs.EntryLimits.{Fits}
 
 -- a subtree lies below the key behind it
 pub in_below_tree : (l : Label) (e : Key × Record) → SideIn l e.0.label → Fits e → Below (behind_tree l) e

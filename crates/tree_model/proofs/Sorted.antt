@@ -10,12 +10,12 @@ use Rattle.tree_model.specs.Names.{Name}
 use Rattle.tree_model.specs.Keys.{key_at}
 use Rattle.tree_model.specs.Entries.{Entries, Above, Sorted}
 use Rattle.tree_model.specs.Tree.{Attributes, Forest, none, node, attr_entry, own, entries_of}
-use Rattle.tree_model.specs.WellFormed.{NamesRise, KeysRise}
+use Rattle.tree_model.specs.ValidTrees.{NamesRise, KeysRise}
 use Rattle.tree_model.proofs.Lists.{all_on}
 use Rattle.tree_model.proofs.Keys.{key_total}
 use Rattle.tree_model.proofs.Entries.{sorted_append}
 use Rattle.tree_model.proofs.Split.{own_all, Labelled, SideIs, SideIn, Later, all_under, all_right, tree_in}
-use Rattle.tree_model.proofs.Limits.{list_itself}
+use Rattle.tree_model.proofs.EntryLimits.{list_itself}
 
 -- entries of two parts, the second of which has later labels
 pub apart_by : (P Q : Label → Type 0) → ((a b : Label) → P a → Q b → Later a b) → (xs ys : Entries) → AllByRecursion (Labelled P) xs → AllByRecursion (Labelled Q) ys → AllByRecursion (λ x. AllByRecursion (Above x.0) ys) xs

@@ -10,7 +10,7 @@ use Rattle.tree_model.specs.declared.key.Key.{Key}
 use Rattle.tree_model.specs.declared.record.Record.{Record}
 use Rattle.tree_model.specs.Entries.{Entries}
 use Rattle.tree_model.specs.Tree.{Attributes, Forest, none, node, attr_entry, own, entries_of, choose, at}
-use Rattle.tree_model.specs.WellFormed.{KeysRise}
+use Rattle.tree_model.specs.ValidTrees.{KeysRise}
 use Rattle.tree_model.proofs.Lists.{all_append, all_on}
 
 -- ---- what lies where

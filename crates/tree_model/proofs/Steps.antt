@@ -5,8 +5,9 @@ use Rattle.dewey_labels.specs.Sides.{under, right, side, is_in, ahead}
 use Rattle.dewey_labels.proofs.Sides.{side_itself, in_under}
 use Rattle.dewey_labels.proofs.Codes.{child_under, children_right}
 use Rattle.tree_model.specs.declared.record.Record.{Record}
-use Rattle.tree_model.specs.Tree.{Attributes, Forest, none, node, choose, at, found, up, labels, head_label, children_of, following_of, first_of, next_of}
-use Rattle.tree_model.specs.WellFormed.{KeysRise}
+use Rattle.tree_model.specs.Tree.{Attributes, Forest, none, node, choose, at, found, labels, head_label, children_of, first_of, next_of}
+use Rattle.tree_model.specs.inside.FoundNodes.{up, following_of}
+use Rattle.tree_model.specs.ValidTrees.{KeysRise}
 use Rattle.tree_model.proofs.Found.{some_is, at_from, at_keys, at_label}
 
 -- the next sibling as it is found from the node

@@ -2,7 +2,8 @@
 use Rattle.std.proofs.Common.{◌≡◌, true, false, cond, ◌&&◌, [], ◌∷◌, ◌++◌, Ordering, Less, Equal, Greater, is_eq, nat_cmp, refl, sym, ap, ◌∙◌, true≢false, eqb}
 use Rattle.std.specs.Cmp.Lexicographic.{slice_cmp}
 use Rattle.std.specs.List.{AllByRecursion}
-use Rattle.dewey_labels.specs.Labels.{Label, root, is_empty, is_label}
+use Rattle.dewey_labels.specs.Labels.{Label, root, is_label}
+use Rattle.dewey_labels.specs.Lists.{is_empty}
 use Rattle.dewey_labels.specs.Sides.{under, side}
 use Rattle.dewey_labels.proofs.Sides.{under_before}
 use Rattle.dewey_labels.proofs.Codes.{eq_is, first_of_both}
@@ -12,8 +13,9 @@ use Rattle.tree_model.specs.Names.{Name}
 use Rattle.tree_model.specs.Keys.{key_at}
 use Rattle.tree_model.specs.Entries.{Entries, Below}
 use Rattle.tree_model.specs.Tree.{Forest, entries_of}
-use Rattle.tree_model.specs.WellFormed.{KeysRise, same_label}
-use Rattle.tree_model.specs.StoredTree.{is_root, catalogue_in, with_label, label_in, names_document, catalogue_fits}
+use Rattle.tree_model.specs.ValidTrees.{KeysRise, same_label}
+use Rattle.tree_model.specs.Places.{is_root}
+use Rattle.tree_model.specs.StoredTree.{catalogue_in, with_label, label_in, names_document, catalogue_fits}
 use Rattle.tree_model.proofs.Lists.{all_on}
 use Rattle.tree_model.proofs.Keys.{key_turned, list_tied}
 use Rattle.tree_model.proofs.Split.{Labelled, SideIs, Later, all_under}
@@ -61,9 +63,9 @@ pub catalogue_in_others : (es : Entries) → AllByRecursion (Labelled NotRoot) e
 catalogue_in_others [] h = refl
 catalogue_in_others (e ∷ es) h = ap (λ b. cond b (with_label e.0.name (label_in e.1) (catalogue_in es)) (catalogue_in es)) h.0 ∙ catalogue_in_others es h.1
 
-pub catalogue_in_front : (xs ys : Entries) → AllByRecursion (Labelled NotRoot) ys → catalogue_in (xs ++ ys) ≡ catalogue_in xs
-catalogue_in_front [] ys h = catalogue_in_others ys h
-catalogue_in_front (e ∷ xs) ys h = ap (λ c. cond (is_root e.0.label) (with_label e.0.name (label_in e.1) c) c) (catalogue_in_front xs ys h)
+pub catalogue_before : (xs ys : Entries) → AllByRecursion (Labelled NotRoot) ys → catalogue_in (xs ++ ys) ≡ catalogue_in xs
+catalogue_before [] ys h = catalogue_in_others ys h
+catalogue_before (e ∷ xs) ys h = ap (λ c. cond (is_root e.0.label) (with_label e.0.name (label_in e.1) c) c) (catalogue_before xs ys h)
 
 pub others_fit : (all es : Entries) → AllByRecursion (Labelled NotRoot) es → catalogue_fits all es ≡ true
 others_fit all [] h = refl

@@ -1,4 +1,4 @@
--- A sorted map that breaks no rule is that of a well formed tree: its documents' tree and its catalogue.
+-- A sorted map that breaks no rule is that of a valid tree: its documents' tree and its catalogue.
 use Rattle.std.proofs.Common.{◌≡◌, ℕ, Bool, true, false, cond, ◌&&◌, ◌||◌, [], ◌∷◌, ◌++◌, length, Option, Some, None, Less, nat_cmp, is_eq, IsTrue, refl, sym, ap, subst, ◌∙◌, true≢false}
 use Rattle.std.specs.Ordering.{ordering_then}
 use Rattle.std.specs.Cmp.Lexicographic.{slice_cmp}
@@ -14,15 +14,17 @@ use Rattle.tree_model.specs.declared.record.Record.{Record}
 use Rattle.tree_model.specs.declared.record.Record.TheVariants.{Document, Element, Text, Attr}
 use Rattle.tree_model.specs.Names.{Name, is_name}
 use Rattle.tree_model.specs.Keys.{key_at, node_key}
-use Rattle.tree_model.specs.Entries.{Entries, Above, Sorted, get, or_else}
+use Rattle.tree_model.specs.Entries.{Entries, Above, Sorted, get}
+use Rattle.std.specs.Option.{option_or}
 use Rattle.tree_model.specs.Tree.{Forest, none, node, entries_of, Catalogue, attr_entry, root_attribute, choose, at, labels, record_of}
-use Rattle.tree_model.specs.WellFormed.{NamesRise, KindsAllowed, may_stand, same_label, is_among}
-use Rattle.tree_model.specs.StoredTree.{is_root, label_in, with_label, catalogue_in, misfit_at, is_document_record, has_document, names_document, catalogue_fits, broken_at, IsStoredTree}
-use Rattle.tree_model.proofs.Limits.{list_itself}
+use Rattle.tree_model.specs.ValidTrees.{NamesRise, KindsAllowed, may_stand, same_label, is_among}
+use Rattle.tree_model.specs.Places.{is_root}
+use Rattle.tree_model.specs.StoredTree.{label_in, with_label, catalogue_in, misfit_at, is_document_record, has_document, names_document, catalogue_fits, broken_at, IsStoredTree}
+use Rattle.tree_model.proofs.EntryLimits.{list_itself}
 use Rattle.tree_model.proofs.NamedLists.{name_starts}
 use Rattle.tree_model.proofs.ForwardReads.{get_law}
 use Rattle.tree_model.proofs.WholeTree.{catalogue_entries, get_past_root}
-use Rattle.tree_model.proofs.UnbrokenTrees.{sorted_front, none_misfits}
+use Rattle.tree_model.proofs.UnbrokenTrees.{sorted_prefix, none_misfits}
 use Rattle.tree_model.proofs.StoredTrees.{AtRoot, Divided, divided}
 
 -- ---- the root's entries are those of a catalogue
@@ -121,7 +123,7 @@ document_among m (node l r ats ch nx) k h = elim (side l m) as (λ s. side l m �
 
 -- ---- the whole map
 
-both_none : (o p : Option ℕ) → or_else o p ≡ None → (o ≡ None) × (p ≡ None)
+both_none : (o p : Option ℕ) → option_or o p ≡ None → (o ≡ None) × (p ≡ None)
 both_none None p h = (refl, h)
 both_none (Some n) p h = cc
 
@@ -140,12 +142,12 @@ stored_tree es s i h =
     let sorted : Sorted (roots ++ d.docs) = subst Sorted d.is s in
     let pass : AllByRecursion (IsEntry es) roots = entries_pass es roots d.docs d.at_root (subst (λ v. catalogue_fits es v ≡ true) d.is (passes (catalogue_fits es es) (length es) none_broken.1)) in
     let again : catalogue_entries cat ≡ roots = entries_again es roots d.at_root pass in
-    let names : NamesRise [] cat = names_rise es [] roots d.at_root pass (first_names es roots d.at_root pass) (sorted_front roots d.docs sorted) in
+    let names : NamesRise [] cat = names_rise es [] roots d.at_root pass (first_names es roots d.at_root pass) (sorted_prefix roots d.docs sorted) in
     let whole : catalogue_entries cat ++ entries_of f ≡ es = (λ i. again i ++ d.tree.entries i) ∙ sym d.is in
     let found : (l : Label) → get (node_key l) es ≡ record_of (at l f) = λ l. ap (get (node_key l)) (sym whole) ∙ get_past_root l [] cat (entries_of f) names ∙ get_law root root l f d.tree.keys in
     record {
       tree = record { catalogue = cat; documents = f };
-      well_formed = record {
+      is_valid_tree = record {
         keys = d.tree.keys;
         kinds = d.tree.kinds;
         limits = d.tree.limits;

@@ -11,24 +11,26 @@ use Rattle.dewey_labels.proofs.Labels.{child_of_parent}
 use Rattle.tree_model.specs.declared.key.Key.{Key}
 use Rattle.tree_model.specs.declared.record.Record.{Record}
 use Rattle.tree_model.specs.Keys.{key_cmp, node_key}
-use Rattle.tree_model.specs.Entries.{Entries, Above, Sorted, get, or_else}
-use Rattle.tree_model.specs.StoredTree.{is_root, catalogue_in, has_under}
+use Rattle.tree_model.specs.Entries.{Entries, Above, Sorted, get}
+use Rattle.std.specs.Option.{option_or}
+use Rattle.tree_model.specs.Places.{is_root}
+use Rattle.tree_model.specs.StoredTree.{catalogue_in, has_under}
 use Rattle.tree_model.proofs.Lists.{all_behind}
 use Rattle.tree_model.proofs.Entries.{last_of, get_none, all_above_lower, sorted_behind}
 use Rattle.tree_model.proofs.Split.{Later}
 use Rattle.tree_model.proofs.Seeks.{later_above}
-use Rattle.tree_model.proofs.StoredCatalogues.{later_not_below, NotRoot, not_root_under, catalogue_in_front}
+use Rattle.tree_model.proofs.StoredCatalogues.{later_not_below, NotRoot, not_root_under, catalogue_before}
 use Rattle.tree_model.proofs.StoredTrees.{others_behind}
 
 -- ---- records
 
 -- what is found at a key below an entry is found before that entry
-get_front : (k : Key) (xs ys : Entries) → AllByRecursion (Above k) ys → get k (xs ++ ys) ≡ get k xs
-get_front k [] ys h = get_none k ys h
-get_front k (e ∷ xs) ys h = ap (λ o. cond (is_eq (key_cmp k e.0)) (Some e.1) o) (get_front k xs ys h)
+get_prefix : (k : Key) (xs ys : Entries) → AllByRecursion (Above k) ys → get k (xs ++ ys) ≡ get k xs
+get_prefix k [] ys h = get_none k ys h
+get_prefix k (e ∷ xs) ys h = ap (λ o. cond (is_eq (key_cmp k e.0)) (Some e.1) o) (get_prefix k xs ys h)
 
 pub get_before : (k : Key) (before : Entries) (x : Key × Record) (behind : Entries) → Sorted (before ++ (x ∷ behind)) → Above k x → get k (before ++ (x ∷ behind)) ≡ get k before
-get_before k before x behind s h = get_front k before (x ∷ behind) (h, all_above_lower k x.0 h behind (sorted_behind before (x ∷ behind) s).0)
+get_before k before x behind s h = get_prefix k before (x ∷ behind) (h, all_above_lower k x.0 h behind (sorted_behind before (x ∷ behind) s).0)
 
 -- the keys of a node's parent, and of an attribute's node, lie below
 pub parent_below : (l : Label) (r : Record) → IsLabel l → NotRoot l → Above (node_key (parent l)) (node_key l, r)
@@ -37,8 +39,8 @@ parent_below l r h n = later_above (parent l) [] (node_key l, r) (under_before (
 -- ---- the catalogue
 
 -- the catalogue before an entry that isn't the root's is that of the whole map
-pub catalogue_before : (before : Entries) (x : Key × Record) (behind : Entries) → Sorted (before ++ (x ∷ behind)) → IsLabel x.0.label → NotRoot x.0.label → catalogue_in (before ++ (x ∷ behind)) ≡ catalogue_in before
-catalogue_before before x behind s h n = catalogue_in_front before (x ∷ behind) (n, others_behind x behind (not_root_under x.0.label h.0 n) (sorted_behind before (x ∷ behind) s).0)
+pub catalogue_before_entry : (before : Entries) (x : Key × Record) (behind : Entries) → Sorted (before ++ (x ∷ behind)) → IsLabel x.0.label → NotRoot x.0.label → catalogue_in (before ++ (x ∷ behind)) ≡ catalogue_in before
+catalogue_before_entry before x behind s h n = catalogue_before before (x ∷ behind) (n, others_behind x behind (not_root_under x.0.label h.0 n) (sorted_behind before (x ∷ behind) s).0)
 
 -- ---- what lies under a label
 
@@ -84,6 +86,6 @@ has_under_by_last p (e ∷ y ∷ before) x behind s u =
       | right ↦ λ _. again
     ] refl
   where
-    first_of_some : (o : Option (Key × Record)) → or_else o (Some y) ≡ or_else (or_else o (Some y)) (Some e)
+    first_of_some : (o : Option (Key × Record)) → option_or o (Some y) ≡ option_or (option_or o (Some y)) (Some e)
     first_of_some None = refl
     first_of_some (Some z) = refl

@@ -106,6 +106,15 @@ an_attribute_of_a_text : broken_at (one_document ++ ((node_key G, Text (codes "t
 unfolding is_name is_utf8 chars encode is_start_char is_name_char digits
 an_attribute_of_a_text = refl
 
+-- C3 begins a character of two bytes
+a_text_that_is_no_utf8 : broken_at (one_document ++ ((node_key G, Text (0xC3 ∷ [])) ∷ [])) ≡ Some 3
+unfolding is_name is_utf8 chars encode is_start_char is_name_char digits
+a_text_that_is_no_utf8 = refl
+
+a_value_that_is_no_utf8 : broken_at (one_document ++ ((key_at E (codes "k"), Attr (0x61 ∷ 0xC3 ∷ [])) ∷ [])) ≡ Some 3
+unfolding is_name is_utf8 chars encode is_start_char is_name_char digits
+a_value_that_is_no_utf8 = refl
+
 -- n elements, each below the one before it
 abbrev chain : ℕ → Label → Entries
 chain zero l = []

@@ -1,5 +1,5 @@
--- A map that breaks no rule is that of a well formed tree: entry after entry is put at the end of the tree of those before it.
-use Rattle.std.proofs.Common.{◌≡◌, ℕ, List, ◌≤◌, Bool, true, false, cond, ◌&&◌, ◌||◌, not, ◌==◌, nat_le, [], ◌∷◌, ◌++◌, map, length, Option, Some, None, Less, Equal, Greater, nat_cmp, refl, sym, ap, subst, ◌∙◌, arith, append_assoc, append-nil, true≢false}
+-- A map that breaks no rule is that of a valid tree: entry after entry is put at the end of the tree of those before it.
+use Rattle.std.proofs.Common.{◌≡◌, ℕ, List, ◌≤◌, Bool, true, false, cond, ◌&&◌, ◌||◌, not, ◌==◌, nat_le, [], ◌∷◌, ◌++◌, map, Option, Some, None, Less, Equal, Greater, nat_cmp, refl, sym, ap, subst, ◌∙◌, arith, append_assoc, append-nil, true≢false}
 use Rattle.std.proofs.lemmas.Bool.Decides.{nat_tests}
 use Rattle.std.proofs.lemmas.List.{map-append}
 use Rattle.std.specs.Ordering.{ordering_then}
@@ -13,24 +13,27 @@ use Rattle.dewey_labels.proofs.Labels.{is_label-parent, child_of_parent}
 use Rattle.tree_model.specs.declared.key.Key.{Key}
 use Rattle.tree_model.specs.declared.record.Record.{Record}
 use Rattle.tree_model.specs.declared.record.Record.TheVariants.{Document, Element, Text, Attr}
-use Rattle.tree_model.specs.Limits.{deepest_level, most_text_bytes}
+use Rattle.tree_model.specs.Limits.{deepest_level}
 use Rattle.tree_model.specs.Names.{Name, is_name}
 use Rattle.tree_model.specs.Keys.{key_at, node_key}
 use Rattle.tree_model.specs.Entries.{Entries, Below, Above, Sorted, get}
-use Rattle.tree_model.specs.Tree.{Attributes, Forest, none, node, attr_entry, own, entries_of, Catalogue, at, up, low, found, head_label, labels, record_of, edit, then_trees}
-use Rattle.tree_model.specs.WellFormed.{NamesRise, KeysRise, KindsAllowed, LimitsKept, may_stand, may_have, record_fits, entries_with}
-use Rattle.tree_model.specs.StoredTree.{is_root, catalogue_in, has_under, may_join, node_fits, is_value, is_element_record, attribute_fits, fits}
+use Rattle.tree_model.specs.Tree.{Attributes, Forest, none, node, attr_entry, own, entries_of, Catalogue, at, found, head_label, labels, record_of, edit, then_trees}
+use Rattle.tree_model.specs.inside.FoundNodes.{up, low}
+use Rattle.tree_model.specs.ValidTrees.{NamesRise, KeysRise, KindsAllowed, LimitsKept, may_stand, may_have, entries_with}
+use Rattle.tree_model.specs.Records.{is_data, record_fits}
+use Rattle.tree_model.specs.Places.{is_root}
+use Rattle.tree_model.specs.StoredTree.{catalogue_in, has_under, may_join, node_fits, is_value, is_element_record, attribute_fits, entry_fits}
 use Rattle.tree_model.proofs.Lists.{all_append, all_behind, all_before, all_on}
 use Rattle.tree_model.proofs.Entries.{get_past, sorted_below, sorted_behind}
 use Rattle.tree_model.proofs.Split.{Labelled, SideIs, Later, all_under, before_of, after_of, split}
 use Rattle.tree_model.proofs.Found.{some_is, at_label, Lies, lies}
-use Rattle.tree_model.proofs.Limits.{list_itself}
+use Rattle.tree_model.proofs.EntryLimits.{list_itself}
 use Rattle.tree_model.proofs.NamedLists.{name_starts}
 use Rattle.tree_model.proofs.ForwardReads.{behind_right, get_law}
 use Rattle.tree_model.proofs.Edits.{over, edit_entries, edit_keys, edit_kinds, edit_limits}
 use Rattle.tree_model.proofs.EditedTrees.{labels-edit}
 use Rattle.tree_model.proofs.Joins.{end_of, entries-then_trees, labels-then_trees, keys-then_trees, kinds-then_trees, limits-then_trees}
-use Rattle.tree_model.proofs.StoredCatalogues.{later_not_below, NotRoot, root_is, not_root_under, catalogue_in_front, forest_not_root}
+use Rattle.tree_model.proofs.StoredCatalogues.{later_not_below, NotRoot, root_is, not_root_under, catalogue_before, forest_not_root}
 use Rattle.tree_model.proofs.UnbrokenTrees.{AllFit}
 
 -- ---- entries below a key
@@ -98,8 +101,8 @@ module _ (cat : Catalogue) (docs : Entries) (z : Grown cat docs) (p : Label) (q 
   tree_has : (P : Key × Record → Type 0) → AllByRecursion P docs → AllByRecursion P (own p q ats) × AllByRecursion P (entries_of ch)
   tree_has P h =
       let all = subst (AllByRecursion P) (sym z.entries ∙ place.whole) h in
-      let front = all_before P ((before_of p f ++ own p q ats) ++ entries_of ch) (entries_of nx ++ after_of p f) all in
-      (all_behind P (before_of p f) (own p q ats) (all_before P (before_of p f ++ own p q ats) (entries_of ch) front), all_behind P (before_of p f ++ own p q ats) (entries_of ch) front)
+      let prefix = all_before P ((before_of p f ++ own p q ats) ++ entries_of ch) (entries_of nx ++ after_of p f) all in
+      (all_behind P (before_of p f) (own p q ats) (all_before P (before_of p f ++ own p q ats) (entries_of ch) prefix), all_behind P (before_of p f ++ own p q ats) (entries_of ch) prefix)
 
   -- a change at the node that puts one entry behind its subtree
   extended : (h : Forest → Forest) (x : Key × Record) → ((g : Forest) → labels (h g) ≡ labels g)
@@ -218,7 +221,7 @@ module _ (roots docs : Entries) (at_root : AtRoot roots) (z : Grown (catalogue_i
 
   -- the catalogue is that of the root's entries
   catalogue_is : catalogue_in before ≡ catalogue_in roots
-  catalogue_is = catalogue_in_front roots docs (subst (AllByRecursion (Labelled NotRoot)) z.entries (forest_not_root root z.forest z.keys))
+  catalogue_is = catalogue_before roots docs (subst (AllByRecursion (Labelled NotRoot)) z.entries (forest_not_root root z.forest z.keys))
 
   there : (p : Label) (q : Record) → side root p ≡ under → get (node_key p) before ≡ Some q → Parent z.forest p q
   there p q u h = parent_found z.forest p q (sym (get_law root root p z.forest z.keys) ∙ ap (get (node_key p)) z.entries ∙ sym (get_past (node_key p) roots docs (roots_below p roots u at_root)) ∙ h)
@@ -257,8 +260,8 @@ module _ (roots docs : Entries) (at_root : AtRoot roots) (z : Grown (catalogue_i
       (nothing_behind cat docs z p q host.ats host.ch host.nx e l [] (ap is_in l_under) lows)
 
   -- a new attribute of an element
-  with_attribute : (l : Label) (m n : Name) (v : List ℕ) → is_name n ≡ true → length v ≤ most_text_bytes → Parent z.forest l (Element m) → AllByRecursion (Below (key_at l n)) docs → Grown (catalogue_in roots) (docs ++ ((key_at l n, Attr v) ∷ []))
-  with_attribute l m n v named short host lows =
+  with_attribute : (l : Label) (m n : Name) (v : List ℕ) → is_name n ≡ true → is_data v ≡ true → Parent z.forest l (Element m) → AllByRecursion (Below (key_at l n)) docs → Grown (catalogue_in roots) (docs ++ ((key_at l n, Attr v) ∷ []))
+  with_attribute l m n v named valued host lows =
       let e = host.is in
       let cat = catalogue_in roots in
       let a : Name × List ℕ = (n, v) in
@@ -272,7 +275,7 @@ module _ (roots docs : Entries) (at_root : AtRoot roots) (z : Grown (catalogue_i
       extended cat docs z l q host.ats host.ch host.nx e (with_last_attribute a) x (attribute_row a)
       (λ o b w. (w.0, w.1, w.2, names_with_last l [] n v host.ats first named tree_low.0.1 w.3, w.4, w.5))
       (λ o w. (w.0, w.1, refl, w.3, w.4))
-      (λ w. (w.0, w.1, all_append (λ c. length c.1 ≤ most_text_bytes) host.ats (a ∷ []) w.2 (short, tt), w.3, w.4))
+      (λ w. (w.0, w.1, all_append (λ c. is_data c.1 ≡ true) host.ats (a ∷ []) w.2 (valued, tt), w.3, w.4))
       (ap (λ t. (((node_key l, q) ∷ t) ++ entries_of host.ch) ++ entries_of host.nx) (map-append (attr_entry l) host.ats (a ∷ [])) ∙ ap (λ t. t ++ entries_of host.nx) (swapped (own l q host.ats) (entries_of host.ch) x childless))
       (nothing_behind cat docs z l q host.ats host.ch host.nx e l n (ap is_in (side_itself l)) lows)
     where
@@ -280,8 +283,8 @@ module _ (roots docs : Entries) (at_root : AtRoot roots) (z : Grown (catalogue_i
       swapped o [] x h = simp (append_assoc, append-nil) refl
       swapped o (y ∷ c) x h = cc
 
-  -- whatever fits goes to the end of the tree
-  grown_by : (l : Label) (n : Name) (r : Record) → IsLabel l → NotRoot l → fits before (key_at l n, r) ≡ true → AllByRecursion (Below (key_at l n)) docs → Grown (catalogue_in roots) (docs ++ ((key_at l n, r) ∷ []))
+  -- whatever entry_fits goes to the end of the tree
+  grown_by : (l : Label) (n : Name) (r : Record) → IsLabel l → NotRoot l → entry_fits before (key_at l n, r) ≡ true → AllByRecursion (Below (key_at l n)) docs → Grown (catalogue_in roots) (docs ++ ((key_at l n, r) ∷ []))
   grown_by l [] r h other fit lows = by_parent (is_root (parent l)) refl (second_of_both (record_fits r) _ (second_of_both (nat_le (level l) deepest_level) _ here))
     where
       here : node_fits l r before ≡ true
@@ -315,18 +318,18 @@ module _ (roots docs : Entries) (at_root : AtRoot roots) (z : Grown (catalogue_i
       named : is_name (d ∷ n) ≡ true
       named = first_of_both (is_name (d ∷ n)) _ here
 
-      of_element : (v : List ℕ) (o : Option Record) → get (node_key l) before ≡ o → length v ≤ most_text_bytes → is_element_record o ≡ true → Grown (catalogue_in roots) (docs ++ ((key_at l (d ∷ n), Attr v) ∷ []))
-      of_element v None g short k = absurd (true≢false (sym k))
-      of_element v (Some Document) g short k = absurd (true≢false (sym k))
-      of_element v (Some (Element m)) g short k = with_attribute l m (d ∷ n) v named short (there l (Element m) (not_root_under l h.0 other) g) lows
-      of_element v (Some (Text t)) g short k = absurd (true≢false (sym k))
-      of_element v (Some (Attr t)) g short k = absurd (true≢false (sym k))
+      of_element : (v : List ℕ) (o : Option Record) → get (node_key l) before ≡ o → is_data v ≡ true → is_element_record o ≡ true → Grown (catalogue_in roots) (docs ++ ((key_at l (d ∷ n), Attr v) ∷ []))
+      of_element v None g valued k = absurd (true≢false (sym k))
+      of_element v (Some Document) g valued k = absurd (true≢false (sym k))
+      of_element v (Some (Element m)) g valued k = with_attribute l m (d ∷ n) v named valued (there l (Element m) (not_root_under l h.0 other) g) lows
+      of_element v (Some (Text t)) g valued k = absurd (true≢false (sym k))
+      of_element v (Some (Attr t)) g valued k = absurd (true≢false (sym k))
 
       valued : (r : Record) → is_value r ≡ true → Grown (catalogue_in roots) (docs ++ ((key_at l (d ∷ n), r) ∷ []))
       valued Document g = absurd (true≢false (sym g))
       valued (Element m) g = absurd (true≢false (sym g))
       valued (Text t) g = absurd (true≢false (sym g))
-      valued (Attr v) g = of_element v (get (node_key l) before) refl (within_is (length v) most_text_bytes g) (second_of_both (is_value r) _ (second_of_both (is_name (d ∷ n)) _ here))
+      valued (Attr v) g = of_element v (get (node_key l) before) refl g (second_of_both (is_value r) _ (second_of_both (is_name (d ∷ n)) _ here))
 
 -- ---- all entries
 

@@ -4,7 +4,7 @@ use Rattle.std.specs.Ordering.{ordering_then}
 use Rattle.std.specs.Cmp.Lexicographic.{slice_cmp}
 use Rattle.std.specs.List.{AllByRecursion}
 use Rattle.dewey_labels.specs.Labels.{Label}
-use Rattle.dewey_labels.specs.Sides.{Side, above, left, same, under, right, side, is_under, is_in, ahead}
+use Rattle.dewey_labels.specs.Sides.{Side, above, left, same, under, right, side, is_under, is_in, ahead, is_right}
 use Rattle.dewey_labels.proofs.Sides.{side_itself, right_before, under_before}
 use Rattle.tree_model.specs.declared.key.Key.{Key}
 use Rattle.tree_model.specs.declared.record.Record.{Record}
@@ -16,10 +16,9 @@ use Rattle.tree_model.proofs.Lists.{all_append, all_on}
 use Rattle.tree_model.proofs.Entries.{get_past, get_none}
 use Rattle.tree_model.proofs.Split.{own_all, Labelled, SideIs, SideIn, all_under}
 use Rattle.tree_model.proofs.Found.{Lies}
-use Rattle.tree_model.proofs.Limits.{list_itself}
+use Rattle.tree_model.proofs.EntryLimits.{list_itself}
 use Rattle.tree_model.proofs.Seeks.{ahead_below_node, later_above}
 use Rattle.tree_model.proofs.ForwardReads.{behind_right}
-use Rattle.dewey_labels.specs.Sides.{is_right}
 use Rattle.tree_model.specs.declared.record.Record.TheVariants.{Attr}
 
 module _ {A : Type 0} (p : A → Bool) where
@@ -119,8 +118,8 @@ module _ (p l : Label) (r : Record) (ats : Attributes) (ch nx : Forest) (es : En
   attr_law d n =
       let k = key_at l (d ∷ n) in
       let back = entries_of ch ++ (entries_of nx ++ z.after) in
-      let front = z.before ++ ((node_key l, r) ∷ []) in
-      let lows : AllByRecursion (Below k) front = all_append (Below k) z.before _ (all_on (Labelled (λ v. ahead (side l v) ≡ true)) (Below k) (ahead_below_node l (d ∷ n)) z.before z.before_ahead) (ap (λ o. ordering_then o Less) (list_itself l), tt) in
+      let prefix = z.before ++ ((node_key l, r) ∷ []) in
+      let lows : AllByRecursion (Below k) prefix = all_append (Below k) z.before _ (all_on (Labelled (λ v. ahead (side l v) ≡ true)) (Below k) (ahead_below_node l (d ∷ n)) z.before z.before_ahead) (ap (λ o. ordering_then o Less) (list_itself l), tt) in
       let highs : AllByRecursion (Above k) back = all_append (Above k) (entries_of ch) _ (all_on (Labelled (SideIs l under)) (Above k) (λ e h. later_above l (d ∷ n) e (under_before l e.0.label h)) (entries_of ch) (all_under l l ch z.children)) (all_on (Labelled (SideIs l right)) (Above k) (λ e h. later_above l (d ∷ n) e (right_before l e.0.label h)) _ (behind_right p l r ats ch nx es z)) in
-      let cut : es ≡ front ++ (map (attr_entry l) ats ++ back) = z.whole ∙ simp append_assoc refl in
-      ap (get k) cut ∙ get_past k front _ lows ∙ get_attr l (d ∷ n) ats back highs
+      let cut : es ≡ prefix ++ (map (attr_entry l) ats ++ back) = z.whole ∙ simp append_assoc refl in
+      ap (get k) cut ∙ get_past k prefix _ lows ∙ get_attr l (d ∷ n) ats back highs

@@ -1,10 +1,11 @@
--- The map of a well formed tree breaks no rule.
+-- The map of a valid tree breaks no rule.
 use Rattle.std.proofs.Common.{◌≡◌, ℕ, List, ◌≤◌, Bool, true, false, cond, ◌&&◌, ◌||◌, not, ◌==◌, nat_le, [], ◌∷◌, ◌++◌, map, length, Some, None, Less, nat_cmp, is_eq, IsTrue, refl, sym, ap, subst, ◌∙◌, arith, append_assoc, append-nil, true≢false}
 use Rattle.std.proofs.lemmas.Bool.{and_from}
 use Rattle.std.proofs.lemmas.Bool.Decides.{nat_tests}
 use Rattle.std.specs.Cmp.Lexicographic.{slice_cmp, nat_list_cmp_total}
 use Rattle.std.specs.List.{AllByRecursion}
-use Rattle.dewey_labels.specs.Labels.{Label, root, is_empty, is_child, is_label, level, Within, IsLabel}
+use Rattle.dewey_labels.specs.Labels.{Label, root, is_child, is_label, level, Within, IsLabel}
+use Rattle.dewey_labels.specs.Lists.{is_empty}
 use Rattle.dewey_labels.specs.Sides.{above, left, same, under, right, side, is_in, is_under}
 use Rattle.dewey_labels.proofs.Sides.{side_itself, under_before, in_under}
 use Rattle.dewey_labels.proofs.Codes.{child_under, children_right}
@@ -13,26 +14,28 @@ use Rattle.dewey_labels.proofs.LabelOf.{label_of-label_text}
 use Rattle.tree_model.specs.declared.key.Key.{Key}
 use Rattle.tree_model.specs.declared.record.Record.{Record}
 use Rattle.tree_model.specs.declared.record.Record.TheVariants.{Document, Element, Text, Attr}
-use Rattle.tree_model.specs.Limits.{deepest_level, most_text_bytes}
+use Rattle.tree_model.specs.Limits.{deepest_level}
 use Rattle.tree_model.specs.Names.{Name, is_name}
 use Rattle.tree_model.specs.Keys.{key_cmp, key_at, node_key}
-use Rattle.tree_model.specs.Entries.{Entries, Below, Above, Sorted, get, or_else}
+use Rattle.tree_model.specs.Entries.{Entries, Below, Above, Sorted, get}
+use Rattle.std.specs.Option.{option_or}
 use Rattle.tree_model.specs.Tree.{Attributes, Forest, none, node, attr_entry, own, entries_of, Catalogue, root_attribute, Tree, map_of, choose, at, labels, record_of}
-use Rattle.tree_model.specs.WellFormed.{NamesRise, KeysRise, KindsAllowed, LimitsKept, ValuesFit, WellFormed, may_stand, may_follow, may_have, same_label, entries_with, is_among}
-use Rattle.tree_model.specs.StoredTree.{is_root, with_label, catalogue_in, has_under, may_join, may_stand_at, node_fits, attribute_fits, is_element_record, fits, misfit_at, is_document_record, has_document, catalogue_fits, broken_at}
+use Rattle.tree_model.specs.ValidTrees.{NamesRise, KeysRise, KindsAllowed, LimitsKept, ValuesFit, IsValidTree, may_stand, may_follow, may_have, same_label, entries_with, is_among}
+use Rattle.tree_model.specs.Places.{is_root}
+use Rattle.tree_model.specs.StoredTree.{with_label, catalogue_in, has_under, may_join, may_stand_at, node_fits, attribute_fits, is_element_record, entry_fits, misfit_at, is_document_record, has_document, catalogue_fits, broken_at}
 use Rattle.tree_model.proofs.Lists.{all_append, all_before, all_on}
 use Rattle.tree_model.proofs.Entries.{get_past, get_here, sorted_below}
 use Rattle.tree_model.proofs.Split.{own_all, Labelled}
 use Rattle.tree_model.proofs.NamedLists.{name_starts}
 use Rattle.tree_model.proofs.WholeTree.{catalogue_entries, get_node, map_sorted}
-use Rattle.tree_model.proofs.StoredCatalogues.{later_not_below, name_not_empty, NotRoot, same_label_is, under_not_root, catalogue_in_front, others_fit, forest_not_root}
+use Rattle.tree_model.proofs.StoredCatalogues.{later_not_below, name_not_empty, NotRoot, same_label_is, under_not_root, catalogue_before, others_fit, forest_not_root}
 
 -- ---- entries that fit one behind another
 
--- each entry fits behind those before it
+-- each entry entry_fits behind those before it
 abbrev pub AllFit : Entries → Entries → Type 0
 AllFit before [] = Unit {0}
-AllFit before (e ∷ es) = (fits before e ≡ true) × AllFit (before ++ (e ∷ [])) es
+AllFit before (e ∷ es) = (entry_fits before e ≡ true) × AllFit (before ++ (e ∷ [])) es
 
 pub no_misfit : (before es : Entries) → AllFit before es → misfit_at before es ≡ None
 no_misfit before [] h = refl
@@ -40,7 +43,7 @@ no_misfit before (e ∷ es) h = ap (λ b. cond b (misfit_at (before ++ (e ∷ []
 
 pub none_misfits : (before es : Entries) → misfit_at before es ≡ None → AllFit before es
 none_misfits before [] h = tt
-none_misfits before (e ∷ es) h = elim (fits before e) as (λ b. fits before e ≡ b → cond b (misfit_at (before ++ (e ∷ [])) es) (Some (length before)) ≡ None → AllFit before (e ∷ es)) [
+none_misfits before (e ∷ es) h = elim (entry_fits before e) as (λ b. entry_fits before e ≡ b → cond b (misfit_at (before ++ (e ∷ [])) es) (Some (length before)) ≡ None → AllFit before (e ∷ es)) [
   | true ↦ λ q g. (q, none_misfits (before ++ (e ∷ [])) es g)
   | false ↦ λ _ g. cc
 ] refl h
@@ -84,10 +87,10 @@ none_under_node l r ats before h = none_under l (before ++ own l r ats) (all_app
 -- ---- one node with its attributes
 
 -- at a label under the root the test is that on a node, or on an attribute
-fits_node : (l : Label) (r : Record) (before : Entries) → NotRoot l → node_fits l r before ≡ true → fits before (node_key l, r) ≡ true
+fits_node : (l : Label) (r : Record) (before : Entries) → NotRoot l → node_fits l r before ≡ true → entry_fits before (node_key l, r) ≡ true
 fits_node l r before n h = ap (λ b. cond b false (node_fits l r before)) n ∙ h
 
-fits_attribute : (l : Label) (a : Name × List ℕ) (before : Entries) → NotRoot l → is_name a.0 ≡ true → attribute_fits (key_at l a.0) (Attr a.1) before ≡ true → fits before (attr_entry l a) ≡ true
+fits_attribute : (l : Label) (a : Name × List ℕ) (before : Entries) → NotRoot l → is_name a.0 ≡ true → attribute_fits (key_at l a.0) (Attr a.1) before ≡ true → entry_fits before (attr_entry l a) ≡ true
 fits_attribute l a before n named h =
     ap (λ b. cond b (not (is_empty a.0)) (cond (is_empty a.0) (node_fits l (Attr a.1) before) (attribute_fits (key_at l a.0) (Attr a.1) before))) n
     ∙ ap (λ b. cond b (node_fits l (Attr a.1) before) (attribute_fits (key_at l a.0) (Attr a.1) before)) (name_not_empty a.0 (name_starts a.0 named)) ∙ h
@@ -98,7 +101,7 @@ short_is n m h = grind (arith, nat_tests)
 attributes_fit : (l : Label) (m lo : Name) (before : Entries) (ats : Attributes) → NotRoot l → get (node_key l) before ≡ Some (Element m) → NamesRise lo ats → ValuesFit ats → AllFit before (map (attr_entry l) ats)
 attributes_fit l m lo before [] n h w v = tt
 attributes_fit l m lo before (a ∷ ats) n h w v = (
-  fits_attribute l a before n w.1 (and_from _ _ w.1 (and_from _ _ (short_is (length a.1) most_text_bytes v.0) (ap is_element_record h))),
+  fits_attribute l a before n w.1 (and_from _ _ w.1 (and_from _ _ v.0 (ap is_element_record h))),
   attributes_fit l m a.0 (before ++ (attr_entry l a ∷ [])) ats n (get_on (node_key l) before (attr_entry l a ∷ []) (Element m) h) w.2 v.1,
 )
 
@@ -141,9 +144,9 @@ joins (Attr v) r taken l ats ch nx h g = h
 down_group : (b o c n : Entries) → b ++ ((o ++ c) ++ n) ≡ ((b ++ o) ++ c) ++ n
 down_group b o c n = simp append_assoc refl
 
-pub sorted_front : (xs ys : Entries) → Sorted (xs ++ ys) → Sorted xs
-sorted_front [] ys s = tt
-sorted_front (x ∷ xs) ys s = (all_before (Above x.0) xs ys s.0, sorted_front xs ys s.1)
+pub sorted_prefix : (xs ys : Entries) → Sorted (xs ++ ys) → Sorted xs
+sorted_prefix [] ys s = tt
+sorted_prefix (x ∷ xs) ys s = (all_before (Above x.0) xs ys s.0, sorted_prefix xs ys s.1)
 
 children_fit : (p b : Label) (q : Record) (before : Entries) (f : Forest) → is_label p ≡ true → NotRoot p → side root p ≡ under → KeysRise p b f → KindsAllowed (Some q) f → LimitsKept f
     → get (node_key p) before ≡ Some q → Room q (has_under p before) f → Sorted (before ++ entries_of f) → AllFit before (entries_of f)
@@ -153,7 +156,7 @@ children_fit p b q before (node l r ats ch nx) h n u w k m g room s =
     let l_under : side root l ≡ under = in_under root p l u (ap is_in (child_under p l w.0)) in
     let l_other : NotRoot l = under_not_root l l_under in
     let low : AllByRecursion (Below (node_key l)) before = sorted_below before _ (node_key l, r) s in
-    let down : Sorted ((before ++ own l r ats) ++ c) = sorted_front ((before ++ own l r ats) ++ c) (entries_of nx) (subst Sorted (down_group before (own l r ats) c (entries_of nx)) s) in
+    let down : Sorted ((before ++ own l r ats) ++ c) = sorted_prefix ((before ++ own l r ats) ++ c) (entries_of nx) (subst Sorted (down_group before (own l r ats) c (entries_of nx)) s) in
     let along : Sorted ((before ++ (own l r ats ++ c)) ++ entries_of nx) = subst Sorted (sym (append_assoc before (own l r ats ++ c) (entries_of nx))) s in
     let here : may_stand_at l r before ≡ true =
     ap (λ v. cond (is_root v) (may_stand None r && (entries_with l (catalogue_in before) == 1)) (may_join (get (node_key v) before) r (has_under v before))) (parent_of_child p l h w.0)
@@ -182,7 +185,7 @@ documents_fit b cat before (node l r ats ch nx) w k m c g s =
     let l_other : NotRoot l = under_not_root l l_under in
     let low : AllByRecursion (Below (node_key l)) before = sorted_below before _ (node_key l, r) s in
     let tree = own l r ats ++ entries_of ch in
-    let down : Sorted ((before ++ own l r ats) ++ entries_of ch) = sorted_front ((before ++ own l r ats) ++ entries_of ch) (entries_of nx) (subst Sorted (down_group before (own l r ats) (entries_of ch) (entries_of nx)) s) in
+    let down : Sorted ((before ++ own l r ats) ++ entries_of ch) = sorted_prefix ((before ++ own l r ats) ++ entries_of ch) (entries_of nx) (subst Sorted (down_group before (own l r ats) (entries_of ch) (entries_of nx)) s) in
     let along : Sorted ((before ++ tree) ++ entries_of nx) = subst Sorted (sym (append_assoc before tree (entries_of nx))) s in
     let one : (entries_with l (catalogue_in before) == 1) ≡ true = ap (λ v. entries_with l v == 1) c ∙ ap (λ v. v == 1) g.0 in
     let here : may_stand_at l r before ≡ true =
@@ -193,7 +196,7 @@ documents_fit b cat before (node l r ats ch nx) w k m c g s =
     (fit_on before (own l r ats) (entries_of ch)
     (own_fits l r ats before l_other low (and_from _ _ (short_is (level l) deepest_level m.0) (and_from _ _ m.1 here)) k.2 w.3 m.2)
     (children_fit l l r (before ++ own l r ats) ch (child_label root l refl w.0) l_other l_under w.4 k.3 m.3 (node_found l r ats before low) (room_fresh r _ ch (none_under_node l r ats before low)) down))
-    (documents_fit l cat (before ++ tree) nx w.5 k.4 m.4 (catalogue_in_front before tree tree_others ∙ c) g.1 along)
+    (documents_fit l cat (before ++ tree) nx w.5 k.4 m.4 (catalogue_before before tree tree_others ∙ c) g.1 along)
 
 -- ---- the catalogue
 
@@ -228,7 +231,7 @@ found_in_row p b l (node m r ats ch nx) w k h = elim (same_label l m) as (λ t. 
   | false ↦ λ _ g. let there = in_row p m l nx w.5 g in ap (λ s. record_of (choose s none (node m r ats ch nx) (at l ch) (at l nx))) (children_right p m l w.0 there.is_child_of there.behind) ∙ found_in_row p m l nx w.5 k.4 g
 ] refl h
 
-module _ (t : Tree) (w : WellFormed t) where
+module _ (t : Tree) (w : IsValidTree t) where
   abbrev cat : Catalogue
   cat = t.catalogue
 
@@ -247,11 +250,11 @@ module _ (t : Tree) (w : WellFormed t) where
   entries_fit lo [] rest n h g = g
   entries_fit lo (e ∷ c) rest n h g = and_from _ _ (and_from _ _ n.1 (ap (has_document (map_of t)) (label_of-label_text e.1 (entry_label e.1 h.0)) ∙ entry_document e.1 h.0)) (entries_fit e.0 c rest n.2 h.1 g)
 
-  -- a well formed tree's map breaks no rule
+  -- a valid tree's map breaks no rule
   pub unbroken : broken_at (map_of t) ≡ None
   unbroken =
       let roots = catalogue_entries cat in
       let docs = entries_of t.documents in
       let all_fit : AllFit [] (roots ++ docs) = fit_on [] roots docs (roots_fit [] [] cat w.catalogue.names) (documents_fit root cat roots t.documents w.keys w.kinds w.limits (catalogue_of_entries cat catalogue_labels) w.catalogue.each_document (map_sorted t w)) in
       let ends : catalogue_fits (map_of t) (map_of t) ≡ true = entries_fit [] cat docs w.catalogue.names w.catalogue.each_entry (others_fit (map_of t) docs (forest_not_root root t.documents w.keys)) in
-      λ i. or_else (no_misfit [] (map_of t) all_fit i) (cond (ends i) None (Some (length (map_of t))))
+      λ i. option_or (no_misfit [] (map_of t) all_fit i) (cond (ends i) None (Some (length (map_of t))))

@@ -13,9 +13,10 @@ use Rattle.tree_model.specs.declared.record.Record.TheVariants.{Attr}
 use Rattle.tree_model.specs.Names.{Name}
 use Rattle.tree_model.specs.Keys.{key_at, node_key}
 use Rattle.tree_model.specs.Entries.{Entries, Below, Above, Sorted, get, last_below}
-use Rattle.tree_model.specs.Seeks.{if_child}
-use Rattle.tree_model.specs.Tree.{Attributes, Forest, none, node, attr_entry, own, entries_of, Catalogue, root_attribute, root_attributes, Tree, map_of, at, found, up, prev_of, record_of, beside}
-use Rattle.tree_model.specs.WellFormed.{NamesRise, KeysRise, WellFormed}
+use Rattle.tree_model.specs.inside.Seeks.{if_child}
+use Rattle.tree_model.specs.Tree.{Attributes, Forest, none, node, attr_entry, own, entries_of, Catalogue, root_attribute, root_attributes, Tree, map_of, at, found, prev_of, record_of, beside}
+use Rattle.tree_model.specs.inside.FoundNodes.{up}
+use Rattle.tree_model.specs.ValidTrees.{NamesRise, KeysRise, IsValidTree}
 use Rattle.tree_model.proofs.Lists.{all_append, all_on}
 use Rattle.tree_model.proofs.Entries.{last_of, last_below_past, last_below_last, sorted_append}
 use Rattle.tree_model.proofs.Split.{Labelled, SideIs, Later, all_under, before_of, after_of, split, all_ahead}
@@ -87,7 +88,7 @@ with_root p l r ats ch nx es cat u z = record {
 }
 
 -- a found node among the entries of the whole tree
-pub lies_in_tree : (l m : Label) (r : Record) (ats : Attributes) (ch nx : Forest) (t : Tree) → WellFormed t → at l t.documents ≡ node m r ats ch nx → Lies (up l root t.documents) l r ats ch nx (map_of t)
+pub lies_in_tree : (l m : Label) (r : Record) (ats : Attributes) (ch nx : Forest) (t : Tree) → IsValidTree t → at l t.documents ≡ node m r ats ch nx → Lies (up l root t.documents) l r ats ch nx (map_of t)
 lies_in_tree l m r ats ch nx t w e = with_root (up l root t.documents) l r ats ch nx (entries_of t.documents) t.catalogue (found_under root root l t.documents w.keys (ap found e)) (lies root root l m r ats ch nx t.documents w.keys e)
 
 -- ---- single reads
@@ -107,7 +108,7 @@ get_past_root l lo (c ∷ cat) es w = named c.0 (above_start lo c.0 w.0) ∙ get
         ∙ elim (slice_cmp nat_cmp l root) as (λ o. cond (is_eq (ordering_then o Less)) (Some (Attr (label_text c.1))) (get (node_key l) (catalogue_entries cat ++ es)) ≡ get (node_key l) (catalogue_entries cat ++ es)) [ Less ↦ refl | Equal ↦ refl | Greater ↦ refl ]
 
 -- the record of a node
-pub get_node : (l : Label) (t : Tree) → WellFormed t → get (node_key l) (map_of t) ≡ record_of (at l t.documents)
+pub get_node : (l : Label) (t : Tree) → IsValidTree t → get (node_key l) (map_of t) ≡ record_of (at l t.documents)
 get_node l t w = get_past_root l [] t.catalogue (entries_of t.documents) w.catalogue.names ∙ get_law root root l t.documents w.keys
 
 some_record : (g : Forest) → is_some (record_of g) ≡ found g
@@ -115,15 +116,15 @@ some_record none = refl
 some_record (node l r ats ch nx) = refl
 
 -- a node is there where its key is
-pub there_in_tree : (l : Label) (t : Tree) → WellFormed t → is_some (get (node_key l) (map_of t)) ≡ found (at l t.documents)
+pub there_in_tree : (l : Label) (t : Tree) → IsValidTree t → is_some (get (node_key l) (map_of t)) ≡ found (at l t.documents)
 there_in_tree l t w = ap is_some (get_node l t w) ∙ some_record (at l t.documents)
 
 -- the documents lie above the catalogue's entries
-pub documents_above : (n : Name) (t : Tree) → WellFormed t → AllByRecursion (Above (key_at root n)) (entries_of t.documents)
+pub documents_above : (n : Name) (t : Tree) → IsValidTree t → AllByRecursion (Above (key_at root n)) (entries_of t.documents)
 documents_above n t w = all_on (Labelled (SideIs root under)) (Above (key_at root n)) (λ e h. later_above root n e (under_before root e.0.label h)) (entries_of t.documents) (all_under root root t.documents w.keys)
 
 -- the catalogue's entry of a name
-pub get_document : (d : ℕ) (n : Name) (t : Tree) → WellFormed t → get (key_at root (d ∷ n)) (map_of t) ≡ attr_record (option_map label_text (beside (d ∷ n) t.catalogue))
+pub get_document : (d : ℕ) (n : Name) (t : Tree) → IsValidTree t → get (key_at root (d ∷ n)) (map_of t) ≡ attr_record (option_map label_text (beside (d ∷ n) t.catalogue))
 get_document d n t w = get_attr root (d ∷ n) (root_attributes t.catalogue) (entries_of t.documents) (documents_above (d ∷ n) t w) ∙ ap attr_record (beside_root (d ∷ n) t.catalogue)
 
 -- no catalogue entry leads to a child of the root
@@ -134,7 +135,7 @@ no_child_of_root (c ∷ cat) =
     subst (λ v. if_child root v ≡ None) (sym (or_none (last_of (x ∷ catalogue_entries cat)))) (last_has (Labelled (SideIs root same)) (λ v. if_child root v ≡ None) (λ e h. ap (λ z. cond (is_under z) (Some (root ++ first_code (rest root e.0.label))) None) h) x (catalogue_entries cat) None (at_root (SideIs root same) refl (c ∷ cat)))
 
 -- the left neighbour
-pub prev_in_tree : (l : Label) (t : Tree) → WellFormed t → found (at l t.documents) ≡ true → if_child (up l root t.documents) (last_below (node_key l) (map_of t)) ≡ prev_of None l t.documents
+pub prev_in_tree : (l : Label) (t : Tree) → IsValidTree t → found (at l t.documents) ≡ true → if_child (up l root t.documents) (last_below (node_key l) (map_of t)) ≡ prev_of None l t.documents
 prev_in_tree l t w y =
     let k = node_key l in
     let f = t.documents in
@@ -142,16 +143,16 @@ prev_in_tree l t w y =
     let u = found_under root root l f w.keys y in
     let low_cat : AllByRecursion (Below k) cat = all_on (Labelled (λ v. ahead (side l v) ≡ true)) (Below k) (ahead_below_node l []) cat (at_root (λ v. ahead (side l v) ≡ true) (ap ahead (under_above root l u)) t.catalogue) in
     let low_before : AllByRecursion (Below k) (before_of l f) = all_on (Labelled (λ v. ahead (side l v) ≡ true)) (Below k) (ahead_below_node l []) (before_of l f) (all_ahead root root l f w.keys) in
-    let front = cat ++ before_of l f in
-    let cut : map_of t ≡ front ++ (entries_of (at l f) ++ after_of l f) = ap (λ v. cat ++ v) (split l f) ∙ sym (append_assoc cat (before_of l f) _) in
+    let prefix = cat ++ before_of l f in
+    let cut : map_of t ≡ prefix ++ (entries_of (at l f) ++ after_of l f) = ap (λ v. cat ++ v) (split l f) ∙ sym (append_assoc cat (before_of l f) _) in
     ap (λ v. if_child (up l root f) (last_below k v)) cut
-    ∙ ap (if_child (up l root f)) (last_below_past k front _ (found_not_below root root l f w.keys) ∙ last_below_last k front (all_append (Below k) cat (before_of l f) low_cat low_before) ∙ last_append cat (before_of l f))
+    ∙ ap (if_child (up l root f)) (last_below_past k prefix _ (found_not_below root root l f w.keys) ∙ last_below_last k prefix (all_append (Below k) cat (before_of l f) low_cat low_before) ∙ last_append cat (before_of l f))
     ∙ prev_found root root l f None (last_of cat) w.keys y (no_child_of_root t.catalogue)
 
 -- ---- the whole map is sorted
 
 -- the keys of the map rise
-pub map_sorted : (t : Tree) → WellFormed t → Sorted (map_of t)
+pub map_sorted : (t : Tree) → IsValidTree t → Sorted (map_of t)
 map_sorted t w =
     sorted_append (catalogue_entries t.catalogue) (entries_of t.documents) (names_above [] root (root_attributes t.catalogue) (names_of_root [] t.catalogue w.catalogue.names)).1 (entries_sorted root root t.documents w.keys)
     (apart_by (SideIs root same) (SideIs root under) (λ a b h g. subst (λ v. Later v b) (sym (same_is root a h)) (under_before root b g)) (catalogue_entries t.catalogue) (entries_of t.documents) (at_root (SideIs root same) refl t.catalogue) (all_under root root t.documents w.keys))

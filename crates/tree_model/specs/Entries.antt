@@ -1,10 +1,11 @@
 -- A finite map from keys to records as the list of its entries, in the order of the keys.
-use Rattle.std.specs.Prelude.{◌≡◌, cond, List, [], ◌∷◌, Option, Some, None}
+use Rattle.std.specs.Prelude.{◌≡◌, cond, List, [], ◌∷◌, filter, Option, Some, None}
 use Rattle.std.specs.List.{AllByRecursion}
-use Rattle.std.specs.declared.cmp.Ordering.{Ordering}
-use Rattle.std.specs.declared.cmp.Ordering.TheVariants.{Less, Equal, Greater}
+use Rattle.std.specs.declared.cmp.Ordering.TheVariants.{Less}
+use Rattle.std.specs.Option.{option_or}
 use Rattle.std.specs.Ordering.{is_lt, is_eq}
 use Rattle.tree_model.specs.Keys.{key_cmp}
+use Rattle.tree_model.specs.Orders.{by_order}
 use Rattle.tree_model.specs.declared.change.Change.{Change}
 use Rattle.tree_model.specs.declared.key.Key.{Key}
 use Rattle.tree_model.specs.declared.record.Record.{Record}
@@ -35,21 +36,18 @@ abbrev pub first_above : Key → Entries → Option (Key × Record)
 first_above k [] = None
 first_above k (e ∷ es) = cond (is_lt (key_cmp k e.0)) (Some e) (first_above k es)
 
--- the first of two that is there
-abbrev pub or_else : {A : Type 0} → Option A → Option A → Option A
-or_else None y = y
-or_else (Some x) y = Some x
-
 -- the entry with the greatest key below a key
 abbrev pub last_below : Key → Entries → Option (Key × Record)
 last_below k [] = None
-last_below k (e ∷ es) = or_else (last_below k es) (cond (is_lt (key_cmp e.0 k)) (Some e) None)
+last_below k (e ∷ es) = option_or (last_below k es) (cond (is_lt (key_cmp e.0 k)) (Some e) None)
 
--- one of three, as the order says
-abbrev pub by_order : {A : Type 0} → Ordering → A → A → A → A
-by_order Less less equal greater = less
-by_order Equal less equal greater = equal
-by_order Greater less equal greater = greater
+-- the entries below a key
+abbrev pub entries_below : Key → Entries → Entries
+entries_below k es = filter (λ e. is_lt (key_cmp e.0 k)) es
+
+-- the entries above a key
+abbrev pub entries_above : Key → Entries → Entries
+entries_above k es = filter (λ e. is_lt (key_cmp k e.0)) es
 
 -- the map with this entry, in place of the one with its key if there is one
 abbrev pub put : Key × Record → Entries → Entries

@@ -1,11 +1,11 @@
 -- Fragments: trees that stand nowhere yet, as JsonML writes them (docs/PROFILE.md, "Fragments").
-use Rattle.std.specs.Prelude.{ℕ, suc, ◌≤◌, max, List, [], ◌∷◌, length, IsTrue}
+use Rattle.std.specs.Prelude.{ℕ, suc, Bool, true, false, max, List, [], ◌∷◌, map, Option, None, Some, IsTrue}
 use Rattle.tree_model.specs.declared.fragment.Fragment.{Fragment, fold-Fragment}
 use Rattle.tree_model.specs.declared.fragment.Fragment.TheOpen.{Fragment-F}
-use Rattle.tree_model.specs.Limits.{most_text_bytes}
 use Rattle.tree_model.specs.Names.{Name, is_name}
+use Rattle.tree_model.specs.Records.{is_data}
 use Rattle.tree_model.specs.Tree.{Attributes}
-use Rattle.tree_model.specs.WellFormed.{NamesRise, ValuesFit}
+use Rattle.tree_model.specs.ValidTrees.{NamesRise, ValuesFit}
 
 -- fragments in a row: the first one, an element with its name, attributes and children, or a text, and those behind it
 pub data Fragments : Type 0 where
@@ -31,14 +31,29 @@ before_row = fold-Fragment (Fragments → Fragments) put_before
 abbrev pub plain : Fragment → Fragments
 plain f = before_row f no_more
 
--- names are Names, those of each element's attributes rise by bytes, and texts and values keep their limits
-abbrev pub IsLawful : Fragments → Type 0
-IsLawful no_more = Unit {0}
-IsLawful (element n ats ch nx) = IsTrue (is_name n) × NamesRise [] ats × ValuesFit ats × IsLawful ch × IsLawful nx
-IsLawful (text t nx) = (length t ≤ most_text_bytes) × IsLawful nx
+-- fragments of a call in a row
+abbrev pub plain_row : List Fragment → Fragments
+plain_row fs = in_a_row (map before_row fs)
+
+-- names are Names, those of each element's attributes rise by bytes, and texts and values are UTF-8 and not too long
+abbrev pub IsValid : Fragments → Type 0
+IsValid no_more = Unit {0}
+IsValid (element n ats ch nx) = IsTrue (is_name n) × NamesRise [] ats × ValuesFit ats × IsValid ch × IsValid nx
+IsValid (text t nx) = IsTrue (is_data t) × IsValid nx
 
 -- the levels that fragments take
 abbrev pub depth : Fragments → ℕ
 depth no_more = 0
 depth (element n ats ch nx) = max (suc (depth ch)) (depth nx)
 depth (text t nx) = max 1 (depth nx)
+
+-- the first fragment is a text
+abbrev pub is_text_fragment : Fragments → Bool
+is_text_fragment no_more = false
+is_text_fragment (element n ats ch nx) = false
+is_text_fragment (text t nx) = true
+
+-- a fragment that may be missing
+abbrev pub plain_or_none : Option Fragment → Fragments
+plain_or_none None = no_more
+plain_or_none (Some f) = plain f

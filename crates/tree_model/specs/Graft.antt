@@ -1,14 +1,10 @@
 -- A fragment as a tree at a label (docs/PROFILE.md, "New labels").
-use Rattle.std.specs.Prelude.{ℕ, ◌+◌, Bool, true, ◌&&◌, nat_le, nat_lt, [], ◌∷◌, ◌++◌}
-use Rattle.dewey_labels.specs.Labels.{Label, greatest, most_divisions}
-use Rattle.dewey_labels.specs.NewLabels.{is_within}
+use Rattle.std.specs.Prelude.{ℕ, ◌+◌, Bool, true, ◌&&◌, [], ◌∷◌, ◌++◌}
+use Rattle.dewey_labels.specs.Labels.{Label, is_within}
+use Rattle.dewey_labels.specs.NewLabels.{first_division}
 use Rattle.tree_model.specs.declared.record.Record.TheVariants.{Element, Text}
 use Rattle.tree_model.specs.Tree.{Forest, none, node}
 use Rattle.tree_model.specs.Fragments.{Fragments, no_more, element, text}
-
--- the code of the first child
-abbrev pub first_division : ℕ
-first_division = 1001
 
 -- fragments as the children of p, with the codes c, c + 2 and so on; an element's children begin at 1001 again
 abbrev pub graft_below : Label → ℕ → Fragments → Forest
@@ -28,15 +24,3 @@ graft l (text t nx) behind = node l (Text t) [] none behind
 abbrev pub all_within : Forest → Bool
 all_within none = true
 all_within (node l r ats ch nx) = is_within l && (all_within ch && all_within nx)
-
--- the same of the fragments that `graft_below` puts below a label of n divisions within the limits
-abbrev pub fit_below : ℕ → ℕ → Fragments → Bool
-fit_below n c no_more = true
-fit_below n c (element m ats ch nx) = (nat_lt n most_divisions && nat_le c greatest) && (fit_below (n + 1) first_division ch && fit_below n (c + 2) nx)
-fit_below n c (text t nx) = (nat_lt n most_divisions && nat_le c greatest) && fit_below n (c + 2) nx
-
--- the same of the fragment that `graft` puts at such a label
-abbrev pub fit_at : ℕ → Fragments → Bool
-fit_at n no_more = true
-fit_at n (element m ats ch nx) = fit_below n first_division ch
-fit_at n (text t nx) = true

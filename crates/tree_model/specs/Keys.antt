@@ -29,7 +29,7 @@ abbrev pub IsKeyName : Name → Type 0
 IsKeyName n = (n ≡ []) ⊎ IsTrue (is_name n)
 
 -- a key that a tree may have: within the limits, its name empty or a Name
-pub record IsLawfulKey (k : Key) : Type 0 where
+pub record IsValidKey (k : Key) : Type 0 where
   pub label : IsLabel k.label
   pub level : level k.label ≤ deepest_level
   pub name : IsKeyName k.name

@@ -1,6 +1,8 @@
--- Which maps are those of well formed trees, tested record by record in the order of their keys (docs/FILE_FORMAT.md, "The tree").
+-- Which maps are those of valid trees, tested record by record in the order of their keys (docs/FILE_FORMAT.md, "The tree").
 use Rattle.std.specs.Prelude.{◌≡◌, ℕ, Bool, true, false, cond, ◌&&◌, ◌||◌, not, ◌==◌, nat_le, [], ◌∷◌, ◌++◌, length, Option, Some, None}
-use Rattle.dewey_labels.specs.Labels.{Label, root, is_empty, parent, level}
+use Rattle.std.specs.Option.{option_or}
+use Rattle.dewey_labels.specs.Labels.{Label, parent, level}
+use Rattle.dewey_labels.specs.Lists.{is_empty}
 use Rattle.dewey_labels.specs.LabelText.{label_of}
 use Rattle.dewey_labels.specs.Sides.{side, is_under}
 use Rattle.tree_model.specs.declared.key.Key.{Key}
@@ -9,22 +11,20 @@ use Rattle.tree_model.specs.declared.record.Record.TheVariants.{Document, Elemen
 use Rattle.tree_model.specs.Limits.{deepest_level}
 use Rattle.tree_model.specs.Names.{Name, is_name}
 use Rattle.tree_model.specs.Keys.{node_key}
-use Rattle.tree_model.specs.Entries.{Entries, get, or_else}
+use Rattle.tree_model.specs.Entries.{Entries, get}
 use Rattle.tree_model.specs.Tree.{Catalogue, Tree, map_of}
-use Rattle.tree_model.specs.WellFormed.{may_stand, record_fits, same_label, entries_with, WellFormed}
+use Rattle.tree_model.specs.Places.{is_root}
+use Rattle.tree_model.specs.Records.{record_fits}
+use Rattle.tree_model.specs.ValidTrees.{may_stand, entries_with, IsValidTree}
 
 -- ---- the catalogue that entries give
-
--- whether the label is the root's
-abbrev pub is_root : Label → Bool
-is_root l = same_label root l
 
 -- the label whose text an attribute's value is
 abbrev pub label_in : Record → Option Label
 label_in (Attr v) = label_of v
 label_in r = None
 
--- a catalogue with one more entry in front, where there is a label for it
+-- a catalogue with one more entry before, where there is a label for it
 abbrev pub with_label : Name → Option Label → Catalogue → Catalogue
 with_label n None cat = cat
 with_label n (Some l) cat = (n, l) ∷ cat
@@ -55,7 +55,7 @@ may_stand_at l r before = cond (is_root (parent l)) (may_stand None r && (entrie
 abbrev pub node_fits : Label → Record → Entries → Bool
 node_fits l r before = nat_le (level l) deepest_level && (record_fits r && may_stand_at l r before)
 
--- a value that isn't too long
+-- a value that may stand
 abbrev pub is_value : Record → Bool
 is_value (Attr v) = record_fits (Attr v)
 is_value r = false
@@ -70,15 +70,15 @@ abbrev pub attribute_fits : Key → Record → Entries → Bool
 attribute_fits k r before = is_name k.name && (is_value r && is_element_record (get (node_key k.label) before))
 
 -- an entry may stand behind all those with lesser keys; at the root any attribute may, and no node
-abbrev pub fits : Entries → Key × Record → Bool
-fits before e = cond (is_root e.0.label) (not (is_empty e.0.name)) (cond (is_empty e.0.name) (node_fits e.0.label e.1 before) (attribute_fits e.0 e.1 before))
+abbrev pub entry_fits : Entries → Key × Record → Bool
+entry_fits before e = cond (is_root e.0.label) (not (is_empty e.0.name)) (cond (is_empty e.0.name) (node_fits e.0.label e.1 before) (attribute_fits e.0 e.1 before))
 
 -- ---- all records
 
 -- the number of entries before the first that may not stand behind them
 abbrev pub misfit_at : Entries → Entries → Option ℕ
 misfit_at before [] = None
-misfit_at before (e ∷ es) = cond (fits before e) (misfit_at (before ++ (e ∷ [])) es) (Some (length before))
+misfit_at before (e ∷ es) = cond (entry_fits before e) (misfit_at (before ++ (e ∷ [])) es) (Some (length before))
 
 -- a document's record
 abbrev pub is_document_record : Option Record → Bool
@@ -101,10 +101,10 @@ catalogue_fits all (e ∷ es) = cond (is_root e.0.label) (names_document all e &
 
 -- the number of records before the first that breaks a rule; that of all where only the catalogue does
 abbrev pub broken_at : Entries → Option ℕ
-broken_at es = or_else (misfit_at [] es) (cond (catalogue_fits es es) None (Some (length es)))
+broken_at es = option_or (misfit_at [] es) (cond (catalogue_fits es es) None (Some (length es)))
 
--- the entries are those of a well formed tree
+-- the entries are those of a valid tree
 pub record IsStoredTree (es : Entries) : Type 0 where
   pub tree : Tree
-  pub well_formed : WellFormed tree
+  pub is_valid_tree : IsValidTree tree
   pub map : map_of tree ≡ es

@@ -1,5 +1,6 @@
 -- The tree of a store, and the map from keys to records that it stands for (docs/PROFILE.md, "The tree").
 use Rattle.std.specs.Prelude.{ℕ, Bool, true, false, cond, List, [], ◌∷◌, ◌++◌, map, Option, Some, None}
+use Rattle.std.specs.Option.{option_or}
 use Rattle.std.specs.Ordering.{nat_cmp, is_eq}
 use Rattle.std.specs.Cmp.Lexicographic.{slice_cmp}
 use Rattle.dewey_labels.specs.Labels.{Label, root}
@@ -10,7 +11,7 @@ use Rattle.tree_model.specs.declared.record.Record.{Record}
 use Rattle.tree_model.specs.declared.record.Record.TheVariants.{Attr}
 use Rattle.tree_model.specs.Keys.{key_at, node_key}
 use Rattle.tree_model.specs.Names.{Name}
-use Rattle.tree_model.specs.Entries.{Entries, or_else}
+use Rattle.tree_model.specs.Entries.{Entries}
 
 -- ---- the types
 
@@ -83,22 +84,12 @@ abbrev pub found : Forest → Bool
 found none = false
 found (node l r ats ch nx) = true
 
--- the label of the parent of the node with label l, p being that of the forest's trees
-abbrev pub up : Label → Label → Forest → Label
-up l p none = p
-up l p (node m r ats ch nx) = choose (side m l) p p (up l m ch) (up l p nx)
-
--- the label behind which that node stands: its left neighbour's, or its parent's; b being that of the forest
-abbrev pub low : Label → Label → Forest → Label
-low l b none = b
-low l b (node m r ats ch nx) = choose (side m l) b b (low l m ch) (low l m nx)
-
 -- the left neighbour of that node; o being that of the forest
 abbrev pub prev_of : Option Label → Label → Forest → Option Label
 prev_of o l none = None
 prev_of o l (node m r ats ch nx) = choose (side m l) None o (prev_of None l ch) (prev_of (Some m) l nx)
 
--- ---- what a forest tells of its first node, as `at` finds it
+-- ---- what a forest says of its first node, as `at` finds it
 
 -- its record
 abbrev pub record_of : Forest → Option Record
@@ -135,15 +126,11 @@ head_label (node l r ats ch nx) = Some l
 -- the last of them
 abbrev pub last_label : Forest → Option Label
 last_label none = None
-last_label (node l r ats ch nx) = or_else (last_label nx) (Some l)
+last_label (node l r ats ch nx) = option_or (last_label nx) (Some l)
 
 -- the labels of a found node's children
 abbrev pub children_of : Forest → List Label
 children_of f = labels (below f)
-
--- those of the siblings that follow it
-abbrev pub following_of : Forest → List Label
-following_of f = labels (behind f)
 
 -- the label of a found node's first child
 abbrev pub first_of : Forest → Option Label

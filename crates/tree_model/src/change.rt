@@ -1,3 +1,4 @@
+//! Changes of keys, which a call makes and a commit keeps.
 ghost use Rattle.std.specs.Prelude.{◌≡◌, IfOk};
 
 use crate::{Key, Record};

@@ -1,3 +1,4 @@
+//! The calls that are made on the tree.
 ghost use Rattle.std.specs.Prelude.{◌≡◌, IfOk};
 
 use crate::Fragment;

@@ -1,3 +1,4 @@
+//! Fragments: trees that stand nowhere yet.
 ghost use Rattle.std.specs.Prelude.{◌≡◌, IfOk};
 
 use dewey_labels::{Copied, List, NoMemory, Text};

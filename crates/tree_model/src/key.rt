@@ -1,3 +1,4 @@
+//! Keys: the places of records in the map of a tree, and those that its reads seek.
 ghost use Rattle.std.specs.Prelude.{◌≡◌, ◌&&◌, ◌↔◌, [], IsTrue, IfOk};
 ghost use Rattle.std.proofs.Common.{rules};
 ghost use Rattle.std.specs.Cmp.{partial_equiv_from_equiv, partial_order_from_own_ties};
@@ -6,15 +7,12 @@ ghost use Rattle.std.specs.Cmp.Rules.{comparing};
 ghost use Rattle.std.specs.Ordering.{nat_cmp, on, eq_of_both, then_cmp, as_partial_cmp};
 ghost use Rattle.std.specs.Prelude.{◌==◌};
 ghost use Rattle.dewey_labels.specs.Sides.{fill};
-ghost use Rattle.tree_model.specs.Keys.{IsLawfulKey, key_at, node_key, top_name};
+ghost use Rattle.tree_model.specs.Keys.{IsValidKey, key_at, node_key, top_name};
 
-use crate::is_name;
+use crate::{DEEPEST_LEVEL, is_name};
 use dewey_labels::{Copied, GREATEST, Label, List, MOST_DIVISIONS, NoMemory, Text};
 use std::alloc::Global;
 use std::cmp::Ordering;
-
-/// The greatest level of a node.
-const DEEPEST_LEVEL: u32 = 101;
 
 /// The place of a record: a node's own where the name is empty, otherwise that of its attribute with this name.
 /// Keys are ordered by label, then by the bytes of the name.
@@ -60,8 +58,8 @@ impl Key {
     }
 
     /// Whether a tree may have this key: it is within the limits, and its name is empty or a Name.
-    pub fn is_lawful(&self) -> bool
-        ensures { IsTrue result ↔ IsLawfulKey self.now }
+    pub fn is_valid(&self) -> bool
+        ensures { IsTrue result ↔ IsValidKey self.now }
     {
         let _divisions = self.label.divisions();
         self.label.level() <= DEEPEST_LEVEL

@@ -7,6 +7,8 @@ mod change;
 mod dom_call;
 mod fragment;
 mod key;
+mod laws;
+mod limits;
 mod names;
 mod record;
 mod refusal;
@@ -19,6 +21,11 @@ pub use change::{Change, Changes};
 pub use dom_call::DomCall;
 pub use fragment::Fragment;
 pub use key::Key;
+pub use laws::{
+    differences_lead_from_map_to_map, placed_fragments_are_read_again, rising_keys_pass_their_test,
+    split_texts_are_texts,
+};
+pub use limits::{DEEPEST_LEVEL, MOST_NAME_BYTES, MOST_TEXT_BYTES};
 pub use names::is_name;
 pub use record::Record;
 pub use refusal::Refusal;

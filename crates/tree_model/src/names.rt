@@ -1,12 +1,11 @@
+//! Names of elements, attributes and documents.
 ghost use Rattle.std.specs.Prelude.{◌≡◌};
 ghost use Rattle.std.specs.List.{list_all};
 ghost use Rattle.std.specs.Str.{chars};
 ghost use Rattle.tree_model.specs.Names.{are_name_chars, begins_name, is_in_ranges, is_start_char, is_name_char, is_name};
 
+use crate::MOST_NAME_BYTES;
 use dewey_labels::Text;
-
-/// The most bytes of a name.
-const MOST_NAME_BYTES: usize = 1_024;
 
 /// The first and the last character of each range of NameStartChar.
 const START_RANGES: [(char, char); 16] = [

@@ -1,5 +1,8 @@
+//! Records, which stand at the keys of a map.
 ghost use Rattle.std.specs.Prelude.{◌≡◌, IfOk};
+ghost use Rattle.tree_model.specs.Records.{is_data, record_fits};
 
+use crate::{MOST_TEXT_BYTES, is_name};
 use dewey_labels::{Copied, NoMemory, Text};
 use std::alloc::Global;
 
@@ -16,6 +19,18 @@ pub enum Record {
 }
 
 impl Record {
+    /// Whether a tree may have it: an element's name is a Name, and a text's data or an attribute's value isn't too long.
+    pub fn fits(&self) -> bool
+        ensures fits { result ≡ record_fits self.now }
+    {
+        match self {
+            Record::Document => true,
+            Record::Element(name) => is_name(name),
+            Record::Text(data) => is_data(data),
+            Record::Attr(value) => is_data(value),
+        }
+    }
+
     pub fn copy(&self, alloc: Global) -> Result<Record, NoMemory>
         ensures { IfOk result (λ r. r ≡ self.now) }
     {
@@ -26,6 +41,13 @@ impl Record {
             Record::Attr(value) => Record::Attr(value.copy(alloc)?),
         })
     }
+}
+
+/// Whether a text may be data or a value in a tree.
+fn is_data(text: &Text) -> bool
+    ensures { result ≡ is_data text.now }
+{
+    text.as_str().len() <= MOST_TEXT_BYTES
 }
 
 impl Copied for Record {

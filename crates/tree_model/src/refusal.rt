@@ -1,3 +1,5 @@
+//! Why a call is refused.
+
 /// Why a call isn't done. A refused call changes nothing.
 #[derive(Debug, Drop, Clone, Copy, PartialEq, Eq)]
 pub enum Refusal {

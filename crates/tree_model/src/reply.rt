@@ -1,3 +1,4 @@
+//! The replies of calls.
 ghost use Rattle.std.specs.Prelude.{◌≡◌, IfOk};
 
 use crate::{Fragment, Refusal};

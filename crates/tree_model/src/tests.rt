@@ -186,7 +186,7 @@ fn a_trees_end_lies_behind_all_of_it(rt: HostRuntime) -> Result<(), Fail> {
 }
 
 #[test]
-fn a_lawful_key_has_a_name_or_none_and_level_101_at_most(rt: HostRuntime) -> Result<(), Fail> {
+fn a_valid_key_has_a_name_or_none_and_level_101_at_most(rt: HostRuntime) -> Result<(), Fail> {
     let alloc = rt.alloc();
     for (codes, name, want) in [
         (0, "x", true),
@@ -201,7 +201,26 @@ fn a_lawful_key_has_a_name_or_none_and_level_101_at_most(rt: HostRuntime) -> Res
             divisions.push(1001)?;
         }
         let key = Key::of_attribute(alloc, &label(alloc, &divisions)?, name)?;
-        assert_eq!(rt; key.is_lawful(), want, "{codes} codes, {name:?}");
+        assert_eq!(rt; key.is_valid(), want, "{codes} codes, {name:?}");
+    }
+    Ok(())
+}
+
+/// So many letters.
+fn letters(alloc: Global, count: usize) -> Result<Text, Fail> {
+    let mut bytes = Vec::new(alloc);
+    bytes.resize(count, b'a')?;
+    Ok(Text::from_string(String::from_utf8(bytes)?))
+}
+
+#[test]
+fn data_and_values_have_1048576_bytes_at_most(rt: HostRuntime) -> Result<(), Fail> {
+    let alloc = rt.alloc();
+    for (count, want) in [(0, true), (1_048_576, true), (1_048_577, false)] {
+        let data = Record::Text(letters(alloc, count)?);
+        assert_eq!(rt; data.fits(), want, "data of {count} bytes");
+        let value = Record::Attr(letters(alloc, count)?);
+        assert_eq!(rt; value.fits(), want, "a value of {count} bytes");
     }
     Ok(())
 }

@@ -1,14 +1,15 @@
--- Well formed trees (docs/PROFILE.md, "The tree").
-use Rattle.std.specs.Prelude.{◌≡◌, ℕ, suc, ◌≤◌, Bool, true, false, cond, ◌||◌, nat_le, List, [], ◌∷◌, length, IsTrue, Option, Some, None}
+-- Valid trees (docs/PROFILE.md, "The tree").
+use Rattle.std.specs.Prelude.{◌≡◌, ℕ, suc, ◌≤◌, Bool, true, false, cond, ◌||◌, List, [], ◌∷◌, IsTrue, Option, Some, None}
 use Rattle.std.specs.declared.cmp.Ordering.TheVariants.{Less}
 use Rattle.std.specs.List.{AllByRecursion}
 use Rattle.std.specs.Ordering.{nat_cmp, is_eq}
 use Rattle.std.specs.Cmp.Lexicographic.{slice_cmp}
 use Rattle.dewey_labels.specs.Labels.{Label, root, is_child, level, Within}
 use Rattle.tree_model.specs.declared.record.Record.{Record}
-use Rattle.tree_model.specs.declared.record.Record.TheVariants.{Document, Element, Text, Attr}
-use Rattle.tree_model.specs.Limits.{deepest_level, most_text_bytes}
+use Rattle.tree_model.specs.declared.record.Record.TheVariants.{Document, Element, Text}
+use Rattle.tree_model.specs.Limits.{deepest_level}
 use Rattle.tree_model.specs.Names.{Name, is_name}
+use Rattle.tree_model.specs.Records.{is_data, record_fits}
 use Rattle.tree_model.specs.Tree.{Attributes, Forest, none, node, Catalogue, Tree, labels}
 
 -- ---- keys
@@ -54,18 +55,13 @@ KindsAllowed p (node l r ats ch nx) =
 
 -- ---- limits
 
--- an element's name is a Name, and a text isn't too long
-abbrev pub record_fits : Record → Bool
-record_fits Document = true
-record_fits (Element n) = is_name n
-record_fits (Text t) = nat_le (length t) most_text_bytes
-record_fits (Attr v) = nat_le (length v) most_text_bytes
+-- ---- limits
 
--- no value is too long
+-- every value is one that may stand
 abbrev pub ValuesFit : Attributes → Type 0
-ValuesFit ats = AllByRecursion (λ a. length a.1 ≤ most_text_bytes) ats
+ValuesFit ats = AllByRecursion (λ a. IsTrue (is_data a.1)) ats
 
--- every node keeps the limits on levels, names, texts and values
+-- every node keeps the limits on levels, and has a Name, data and values that may stand
 abbrev pub LimitsKept : Forest → Type 0
 LimitsKept none = Unit {0}
 LimitsKept (node l r ats ch nx) = (level l ≤ deepest_level) × IsTrue (record_fits r) × ValuesFit ats × LimitsKept ch × LimitsKept nx
@@ -94,8 +90,8 @@ pub record IsCatalogueOf (documents : List Label) (cat : Catalogue) : Type 0 whe
 
 -- ---- the tree
 
--- a well formed tree
-pub record WellFormed (t : Tree) : Type 0 where
+-- a valid tree
+pub record IsValidTree (t : Tree) : Type 0 where
   pub keys : KeysRise root root t.documents
   pub kinds : KindsAllowed None t.documents
   pub limits : LimitsKept t.documents

@@ -10,9 +10,9 @@ use Rattle.tree_model.specs.declared.record.Record.{Record}
 use Rattle.tree_model.specs.Names.{Name}
 use Rattle.tree_model.specs.Keys.{top_name}
 use Rattle.tree_model.specs.Entries.{Below}
-use Rattle.tree_model.specs.Seeks.{behind_attributes}
+use Rattle.tree_model.specs.inside.Seeks.{behind_attributes}
 use Rattle.tree_model.specs.Tree.{Attributes, Forest, none, node, attr_entry, own, entries_of}
-use Rattle.tree_model.specs.WellFormed.{NamesRise, KeysRise}
+use Rattle.tree_model.specs.ValidTrees.{NamesRise, KeysRise}
 use Rattle.tree_model.proofs.NameLaws.{name_below_top}
 use Rattle.tree_model.proofs.Lists.{all_append}
 

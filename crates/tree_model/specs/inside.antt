@@ -1,0 +1,4 @@
+-- Words of the proofs alone.
+pub mod FoundNodes
+pub mod GraftLimits
+pub mod Seeks
