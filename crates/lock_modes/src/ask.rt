@@ -1,3 +1,4 @@
+//! A mode that is asked, of a node or of an edge.
 ghost use Rattle.std.specs.Prelude.{◌≡◌};
 ghost use Rattle.lock_modes.specs.ModeNames.{ask_name};
 

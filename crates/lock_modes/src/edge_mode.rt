@@ -1,3 +1,4 @@
+//! The lock modes of edges.
 ghost use Rattle.std.specs.Prelude.{◌≡◌, ◌&&◌};
 ghost use Rattle.lock_modes.specs.EdgeModes.{edge_join, edge_compatible};
 ghost use Rattle.lock_modes.specs.PrintedTables.{printed_edge};

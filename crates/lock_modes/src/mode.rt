@@ -1,3 +1,4 @@
+//! The lock modes of nodes: each is a pair of parts, or SX above all.
 ghost use Rattle.std.specs.Prelude.{◌≡◌, ◌↔◌, ◌&&◌, IsNone};
 ghost use Rattle.lock_modes.specs.Modes.{parts, greater_parts, mode_of, with_parts, join, compatible};
 ghost use Rattle.lock_modes.specs.PrintedTables.{printed};

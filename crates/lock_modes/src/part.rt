@@ -1,3 +1,4 @@
+//! The parts of a lock mode: what it reads and what it writes.
 ghost use Rattle.std.specs.Prelude.{◌≡◌};
 ghost use Rattle.lock_modes.specs.Parts.{admits, greater_read, greater_write};
 

@@ -1,3 +1,4 @@
+//! The printed tables of the lock modes, row by row.
 use crate::{Ask, EdgeMode, Mode, ReadPart, WritePart};
 use std::test::Fail;
 

@@ -6,7 +6,7 @@ use Rattle.lock_modes.specs.declared.mode.Mode.TheVariants.{IR, NR, LR, SR, IX, 
 use Rattle.lock_modes.specs.declared.edge_mode.EdgeMode.TheVariants.{EX}
 use Rattle.lock_resources.specs.declared.resource.Resource.TheVariants.{Node, AttrRoot, Attr, Edge}
 use Rattle.lock_resources.specs.declared.resource.Side.TheVariants.{First}
-use Rattle.lock_resources.specs.Ancestors.{ancestors}
+use Rattle.dewey_labels.specs.Ancestors.{ancestors}
 use Rattle.lock_resources.specs.Intentions.{request, on_node, on_attr_root, with_intentions}
 
 -- 1.1001, 1.1001.1001 and 1.1001.1001.2.1001

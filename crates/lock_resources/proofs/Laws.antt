@@ -9,7 +9,7 @@ use Rattle.lock_resources.specs.declared.resource.Resource.{Resource}
 use Rattle.lock_resources.specs.declared.resource.Resource.TheVariants.{Node, AttrRoot, Attr, Edge}
 use Rattle.lock_resources.specs.declared.request.Request.{Request}
 use Rattle.lock_resources.specs.Resources.{label_of, fits, Fits}
-use Rattle.lock_resources.specs.Ancestors.{ancestors}
+use Rattle.dewey_labels.specs.Ancestors.{ancestors}
 use Rattle.lock_resources.specs.Intentions.{has_row, request, on_node, on_attr_root, on_each, on_ancestors, directly_above, further_above, intentions, with_intentions, with_node, nodes_of}
 
 -- ---- the nodes

@@ -9,7 +9,7 @@ use Rattle.lock_modes.specs.Modes.{is_read_mode}
 use Rattle.lock_resources.specs.declared.resource.Resource.{Resource}
 use Rattle.lock_resources.specs.declared.resource.Resource.TheVariants.{Node, AttrRoot, Attr, Edge}
 use Rattle.lock_resources.specs.declared.request.Request.{Request}
-use Rattle.lock_resources.specs.Ancestors.{ancestors}
+use Rattle.dewey_labels.specs.Ancestors.{ancestors}
 
 -- whether the table has a row for this mode at this resource
 abbrev pub has_row : Resource → Ask → Bool

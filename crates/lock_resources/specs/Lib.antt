@@ -1,5 +1,6 @@
-pub mod Ancestors
-pub mod Gained
+-- words of public clauses
+pub mod Resources
 pub mod Intentions
 pub mod ResourceText
-pub mod Resources
+-- words that only the proof uses
+pub mod inside

@@ -1,9 +1,10 @@
+//! The intentions that a request owes on the way from the root to its resource.
 ghost use Rattle.std.specs.Prelude.{◌≡◌, ◌++◌, [], ◌∷◌, IsTrue, OnOk, OnErr};
 ghost use Rattle.std.specs.List.{AllByRecursion};
 ghost use Rattle.lock_resources.specs.Resources.{label_of, Fits};
-ghost use Rattle.lock_resources.specs.Ancestors.{ancestors, IsWayDown};
+ghost use Rattle.dewey_labels.specs.Ancestors.{ancestors, IsWayDown};
 ghost use Rattle.lock_resources.specs.Intentions.{has_row, request, on_node, on_attr_root, on_ancestors, directly_above, further_above, with_intentions, nodes_of};
-ghost use Rattle.lock_resources.specs.Gained.{GainedFront};
+ghost use Rattle.lock_resources.specs.inside.Gained.{GoesOn};
 
 use crate::{Request, Resource};
 use dewey_labels::{Label, List, NoMemory};
@@ -11,7 +12,6 @@ use lock_modes::{Ask, Mode};
 use std::alloc::Global;
 
 /// Adds the intentions that a request owes, from the root down, and then the request itself.
-/// After want of memory some front of these was added.
 /// Each ancestor's label is made once, from the one above it, in time linear in its own length.
 pub fn with_intentions(
     alloc: Global,
@@ -21,17 +21,22 @@ pub fn with_intentions(
 ) -> Result<(), NoMemory>
     requires { IsTrue (has_row resource.now ask) }
     ensures ok { OnOk result (out.new ≡ out.old ++ with_intentions resource.now ask) }
-    ensures err { OnErr result (GainedFront out.old out.new (with_intentions resource.now ask)) }
+    ensures err { OnErr result (out.new ≡ out.old) }
     ensures nodes { nodes_of (with_intentions resource.now ask) ≡ ancestors (label_of resource.now) ++ label_of resource.now ∷ [] }
     ensures way { IsWayDown (ancestors (label_of resource.now) ++ label_of resource.now ∷ []) }
     ensures fits { AllByRecursion Fits (with_intentions resource.now ask) }
 {
     // It tells that the resource's label is one, on which the clause `way` rests.
     let _divisions = resource.label().divisions();
-    push_row(alloc, resource, ask, out)
+    let length = out.len();
+    let pushed = push_row(alloc, resource, ask, out);
+    if pushed.is_err() {
+        out.truncate(length);
+    }
+    pushed
 }
 
-/// Adds what the table's row for the request says.
+/// Adds what the table's row for the request says, or some of it where memory runs out.
 fn push_row(
     alloc: Global,
     resource: &Resource,
@@ -40,7 +45,7 @@ fn push_row(
 ) -> Result<(), NoMemory>
     requires { IsTrue (has_row resource.now ask) }
     ensures ok { OnOk result (out.new ≡ out.old ++ with_intentions resource.now ask) }
-    ensures err { OnErr result (GainedFront out.old out.new (with_intentions resource.now ask)) }
+    ensures err { OnErr result (GoesOn out.old out.new) }
 {
     let (further, directly) = (further_above(ask), directly_above(ask));
     match resource {
@@ -95,7 +100,7 @@ fn push_way(
     out: &mut List<Request>,
 ) -> Result<(), NoMemory>
     ensures ok { OnOk result (out.new ≡ out.old ++ (on_ancestors above parent label.now ++ on_node label.now own ∷ [])) }
-    ensures err { OnErr result (GainedFront out.old out.new (on_ancestors above parent label.now ++ on_node label.now own ∷ [])) }
+    ensures err { OnErr result (GoesOn out.old out.new) }
 {
     let _divisions = label.divisions();
     let mut levels = label.level();

@@ -1,3 +1,4 @@
+//! A mode that is asked at a resource.
 ghost use Rattle.std.specs.Prelude.{◌≡◌, IfOk};
 
 use crate::Resource;

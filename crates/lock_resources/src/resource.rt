@@ -1,3 +1,4 @@
+//! What modes are asked at, and how it is written in replies.
 ghost use Rattle.std.specs.Prelude.{◌≡◌, ◌++◌, IfOk, OnOk, OnErr};
 ghost use Rattle.lock_resources.specs.Resources.{label_of};
 ghost use Rattle.lock_resources.specs.ResourceText.{side_word, resource_text};
@@ -63,7 +64,7 @@ impl Resource {
         ensures err { OnErr result (out.new ≡ out.old) }
     {
         let text = self.text(alloc)?;
-        out.extend_from_slice(text.as_slice())
+        out.extend_from_slice(alloc, text.as_slice())
     }
 
     fn text(&self, alloc: Global) -> Result<List<u8>, NoMemory>
@@ -74,7 +75,7 @@ impl Resource {
             Resource::AttrRoot(label) => joined(alloc, "attrs ", label, ".1"),
             Resource::Attr(label, name) => {
                 let mut text = joined(alloc, "attr ", label, " ")?;
-                text.extend_from_slice(name.as_str().as_bytes())?;
+                text.extend_from_slice(alloc, name.as_str().as_bytes())?;
                 Ok(text)
             }
             Resource::Edge(label, side) => joined(alloc, side.word(), label, ""),
@@ -103,9 +104,9 @@ fn joined(alloc: Global, word: &str, label: &Label, end: &str) -> Result<List<u8
 {
     let _divisions = label.divisions();
     let mut text = List::new(alloc);
-    text.extend_from_slice(word.as_bytes())?;
+    text.extend_from_slice(alloc, word.as_bytes())?;
     label.write_text(alloc, &mut text)?;
-    text.extend_from_slice(end.as_bytes())?;
+    text.extend_from_slice(alloc, end.as_bytes())?;
     Ok(text)
 }
 

@@ -1,3 +1,4 @@
+//! Requests with their intentions, and texts of resources, as the tables have them.
 ghost use Rattle.std.specs.Prelude.{IsTrue};
 ghost use Rattle.lock_resources.specs.Intentions.{has_row};
 
@@ -32,7 +33,7 @@ fn shown(alloc: Global, requests: &[Request]) -> Result<List<u8>, NoMemory> {
     for request in requests {
         request.resource.write_text(alloc, &mut out)?;
         out.push(b' ')?;
-        out.extend_from_slice(request.ask.name().as_bytes())?;
+        out.extend_from_slice(alloc, request.ask.name().as_bytes())?;
         out.push(b',')?;
     }
     Ok(out)

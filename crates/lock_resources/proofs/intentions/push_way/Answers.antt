@@ -1,16 +1,16 @@
 use Rattle.std.proofs.Common.{◌≡◌, ◌-◌, suc, [], ◌∷◌, ◌++◌, Some, inl, inr, sym, ap, subst, ◌∙◌, arith, append_assoc}
 use Rattle.dewey_labels.specs.Labels.{cut}
 use Rattle.dewey_labels.specs.Sides.{child_toward}
-use Rattle.lock_resources.specs.Ancestors.{cuts}
-use Rattle.lock_resources.specs.Gained.{GainedAllBut, GainedFront}
+use Rattle.dewey_labels.specs.Ancestors.{cuts}
+use Rattle.lock_resources.specs.inside.Gained.{GainedAllBut, GoesOn}
 use Rattle.lock_resources.specs.Intentions.{on_each, on_ancestors, on_node}
-use Rattle.lock_resources.proofs.Ways.{cut_all, not_there_yet, next_is, arrived, Chosen, one_more, nothing_added, of_longer, all_added, whole_of_longer, on_err, on_ok_then, on_err_then}
+use Rattle.dewey_labels.proofs.Ancestors.{cut_all, not_there_yet, next_is, arrived}
+use Rattle.lock_resources.proofs.Ways.{Chosen, one_more, nothing_added, all_added, goes_on, goes_on_by, on_err, on_ok_then, on_err_then}
 use Rattle.lock_resources.proofs.intentions.push_way.Goals as goal
 use Rattle.lock_resources.proofs.intentions.push_way.Goals.{After-push_node-2, then-levels-eq1, else-levels-eq1}
 
 pub returns-in_err-at-clause-err : goal.returns-in_err-at-clause-err
-returns-in_err-at-clause-err c =
-    on_err _ _ (of_longer c.args.out.now c.args.out.now _ _ (on_node c.args.label.now c.args.own ∷ []) (nothing_added c.args.out.now (on_ancestors c.args.above c.args.parent c.args.label.now)))
+returns-in_err-at-clause-err c = on_err _ _ (goes_on _ _ _ _ (nothing_added c.args.out.now []))
 
 pub loop-at-init : goal.loop-at-init
 loop-at-init c =
@@ -23,13 +23,11 @@ loop-at-init c =
     }
 
 pub returns-in_err-next-clause-err : goal.returns-in_err-next-clause-err
-returns-in_err-next-clause-err c =
-    on_err _ _ (of_longer c.args.out.now c.loop-at.out _ _ (on_node c.args.label.now c.args.own ∷ []) c.loop-at.invariant.added)
+returns-in_err-next-clause-err c = on_err _ _ (goes_on _ _ _ _ c.loop-at.invariant.added)
 
 pub returns-in_err-push_node-clause-err : goal.returns-in_err-push_node-clause-err
 returns-in_err-push_node-clause-err c =
-    let whole = on_ancestors c.args.above c.args.parent c.args.label.now ++ on_node c.args.label.now c.args.own ∷ [] in
-    on_err _ _ (subst (λ v. GainedFront c.args.out.now v whole) (sym c.in_err-push_node.ensures.err) (of_longer c.args.out.now c.loop-at.out _ _ (on_node c.args.label.now c.args.own ∷ []) c.loop-at.invariant.added))
+    on_err _ _ (subst (GoesOn c.args.out.now) (sym c.in_err-push_node.ensures.err) (goes_on _ _ _ _ c.loop-at.invariant.added))
 
 pub overflow_sub-levels : goal.overflow_sub-levels
 overflow_sub-levels c =
@@ -94,9 +92,6 @@ returns-clause-ok c =
 
 pub returns-clause-err : goal.returns-clause-err
 returns-clause-err c =
-    let old = c.args.out.now in
-    let whole = on_ancestors c.args.above c.args.parent c.args.label.now in
-    let own = on_node c.args.label.now c.args.own ∷ [] in
-    on_err_then c.push_node-2.result (c.push_node-2.new.out ≡ c.loop-at.out) (GainedFront old c.push_node-2.new.out (whole ++ own))
-    (λ e. whole_of_longer old c.push_node-2.new.out whole own (e ∙ (at_the_end c).added))
+    on_err_then c.push_node-2.result (c.push_node-2.new.out ≡ c.loop-at.out) (GoesOn c.args.out.now c.push_node-2.new.out)
+    (λ e. goes_on_by _ _ _ (e ∙ (at_the_end c).added))
     c.push_node-2.ensures.err

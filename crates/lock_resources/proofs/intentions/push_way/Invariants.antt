@@ -1,8 +1,8 @@
 use Rattle.std.proofs.Common.{◌≡◌, ◌≤◌}
 use Rattle.dewey_labels.specs.Labels.{cut, level}
-use Rattle.lock_resources.specs.Ancestors.{cuts}
+use Rattle.dewey_labels.specs.Ancestors.{cuts}
 use Rattle.lock_resources.specs.Intentions.{on_each, on_ancestors}
-use Rattle.lock_resources.specs.Gained.{GainedAllBut}
+use Rattle.lock_resources.specs.inside.Gained.{GainedAllBut}
 use Rattle.lock_resources.proofs.intentions.push_way.Given as goal
 
 -- so many levels lie between `at` and the label, and the requests above `at` were added
