@@ -1,3 +1,4 @@
+mod DiskLaws
 mod Replay
 mod StopLaws
 mod StopRows

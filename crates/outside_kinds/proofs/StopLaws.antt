@@ -4,12 +4,13 @@ use Rattle.std.proofs.lemmas.List.{length-replicate}
 use Rattle.std.proofs.lemmas.List.Elements.{All-cons, All-append, All-nil}
 use Rattle.std.proofs.Math.Seq.{take-append_seam}
 use Rattle.std.specs.List.{All}
-use Rattle.outside_traits.specs.Disks.{DiskState, Opens, rests, landed}
-use Rattle.outside_traits.specs.CrashImages.{IsImage}
-use Rattle.outside_traits.specs.Moments.{Told, Since}
-use Rattle.outside_traits.proofs.ImageLaws.{image-of_rests, image-opens, image-landed, open-written}
+use Rattle.outside_traits.specs.Disks.{DiskState, OpensRange, all_synced, put_at_or_past}
+use Rattle.outside_traits.specs.Bytes.{IsBytes}
+use Rattle.outside_traits.specs.CrashImages.{Remains, IsImage}
+use Rattle.outside_traits.specs.Moments.{History, Since}
+use Rattle.outside_traits.proofs.ImageLaws.{remains-rests, remains-opens, remains-put_at_or_past, open-written}
 use Rattle.outside_traits.proofs.MomentLaws.{since_itself, since_on}
-use Rattle.outside_kinds.specs.DiskLaws.{opens-wrote, opens-opened}
+use Rattle.outside_kinds.proofs.DiskLaws.{opens-wrote, opens-opened}
 use Rattle.outside_kinds.specs.MemoryDisks.{state_after, after_call, after_calls, start}
 use Rattle.outside_kinds.specs.StopImages.{is_sync, until, behind_sync, torn_by, torn}
 use Rattle.outside_kinds.specs.declared.noted_call.DiskCall.{DiskCall}
@@ -19,7 +20,7 @@ use Rattle.outside_kinds.proofs.Replay.{after_calls-push}
 
 -- what a read gives after these calls
 abbrev pub written_by : DiskCall → List ℕ → List ℕ
-written_by (Write at bytes) file = landed at bytes file
+written_by (Write at bytes) file = put_at_or_past at bytes file
 written_by (FailedWrite at bytes) file = file
 written_by Sync file = file
 written_by FailedSync file = file
@@ -34,7 +35,7 @@ reads_by (FailedWrite at bytes) s = refl
 reads_by Sync s = refl
 reads_by FailedSync s = refl
 
-pub reads_after : (calls : List NotedCall) (t : Told) → (after_calls calls t).now.reads ≡ written calls t.now.reads
+pub reads_after : (calls : List NotedCall) (t : History) → (after_calls calls t).now.reads ≡ written calls t.now.reads
 reads_after [] t = refl
 reads_after (noted ∷ more) t = reads_after more (after_call noted.call t) ∙ ap (written more) (reads_by noted.call t.now)
 
@@ -49,17 +50,17 @@ pub until-first : (number : ℕ) (calls : List NotedCall) → (after : List Note
 until-first number [] = ([], refl)
 until-first number (noted ∷ more) = until_some _ _ noted more (until number more) (until-first number more)
 
-after_calls-append : (first second : List NotedCall) (t : Told) → after_calls (first ++ second) t ≡ after_calls second (after_calls first t)
+after_calls-append : (first second : List NotedCall) (t : History) → after_calls (first ++ second) t ≡ after_calls second (after_calls first t)
 after_calls-append [] second t = refl
 after_calls-append (noted ∷ more) second t = after_calls-append more second (after_call noted.call t)
 
-since_calls : (calls : List NotedCall) (t : Told) → Since t (after_calls calls t)
+since_calls : (calls : List NotedCall) (t : History) → Since t (after_calls calls t)
 since_calls [] t = since_itself t
 since_calls (noted ∷ more) t = since_on t (after_call noted.call t) (after_calls more (after_call noted.call t))
     (record { more = (after_call noted.call t).now ∷ []; states = refl }) (since_calls more (after_call noted.call t))
 
 -- a stop is a moment of the disk's life
-pub since_stop : (number : ℕ) (calls : List NotedCall) (t : Told) → Since (after_calls (until number calls) t) (after_calls calls t)
+pub since_stop : (number : ℕ) (calls : List NotedCall) (t : History) → Since (after_calls (until number calls) t) (after_calls calls t)
 since_stop number calls t =
     let found = until-first number calls in
     subst (Since (after_calls (until number calls) t))
@@ -78,10 +79,10 @@ no_sync-append (noted ∷ more) second of_first of_second = (of_first.0, no_sync
 record IsSplit (first : List ℕ) (calls behind : List NotedCall) : Type 0 where
   pub before : List NotedCall
   pub all : before ++ behind ≡ calls
-  pub at_rest : (after_calls before (start first)).now ≡ rests (after_calls before (start first)).now.reads
+  pub at_rest : (after_calls before (start first)).now ≡ all_synced (after_calls before (start first)).now.reads
   pub none : NoSync behind
 
-at_rest-sync : (call : DiskCall) (s : DiskState) → is_sync call ≡ true → state_after call s ≡ rests (state_after call s).reads
+at_rest-sync : (call : DiskCall) (s : DiskState) → is_sync call ≡ true → state_after call s ≡ all_synced (state_after call s).reads
 at_rest-sync (Write at bytes) s is = search (rules, is)
 at_rest-sync (FailedWrite at bytes) s is = search (rules, is)
 at_rest-sync Sync s is = refl
@@ -94,7 +95,7 @@ behind-other : (noted : NotedCall) (so_far more : List NotedCall) → is_sync no
 behind-other noted so_far more is = ap (λ (b : Bool). if b then behind_sync more more else behind_sync so_far more) is
 
 abbrev AtRest : List ℕ → List NotedCall → Type 0
-AtRest first calls = (after_calls calls (start first)).now ≡ rests (after_calls calls (start first)).now.reads
+AtRest first calls = (after_calls calls (start first)).now ≡ all_synced (after_calls calls (start first)).now.reads
 
 -- wherever calls were at rest and then had no sync, what follows splits all of them
 abbrev Splits : List ℕ → List NotedCall → Type 0
@@ -104,7 +105,7 @@ split_by : (first : List ℕ) (noted : NotedCall) (more : List NotedCall) → Sp
 split_by first noted more later true is pre so_far at_rest none =
     let pushed = after_calls-push (pre ++ so_far) noted (start first) in
     let rest_now : AtRest first ((pre ++ so_far) ++ noted ∷ []) =
-    ap (λ (t : Told). t.now) pushed ∙ at_rest-sync noted.call (after_calls (pre ++ so_far) (start first)).now is ∙ ap (λ (t : Told). rests t.now.reads) (sym pushed) in
+    ap (λ (t : History). t.now) pushed ∙ at_rest-sync noted.call (after_calls (pre ++ so_far) (start first)).now is ∙ ap (λ (t : History). all_synced t.now.reads) (sym pushed) in
     let found = later ((pre ++ so_far) ++ noted ∷ []) [] rest_now tt in
     subst (IsSplit first (pre ++ (so_far ++ noted ∷ more))) (sym (behind-sync noted (so_far ++ noted ∷ more) more is))
     (subst (λ (l : List NotedCall). IsSplit first l (behind_sync more more)) (append_assoc (pre ++ so_far) (noted ∷ []) more ∙ append_assoc pre so_far (noted ∷ more)) found)
@@ -118,36 +119,36 @@ split first [] pre so_far at_rest none = record { before = pre; all = refl; at_r
 split first (noted ∷ more) pre so_far at_rest none = split_by first noted more (split first more) (is_sync noted.call) refl pre so_far at_rest none
 
 -- a file with a write or with zeros in its range
-module _ (at : ℕ) (bytes file : List ℕ) (s next : DiskState) (opens : Opens at (length bytes) s next) (is : IsImage s file) where
-  still : IsImage next file
-  still = image-opens at (length bytes) s next opens file is
+module _ (at : ℕ) (bytes file : List ℕ) (s next : DiskState) (opens : OpensRange at (length bytes) s next) (is : Remains s file) where
+  still : Remains next file
+  still = remains-opens at (length bytes) s next opens file is
 
-  as_written : IsImage next (landed at bytes file)
-  as_written = image-landed at bytes file next (open-written at (length bytes) s next opens at (length bytes) (omega arith) (omega arith)) still
+  as_written : Remains next (put_at_or_past at bytes file)
+  as_written = remains-put_at_or_past at bytes file next (open-written at (length bytes) s next opens at (length bytes) (omega arith) (omega arith)) still
 
-  as_zeros : IsImage next (landed at (replicate (length bytes) 0) file)
+  as_zeros : Remains next (put_at_or_past at (replicate (length bytes) 0) file)
   as_zeros =
       let zeros : List ℕ = replicate (length bytes) 0 in
       let as_many : length zeros ≡ length bytes = length-replicate {A = ℕ} (length bytes) 0 in
-      image-landed at zeros file next (open-written at (length bytes) s next opens at (length zeros) (omega arith) (omega (arith, as_many))) still
+      remains-put_at_or_past at zeros file next (open-written at (length bytes) s next opens at (length zeros) (omega arith) (omega (arith, as_many))) still
 
-torn_each : (call : DiskCall) (later : List ℕ → List (List ℕ)) (P : List ℕ → Type 0) (s : DiskState) (file : List ℕ) → is_sync call ≡ false → IsImage s file
-    → ((next : List ℕ) → IsImage (state_after call s) next → All P (later next)) → All P (torn_by call later file)
+torn_each : (call : DiskCall) (later : List ℕ → List (List ℕ)) (P : List ℕ → Type 0) (s : DiskState) (file : List ℕ) → is_sync call ≡ false → Remains s file
+    → ((next : List ℕ) → Remains (state_after call s) next → All P (later next)) → All P (torn_by call later file)
 torn_each (Write at bytes) later P s file other is each =
     let opens = opens-wrote at bytes s in
     All-append P (later file) _ (each file (still at bytes file s _ opens is))
-    (All-append P (later (landed at bytes file)) _ (each _ (as_written at bytes file s _ opens is)) (each _ (as_zeros at bytes file s _ opens is)))
+    (All-append P (later (put_at_or_past at bytes file)) _ (each _ (as_written at bytes file s _ opens is)) (each _ (as_zeros at bytes file s _ opens is)))
 torn_each (FailedWrite at bytes) later P s file other is each =
     let opens = opens-opened at (length bytes) s in
     All-append P (later file) _ (each file (still at bytes file s _ opens is))
-    (All-append P (later (landed at bytes file)) _ (each _ (as_written at bytes file s _ opens is)) (each _ (as_zeros at bytes file s _ opens is)))
+    (All-append P (later (put_at_or_past at bytes file)) _ (each _ (as_written at bytes file s _ opens is)) (each _ (as_zeros at bytes file s _ opens is)))
 torn_each Sync later P s file other is each = search (rules, other)
 torn_each FailedSync later P s file other is each = each file is
 
-images-torn : (calls : List NotedCall) (t : Told) (file : List ℕ) → NoSync calls → IsImage t.now file → All (IsImage (after_calls calls t).now) (torn calls file)
-images-torn [] t file none is = All-cons (IsImage t.now) file [] is (All-nil (IsImage t.now))
-images-torn (noted ∷ more) t file none is =
-    torn_each noted.call (torn more) (IsImage (after_calls more (after_call noted.call t)).now) t.now file none.0 is (λ next is_next. images-torn more (after_call noted.call t) next none.1 is_next)
+remains-torn : (calls : List NotedCall) (t : History) (file : List ℕ) → NoSync calls → Remains t.now file → All (Remains (after_calls calls t).now) (torn calls file)
+remains-torn [] t file none is = All-cons (Remains t.now) file [] is (All-nil (Remains t.now))
+remains-torn (noted ∷ more) t file none is =
+    torn_each noted.call (torn more) (Remains (after_calls more (after_call noted.call t)).now) t.now file none.0 is (λ next is_next. remains-torn more (after_call noted.call t) next none.1 is_next)
 
 synced_by : (call : DiskCall) (s : DiskState) → is_sync call ≡ false → (state_after call s).synced ≡ s.synced
 synced_by (Write at bytes) s other = refl
@@ -155,7 +156,7 @@ synced_by (FailedWrite at bytes) s other = refl
 synced_by Sync s other = search (rules, other)
 synced_by FailedSync s other = refl
 
-synced_after : (calls : List NotedCall) (t : Told) → NoSync calls → (after_calls calls t).now.synced ≡ t.now.synced
+synced_after : (calls : List NotedCall) (t : History) → NoSync calls → (after_calls calls t).now.synced ≡ t.now.synced
 synced_after [] t none = refl
 synced_after (noted ∷ more) t none = synced_after more (after_call noted.call t) none.1 ∙ synced_by noted.call t.now none.0
 
@@ -185,14 +186,14 @@ module _ (first : List ℕ) (calls : List NotedCall) where
   file-synced =
       file-is ∙ sym (ap (λ (s : DiskState). s.synced) parts.at_rest)
       ∙ sym (synced_after behind (after_calls parts.before (start first)) parts.none)
-      ∙ ap (λ (t : Told). t.now.synced) (sym ends)
+      ∙ ap (λ (t : History). t.now.synced) (sym ends)
 
-  pub file-images : All (IsImage (after_calls calls (start first)).now) (torn behind (after_calls before (start first)).now.reads)
-  file-images =
+  pub file-remains : All (Remains (after_calls calls (start first)).now) (torn behind (after_calls before (start first)).now.reads)
+  file-remains =
       let file = (after_calls parts.before (start first)).now.reads in
-      let is : IsImage (after_calls parts.before (start first)).now file = subst (λ (s : DiskState). IsImage s file) (sym parts.at_rest) (image-of_rests file) in
-      subst (λ (f : List ℕ). All (IsImage (after_calls calls (start first)).now) (torn behind f)) (sym file-is)
-      (subst (λ (t : Told). All (IsImage t.now) (torn behind file)) (sym ends) (images-torn behind (after_calls parts.before (start first)) file parts.none is))
+      let is : Remains (after_calls parts.before (start first)).now file = subst (λ (s : DiskState). Remains s file) (sym parts.at_rest) (remains-rests file) in
+      subst (λ (f : List ℕ). All (Remains (after_calls calls (start first)).now) (torn behind f)) (sym file-is)
+      (subst (λ (t : History). All (Remains t.now) (torn behind file)) (sym ends) (remains-torn behind (after_calls parts.before (start first)) file parts.none is))
 
 pub behind-shorter : (calls : List NotedCall) → length (behind_sync calls calls) ≤ length calls
 behind-shorter calls = omega (arith, length-append (parts [] calls).before (behind_sync calls calls), ap length (parts [] calls).all)
@@ -207,3 +208,9 @@ gathered first calls own_calls behind_calls before_calls own_first file images n
     let before_is : before_calls ≡ take (length calls - length (behind_sync calls calls)) calls = is_before ∙ (λ i. take (length (is_calls i) - length (behind_is i)) (is_calls i)) in
     let file_is : file ≡ (after_calls (take (length calls - length (behind_sync calls calls)) calls) (start first)).now.reads = is_file ∙ (λ i. (after_calls (before_is i) (start (is_first i))).now.reads) in
     is_images ∙ (λ i. is_none i ++ torn (behind_is i) (file_is i))
+
+-- ---- in bytes
+
+-- what may remain, and is bytes, is an image
+pub images-all : (s : DiskState) (files : List (List ℕ)) → All (Remains s) files → All IsBytes files → All (IsImage s) files
+images-all s files remain are k d l = record { remains = remain k d l; bytes = are k d l }

@@ -2,7 +2,7 @@
 use Rattle.std.specs.Prelude.{◌≡◌, ℕ, ◌+◌, ◌-◌, ◌^◌, min, List, Bool, true, false, nat_eq, if◌then◌else◌, Result, OnOk, OnErr}
 use Rattle.std.specs.List.{list_any}
 
--- how many calls were made; which are to fail; how many failed; how many of these for want of memory
+-- how many calls were made; which are to fail; how many failed; how many of these for running out of memory
 pub record CallCount : Type 0 where
   pub calls : ℕ
   pub fails : List ℕ
@@ -25,7 +25,7 @@ done c = record { calls = counted c.calls; fails = c.fails; faults = c.faults; r
 abbrev pub failed : CallCount → CallCount
 failed c = record { calls = counted c.calls; fails = c.fails; faults = counted c.faults; refused = c.refused }
 
--- after one that failed for want of memory
+-- after one that failed for running out of memory
 abbrev pub refused : CallCount → CallCount
 refused c = record { calls = counted c.calls; fails = c.fails; faults = counted c.faults; refused = counted c.refused }
 
@@ -34,7 +34,7 @@ pub record FailsAsListed {T E : Type 0} (old new : CallCount) (result : Result T
   pub ok : OnOk result ((fails_next old ≡ false) × (new ≡ done old))
   pub err : OnErr result ((fails_next old ≡ true) × (new ≡ failed old))
 
--- A call fails where the list says so, and else at most for want of memory.
+-- A call fails where the list says so, and else at most for running out of memory.
 pub record FailsAsListedOrRefused {T E : Type 0} (old new : CallCount) (result : Result T E) : Type 0 where
   pub ok : OnOk result ((fails_next old ≡ false) × (new ≡ done old))
   pub err : OnErr result (new ≡ (if fails_next old then failed old else refused old))

@@ -1,5 +1,5 @@
+pub mod Bounds
 pub mod CallCounts
-pub mod DiskLaws
 pub mod MemoryDisks
 pub mod Memory
 pub mod StopImages

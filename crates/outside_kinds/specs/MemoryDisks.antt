@@ -1,7 +1,7 @@
 -- What a disk in memory is: its first bytes, and what its calls have done (docs/PROFILE.md, "Kinds in memory").
 use Rattle.std.specs.Prelude.{ℕ, ◌+◌, max, Bool, if◌then◌else◌, List, [], ◌∷◌, ◌++◌, length}
-use Rattle.outside_traits.specs.Disks.{DiskState, rests, landed}
-use Rattle.outside_traits.specs.Moments.{Told}
+use Rattle.outside_traits.specs.Disks.{DiskState, all_synced, put_at_or_past}
+use Rattle.outside_traits.specs.Moments.{History}
 use Rattle.outside_kinds.specs.CallCounts.{CallCount}
 use Rattle.outside_kinds.specs.declared.noted_call.DiskCall.{DiskCall}
 use Rattle.outside_kinds.specs.declared.noted_call.DiskCall.TheVariants.{Write, FailedWrite, Sync, FailedSync}
@@ -14,36 +14,36 @@ pub record DiskInMemory : Type 0 where
   pub count : CallCount
 
 -- a state with one range more written
-abbrev pub opened : ℕ → ℕ → DiskState → DiskState
-opened at n s = record { reads = s.reads; synced = s.synced; written = (at, n) ∷ s.written; longest = max s.longest (at + n) }
+abbrev pub range_opened : ℕ → ℕ → DiskState → DiskState
+range_opened at n s = record { reads = s.reads; synced = s.synced; written = (at, n) ∷ s.written; longest = max s.longest (at + n) }
 
 -- a state with these bytes written
 abbrev pub wrote : ℕ → List ℕ → DiskState → DiskState
-wrote at bytes s = record { reads = landed at bytes s.reads; synced = s.synced; written = (at, length bytes) ∷ s.written; longest = max s.longest (at + length bytes) }
+wrote at bytes s = record { reads = put_at_or_past at bytes s.reads; synced = s.synced; written = (at, length bytes) ∷ s.written; longest = max s.longest (at + length bytes) }
 
 -- what a call makes of a state
 abbrev pub state_after : DiskCall → DiskState → DiskState
 state_after (Write at bytes) s = wrote at bytes s
-state_after (FailedWrite at bytes) s = opened at (length bytes) s
-state_after Sync s = rests s.reads
+state_after (FailedWrite at bytes) s = range_opened at (length bytes) s
+state_after Sync s = all_synced s.reads
 state_after FailedSync s = s
 
 -- one call more
-abbrev pub after_call : DiskCall → Told → Told
+abbrev pub after_call : DiskCall → History → History
 after_call call t = record { now = state_after call t.now; past = t.now ∷ t.past }
 
 -- these calls, one after another
-abbrev pub after_calls : List NotedCall → Told → Told
+abbrev pub after_calls : List NotedCall → History → History
 after_calls [] t = t
 after_calls (noted ∷ more) t = after_calls more (after_call noted.call t)
 
 -- a disk that was just made of these bytes
-abbrev pub start : List ℕ → Told
-start bytes = record { now = rests bytes; past = [] }
+abbrev pub start : List ℕ → History
+start bytes = record { now = all_synced bytes; past = [] }
 
 -- the states of a disk in memory
-abbrev pub told_of : DiskInMemory → Told
-told_of d = after_calls d.noted (start d.first)
+abbrev pub history_of : DiskInMemory → History
+history_of d = after_calls d.noted (start d.first)
 
 -- the disk with this call noted, under the number of the last one
 abbrev pub with_call : DiskCall → DiskInMemory → DiskInMemory

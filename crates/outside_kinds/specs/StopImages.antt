@@ -1,7 +1,7 @@
 -- What `stop_images` gives for a crash in a call (docs/PROFILE.md, "Kinds in memory").
 use Rattle.std.specs.Prelude.{ℕ, Bool, true, false, List, [], ◌∷◌, ◌++◌, length, replicate, nat_lt, nat_eq, ◌&&◌, if◌then◌else◌}
-use Rattle.outside_traits.specs.Disks.{landed}
-use Rattle.outside_traits.specs.Moments.{Told}
+use Rattle.outside_traits.specs.Disks.{put_at_or_past}
+use Rattle.outside_traits.specs.Moments.{History}
 use Rattle.outside_kinds.specs.MemoryDisks.{DiskInMemory, after_calls, start}
 use Rattle.outside_kinds.specs.declared.noted_call.DiskCall.{DiskCall}
 use Rattle.outside_kinds.specs.declared.noted_call.DiskCall.TheVariants.{Write, FailedWrite, Sync, FailedSync}
@@ -19,7 +19,7 @@ until number [] = []
 until number (noted ∷ more) = if nat_lt noted.number number then noted ∷ until number more else if nat_eq noted.number number && is_write noted.call then noted ∷ [] else []
 
 -- the moment of a crash in this call
-abbrev pub stopped_in : ℕ → DiskInMemory → Told
+abbrev pub stopped_in : ℕ → DiskInMemory → History
 stopped_in number d = after_calls (until number d.noted) (start d.first)
 
 abbrev pub is_sync : DiskCall → Bool
@@ -35,8 +35,8 @@ behind_sync so_far (noted ∷ more) = if is_sync noted.call then behind_sync mor
 
 -- a call behind the last sync: what it wrote is not there, there as it was written, or zeros
 abbrev pub torn_by : DiskCall → (List ℕ → List (List ℕ)) → List ℕ → List (List ℕ)
-torn_by (Write at bytes) later file = later file ++ (later (landed at bytes file) ++ later (landed at (replicate (length bytes) 0) file))
-torn_by (FailedWrite at bytes) later file = later file ++ (later (landed at bytes file) ++ later (landed at (replicate (length bytes) 0) file))
+torn_by (Write at bytes) later file = later file ++ (later (put_at_or_past at bytes file) ++ later (put_at_or_past at (replicate (length bytes) 0) file))
+torn_by (FailedWrite at bytes) later file = later file ++ (later (put_at_or_past at bytes file) ++ later (put_at_or_past at (replicate (length bytes) 0) file))
 torn_by Sync later file = later file
 torn_by FailedSync later file = later file
 

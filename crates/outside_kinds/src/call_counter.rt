@@ -1,3 +1,4 @@
+//! The count of calls that each kind in memory keeps, and which of them are to fail.
 ghost use Rattle.std.specs.Prelude.{◌≡◌, ◌≤◌, true, false, if◌then◌else◌};
 ghost use Rattle.outside_kinds.specs.CallCounts.{CallCount, counted, fails_next, done, failed, refused};
 
@@ -65,7 +66,7 @@ impl CallCounter {
         fails
     }
 
-    /// Counts a fault for want of memory in the last call.
+    /// Counts a fault for running out of memory in the last call.
     pub fn refuse(&mut self)
         ensures count { self.new ≡ record { calls = self.old.calls; fails = self.old.fails; faults = counted self.old.faults; refused = counted self.old.refused } }
         ensures later { self.old.faults ≤ self.new.faults }

@@ -1,14 +1,14 @@
+//! A disk over a file of the operating system.
 ghost use Rattle.std.specs.Prelude.{false, [], IsErr};
-ghost use Rattle.outside_traits.specs.Disks.{rests};
-ghost use Rattle.outside_traits.specs.Faults.{HasCause};
-ghost use Rattle.outside_traits.proofs.ImageLaws.{image-of_rests};
+ghost use Rattle.outside_traits.specs.Disks.{all_synced};
+ghost use Rattle.outside_traits.specs.Faults.{HasCause, failed};
 
 use outside_traits::{Disk, Failed};
 use std::fs::File;
 use std::io;
 use std::os::unix::fs::FileExt;
 
-/// A disk over an open file of the operating system, which has to be open for reading and writing. It can't tell its states; it counts the calls that failed.
+/// A disk over an open file of the operating system, which has to be open for reading and writing. Its states aren't known; it counts the calls that failed.
 /// A read or write that the system cuts short goes on until it is whole; one that can't is counted.
 /// A new file's name is in its folder's keeping, which no call here syncs.
 #[derive(Drop)]
@@ -22,10 +22,10 @@ impl FileDisk {
         FileDisk { file, faults: 0 }
     }
 
-    // The system's answer, counted where it is an error.
+    /// The system's answer, counted where it is an error.
     fn counted<T: Drop>(&mut self, answer: io::Result<T>) -> Result<T, Failed>
         ensures err { IsErr answer → IsErr result }
-        ensures cause { HasCause self.old.faults self.new.faults result }
+        ensures cause { HasCause failed self.old.faults self.new.faults result }
     {
         if let Ok(value) = answer {
             return Ok(value);
@@ -36,13 +36,11 @@ impl FileDisk {
 }
 
 impl Disk for FileDisk {
-    ghost tells = { false };
+    ghost is_known = { false };
 
-    ghost told = { λ _. record { now = rests []; past = [] } };
+    ghost history = { λ _. record { now = all_synced []; past = [] } };
 
     ghost faults = { λ d. d.faults };
-
-    ghost reads_an_image = { λ _ _. image-of_rests [] };
 
     fn len(&mut self) -> Result<u64, Failed> {
         let answer = self.file.metadata();

@@ -1,6 +1,6 @@
 //! The kinds of the outside: sources, sinks and disks in memory, and over the real streams and files.
-//! Those in memory fail exactly at the calls of a list, but for want of memory, and tell all their bytes; `MemDisk::stop_images` gives images of a crash in any of its calls, each of them an image by the definition.
-//! Those over real things count what failed and tell no bytes; that a real stream or file does what it is asked is left to the system.
+//! Those in memory fail exactly at the calls of a list, but for running out of memory, and all their bytes are known; `MemDisk::stop_images` gives images of a crash in any of its calls, each of them an image by the definition.
+//! Those over real things count what failed, and their bytes aren't known; that a real stream or file does what it is asked is left to the system.
 #![tactic(auto)]
 
 mod bounded;

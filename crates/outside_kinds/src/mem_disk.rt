@@ -1,10 +1,12 @@
+//! A disk in memory, whose every state is known: what contracts on crashes are tried on.
 ghost use Rattle.std.specs.Prelude.{◌≡◌, ◌<◌, ◌≤◌, ◌+◌, ◌^◌, ◌⊎◌, [], true, length, take, drop, IfOk, OnOk, OnErr};
-ghost use Rattle.outside_traits.specs.Disks.{Opens, Wrote, Synced, Unsynced, landed};
-ghost use Rattle.outside_traits.specs.Faults.{HasCause};
-ghost use Rattle.outside_traits.specs.Moments.{Goes, Fails};
+ghost use Rattle.outside_traits.specs.Disks.{OpensRange, Wrote, Synced, Unsynced, put_at_or_past};
+ghost use Rattle.outside_traits.specs.Faults.{HasCause, failed};
+ghost use Rattle.outside_traits.specs.Bytes.{IsBytes};
+ghost use Rattle.outside_traits.specs.CrashImages.{IsImage};
+ghost use Rattle.outside_traits.specs.Moments.{TakesStep, Fails};
 ghost use Rattle.outside_kinds.specs.CallCounts.{FailsAsListed, FailsAsListedOrRefused};
-ghost use Rattle.outside_kinds.specs.DiskLaws.{reads-an-image};
-ghost use Rattle.outside_kinds.specs.MemoryDisks.{KeepsBytes, bytes_of, told_of, with_call};
+ghost use Rattle.outside_kinds.specs.MemoryDisks.{KeepsBytes, bytes_of, history_of, with_call};
 
 use crate::call_counter::CallCounter;
 use crate::noted_call::{DiskCall, NotedCall};
@@ -13,8 +15,8 @@ use outside_traits::{Disk, Failed};
 use std::alloc::{AllocError, Global};
 use std::marker::Model;
 
-/// A disk in memory. The calls in its list, counted from 1, fail, and a write or sync may fail for want of memory; what has failed changes no byte.
-/// It keeps its first bytes and a record of its writes and syncs, from which `stop_images` tells what a crash in a call may leave.
+/// A disk in memory. The calls in its list, counted from 1, fail, and a write or sync may fail for running out of memory; what has failed changes no byte.
+/// It keeps its first bytes and a record of its writes and syncs, from which `stop_images` makes what a crash in a call may leave.
 #[derive(Drop)]
 pub struct MemDisk {
     first: Vec<u8>,
@@ -38,7 +40,7 @@ impl Model for MemDisk {
 
 /// Writes over what stands at a place of a file and past its end. The file may grow up to there, by zeros.
 pub fn overwrite(file: &mut Vec<u8>, at: usize, bytes: &[u8]) -> Result<(), AllocError>
-    ensures ok { OnOk result (file.new.items ≡ landed at bytes.now file.old.items) }
+    ensures ok { OnOk result (file.new.items ≡ put_at_or_past at bytes.now file.old.items) }
     ensures err { OnErr result (at ≤ length file.old.items → file.new.items ≡ file.old.items) }
 {
     if file.len() < at {
@@ -51,7 +53,7 @@ pub fn overwrite(file: &mut Vec<u8>, at: usize, bytes: &[u8]) -> Result<(), Allo
     Ok(())
 }
 
-// The first write copies the first bytes.
+/// The first write copies the first bytes.
 fn copy_first(file: &mut Vec<u8>, is_copied: &mut bool, first: &Vec<u8>) -> Result<(), AllocError>
     ensures ok { OnOk result ((is_copied.new ≡ true) × (file.new.items ≡ bytes_of is_copied.old file.old.items first.now.items)) }
     ensures err { OnErr result ((is_copied.new ≡ is_copied.old) × (file.new.items ≡ file.old.items)) }
@@ -62,6 +64,11 @@ fn copy_first(file: &mut Vec<u8>, is_copied: &mut bool, first: &Vec<u8>) -> Resu
     }
     Ok(())
 }
+
+/// What a slice of bytes has are bytes.
+fn are_bytes(bytes: &[u8])
+    ensures { IsBytes bytes.now }
+{}
 
 impl MemDisk {
     /// It takes no memory yet; writes and syncs take theirs where the bytes did.
@@ -81,7 +88,7 @@ impl MemDisk {
 
     /// What a read gives.
     pub fn bytes(&self) -> &[u8]
-        ensures { result.now ≡ (told_of self.now).now.reads }
+        ensures { result.now ≡ (history_of self.now).now.reads }
     {
         if self.is_copied {
             &self.file
@@ -110,14 +117,14 @@ impl MemDisk {
         self.counter.calls()
     }
 
-    /// How many calls failed for want of memory; they are among the faults.
+    /// How many calls failed for running out of memory; they are among the faults.
     pub fn refused(&self) -> u64
         ensures { result ≡ self.now.count.refused }
     {
         self.counter.refused()
     }
 
-    // Notes a call that leaves the bytes as they are.
+    /// Notes a call that leaves the bytes as they are.
     fn note(&mut self, call: DiskCall) -> Result<(), NoMemory>
         requires { KeepsBytes call }
         ensures ok { OnOk result (self.new ≡ with_call call self.old) }
@@ -128,7 +135,7 @@ impl MemDisk {
         Ok(())
     }
 
-    // Notes a call that failed. Where there is no memory for the note, nothing was done at all.
+    /// Notes a call that failed. Where there is no memory for the note, nothing was done at all.
     fn note_failed(&mut self, call: DiskCall)
         requires { KeepsBytes call }
         ensures { (self.new ≡ self.old) ⊎ (self.new ≡ with_call call self.old) }
@@ -150,9 +157,9 @@ impl MemDisk {
         self.note_failed(DiskCall::FailedSync);
     }
 
-    // Writes the bytes and notes it.
+    /// Writes the bytes and notes it.
     fn write(&mut self, at: u64, bytes: &[u8]) -> Result<(), NoMemory>
-        requires { at ≤ length (told_of self.old).now.reads }
+        requires { at ≤ length (history_of self.old).now.reads }
         ensures ok { OnOk result (self.new ≡ with_call (DiskCall.Write at bytes.now) self.old) }
         ensures err { OnErr result (self.new ≡ self.old) }
     {
@@ -174,18 +181,16 @@ impl MemDisk {
 }
 
 impl Disk for MemDisk {
-    ghost tells = { true };
+    ghost is_known = { true };
 
-    ghost told = { λ d. told_of d };
+    ghost history = { λ d. history_of d };
 
     ghost faults = { λ d. d.count.faults };
 
-    ghost reads_an_image = { λ d _. reads-an-image d };
-
     fn len(&mut self) -> Result<u64, Failed>
-        ensures value { IfOk result (λ count. count ≡ length (told_of self.old).now.reads) }
-        ensures same { told_of self.new ≡ told_of self.old }
-        ensures cause { HasCause self.old.count.faults self.new.count.faults result }
+        ensures value { IfOk result (λ count. count ≡ length (history_of self.old).now.reads) }
+        ensures same { history_of self.new ≡ history_of self.old }
+        ensures cause { HasCause failed self.old.count.faults self.new.count.faults result }
 
         ensures listed { FailsAsListed self.old.count self.new.count result }
     {
@@ -196,10 +201,10 @@ impl Disk for MemDisk {
     }
 
     fn read_at(&mut self, at: u64, buf: &mut [u8]) -> Result<(), Failed>
-        requires within { at + length buf.old ≤ length (told_of self.old).now.reads }
-        ensures value { OnOk result (buf.new ≡ take (length buf.old) (drop at (told_of self.old).now.reads)) }
-        ensures same { told_of self.new ≡ told_of self.old }
-        ensures cause { HasCause self.old.count.faults self.new.count.faults result }
+        requires within { at + length buf.old ≤ length (history_of self.old).now.reads }
+        ensures value { OnOk result (buf.new ≡ take (length buf.old) (drop at (history_of self.old).now.reads)) }
+        ensures same { history_of self.new ≡ history_of self.old }
+        ensures cause { HasCause failed self.old.count.faults self.new.count.faults result }
 
         ensures listed { FailsAsListed self.old.count self.new.count result }
     {
@@ -212,13 +217,13 @@ impl Disk for MemDisk {
     }
 
     fn write_at(&mut self, at: u64, bytes: &[u8]) -> Result<(), Failed>
-        requires within { at ≤ length (told_of self.old).now.reads }
+        requires within { at ≤ length (history_of self.old).now.reads }
         ensures fits { OnOk result (at + length bytes.now < 2 ^ 64) }
-        ensures ok { OnOk result (Goes (Wrote at bytes.now) (told_of self.old) (told_of self.new)) }
-        ensures err { OnErr result (Fails (Opens at (length bytes.now)) (told_of self.old) (told_of self.new)) }
-        ensures cause { HasCause self.old.count.faults self.new.count.faults result }
+        ensures ok { OnOk result (TakesStep (Wrote at bytes.now) (history_of self.old) (history_of self.new)) }
+        ensures err { OnErr result (Fails (OpensRange at (length bytes.now)) (history_of self.old) (history_of self.new)) }
+        ensures cause { HasCause failed self.old.count.faults self.new.count.faults result }
 
-        ensures bytes { OnErr result ((told_of self.new).now.reads ≡ (told_of self.old).now.reads) }
+        ensures bytes { OnErr result ((history_of self.new).now.reads ≡ (history_of self.old).now.reads) }
         ensures listed { FailsAsListedOrRefused self.old.count self.new.count result }
     {
         if self.counter.fails_now() {
@@ -233,11 +238,11 @@ impl Disk for MemDisk {
     }
 
     fn sync(&mut self) -> Result<(), Failed>
-        ensures ok { OnOk result (Goes Synced (told_of self.old) (told_of self.new)) }
-        ensures err { OnErr result (Fails Unsynced (told_of self.old) (told_of self.new)) }
-        ensures cause { HasCause self.old.count.faults self.new.count.faults result }
+        ensures ok { OnOk result (TakesStep Synced (history_of self.old) (history_of self.new)) }
+        ensures err { OnErr result (Fails Unsynced (history_of self.old) (history_of self.new)) }
+        ensures cause { HasCause failed self.old.count.faults self.new.count.faults result }
 
-        ensures bytes { (told_of self.new).now.reads ≡ (told_of self.old).now.reads }
+        ensures bytes { (history_of self.new).now.reads ≡ (history_of self.old).now.reads }
         ensures listed { FailsAsListedOrRefused self.old.count self.new.count result }
     {
         if self.counter.fails_now() {
@@ -251,7 +256,12 @@ impl Disk for MemDisk {
         Ok(())
     }
 
-    fn faults(&self) -> u64 {
+    fn faults(&self) -> u64
+        ensures count { result ≡ self.now.count.faults }
+        ensures reads_an_image { IsImage (history_of self.now).now (history_of self.now).now.reads }
+    {
+        let bytes = self.bytes();
+        are_bytes(bytes);
         self.counter.faults()
     }
 }

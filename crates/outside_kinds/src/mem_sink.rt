@@ -1,6 +1,7 @@
+//! A sink in memory.
 ghost use Rattle.std.specs.Prelude.{◌≡◌, ◌<◌, ◌≤◌, [], length, take, Some, IfOk, OnErr};
 ghost use Rattle.outside_traits.specs.Bytes.{Took};
-ghost use Rattle.outside_traits.specs.Faults.{HasCause};
+ghost use Rattle.outside_traits.specs.Faults.{HasCause, failed};
 ghost use Rattle.outside_kinds.specs.CallCounts.{FailsAsListedOrRefused};
 
 use crate::call_counter::CallCounter;
@@ -9,10 +10,10 @@ use outside_traits::{Failed, Sink};
 use std::alloc::Global;
 use std::marker::Model;
 
-/// A sink in memory that takes a whole piece at each call. The calls in its list, counted from 1, fail, and one may fail for want of memory.
+/// A sink in memory that takes a whole piece at each call. The calls in its list, counted from 1, fail, and one may fail for running out of memory.
 #[derive(Drop)]
 pub struct MemSink {
-    bytes: List<u8>,
+    bytes: Vec<u8>,
     counter: CallCounter,
 }
 
@@ -21,7 +22,7 @@ impl Model for MemSink {
 
     ghost Value = { SinkInMemory };
 
-    ghost view = { λ s. record { held = s.bytes; count = s.counter } };
+    ghost view = { λ s. record { held = s.bytes.items; count = s.counter } };
 }
 
 impl MemSink {
@@ -30,7 +31,7 @@ impl MemSink {
         ensures { result ≡ record { held = []; count = record { calls = 0; fails = fails; faults = 0; refused = 0 } } }
     {
         MemSink {
-            bytes: List::new(alloc),
+            bytes: Vec::new(alloc),
             counter: CallCounter::new(fails),
         }
     }
@@ -39,10 +40,10 @@ impl MemSink {
     pub fn bytes(&self) -> &[u8]
         ensures { result.now ≡ self.now.held }
     {
-        self.bytes.as_slice()
+        &self.bytes
     }
 
-    /// How many calls failed for want of memory; they are among the faults.
+    /// How many calls failed for running out of memory; they are among the faults.
     pub fn refused(&self) -> u64
         ensures { result ≡ self.now.count.refused }
     {
@@ -60,7 +61,7 @@ impl Sink for MemSink {
         ensures bound { IfOk result (λ count. (0 < count) × (count ≤ length piece.now)) }
         ensures bytes { IfOk result (λ count. Took (Some self.old.held) (Some self.new.held) (take count piece.now)) }
         ensures err { OnErr result (Some self.new.held ≡ Some self.old.held) }
-        ensures cause { HasCause self.old.count.faults self.new.count.faults result }
+        ensures cause { HasCause failed self.old.count.faults self.new.count.faults result }
 
         ensures whole { IfOk result (λ count. count ≡ length piece.now) }
         ensures listed { FailsAsListedOrRefused self.old.count self.new.count result }

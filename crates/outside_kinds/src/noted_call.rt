@@ -1,3 +1,4 @@
+//! What a disk in memory notes of a call.
 use dewey_labels::List;
 
 /// What a call on a disk in memory did.

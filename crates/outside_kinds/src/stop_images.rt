@@ -1,9 +1,11 @@
+//! What a crash in a call of a disk in memory may leave, as files to open.
 ghost use Rattle.std.specs.Prelude.{◌≡◌, ◌++◌, replicate, IfOk, OnOk};
 ghost use Rattle.std.specs.List.{All};
-ghost use Rattle.outside_traits.specs.Disks.{landed};
+ghost use Rattle.outside_traits.specs.Disks.{put_at_or_past};
+ghost use Rattle.outside_traits.specs.Bytes.{IsBytes};
 ghost use Rattle.outside_traits.specs.CrashImages.{IsImage};
 ghost use Rattle.outside_traits.specs.Moments.{Since};
-ghost use Rattle.outside_kinds.specs.MemoryDisks.{after_calls, start, told_of};
+ghost use Rattle.outside_kinds.specs.MemoryDisks.{after_calls, start, history_of};
 ghost use Rattle.outside_kinds.specs.StopImages.{is_write, until, behind_sync, torn, stopped_in};
 
 use crate::mem_disk::{MemDisk, overwrite};
@@ -11,7 +13,7 @@ use crate::noted_call::{DiskCall, NotedCall};
 use dewey_labels::{List, NoMemory};
 use std::alloc::{AllocError, Global};
 
-// The calls before this one, and what has begun of it.
+/// The calls before this one, and what has begun of it.
 fn calls_until(noted: &[NotedCall], call: u64) -> &[NotedCall]
     ensures { result.now ≡ until call noted.now }
 {
@@ -36,7 +38,7 @@ fn is_write(call: &DiskCall) -> bool
     matches!(call, DiskCall::Write(..) | DiskCall::FailedWrite(..))
 }
 
-// The calls behind the last sync that was done.
+/// The calls behind the last sync that was done.
 fn calls_behind_sync(calls: &[NotedCall]) -> &[NotedCall]
     ensures { result.now ≡ behind_sync calls.now calls.now }
 {
@@ -51,7 +53,7 @@ fn calls_behind_sync(calls: &[NotedCall]) -> &[NotedCall]
     behind
 }
 
-// What a read gives after these calls.
+/// What a read gives after these calls.
 fn bytes_after(alloc: Global, first: &[u8], calls: &[NotedCall]) -> Result<Vec<u8>, AllocError>
     ensures { IfOk result (λ file. file.items ≡ (after_calls calls.now (start first.now)).now.reads) }
 {
@@ -66,32 +68,33 @@ fn bytes_after(alloc: Global, first: &[u8], calls: &[NotedCall]) -> Result<Vec<u
     Ok(file)
 }
 
-// A copy of a file with these bytes written.
+/// A copy of a file with these bytes written.
 fn with_bytes(alloc: Global, file: &[u8], at: u64, bytes: &[u8]) -> Result<Vec<u8>, AllocError>
-    ensures { IfOk result (λ copy. copy.items ≡ landed at bytes.now file.now) }
+    ensures { IfOk result (λ copy. copy.items ≡ put_at_or_past at bytes.now file.now) }
 {
     let mut copy = Vec::from_slice(alloc, file)?;
     overwrite(&mut copy, at as usize, bytes)?;
     Ok(copy)
 }
 
-// A copy of a file with so many zeros written.
+/// A copy of a file with so many zeros written.
 fn with_zeros(alloc: Global, file: &[u8], at: u64, count: usize) -> Result<Vec<u8>, AllocError>
-    ensures { IfOk result (λ copy. copy.items ≡ landed at (replicate count 0) file.now) }
+    ensures { IfOk result (λ copy. copy.items ≡ put_at_or_past at (replicate count 0) file.now) }
 {
     let mut zeros = Vec::new(alloc);
     zeros.resize(count, 0)?;
     with_bytes(alloc, file, at, &zeros)
 }
 
-// Puts the file, torn in each way by these calls, behind the images.
+/// Puts the file, torn in each way by these calls, behind the images.
 fn put_torn(
     alloc: Global,
     calls: &[NotedCall],
     file: &[u8],
     images: &mut List<List<u8>>,
 ) -> Result<(), NoMemory>
-    ensures { OnOk result (images.new ≡ images.old ++ torn calls.now file.now) }
+    ensures torn { OnOk result (images.new ≡ images.old ++ torn calls.now file.now) }
+    ensures bytes { OnOk result (All IsBytes images.old → All IsBytes images.new) }
 {
     let [next, after @ ..] = calls else {
         return images.push(List::from_vec(Vec::from_slice(alloc, file)?));
@@ -113,7 +116,7 @@ impl MemDisk {
     pub fn stop_images(&self, alloc: Global, call: u64) -> Result<List<List<u8>>, NoMemory>
         ensures images { IfOk result (λ images. All (IsImage (stopped_in call self.now).now) images) }
         ensures among { IfOk result (λ images. images ≡ torn (behind_sync (until call self.now.noted) (until call self.now.noted)) (stopped_in call self.now).now.synced) }
-        ensures moment { Since (stopped_in call self.now) (told_of self.now) }
+        ensures moment { Since (stopped_in call self.now) (history_of self.now) }
     {
         let calls = calls_until(self.noted(), call);
         let behind = calls_behind_sync(calls);

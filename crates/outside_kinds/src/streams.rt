@@ -1,13 +1,15 @@
+//! A source and a sink over streams of the operating system.
 ghost use Rattle.std.specs.Prelude.{◌≡◌, None};
 
 use outside_traits::{Failed, Sink, Source};
 use std::io::{Read, Write};
 
-/// A source over a stream. It can't tell what is left; it counts the bytes given and the reads that failed.
+/// A source over a stream. What is left isn't known; it counts the bytes given and the reads that failed.
 #[derive(Drop)]
 pub struct StdSource<R> {
     inner: R,
     given: u64,
+    asked: u64,
     faults: u64,
 }
 
@@ -16,6 +18,7 @@ impl<R: Read> StdSource<R> {
         StdSource {
             inner,
             given: 0,
+            asked: 0,
             faults: 0,
         }
     }
@@ -26,12 +29,15 @@ impl<R: Read> Source for StdSource<R> {
 
     ghost given = { λ s. s.given };
 
+    ghost asked = { λ s. s.asked };
+
     ghost faults = { λ s. s.faults };
 
     fn read(&mut self, buf: &mut [u8]) -> Result<usize, Failed> {
         // A read that could bring the count of bytes past the greatest `u64` isn't made.
         if buf.len() as u64 <= u64::MAX - self.given {
             if let Ok(count) = self.inner.read(buf) {
+                self.asked = self.given;
                 self.given += count as u64;
                 return Ok(count);
             }
@@ -45,7 +51,7 @@ impl<R: Read> Source for StdSource<R> {
     }
 }
 
-/// A sink over a stream. It can't tell what it holds; it counts the writes that failed or took nothing.
+/// A sink over a stream. What it holds isn't known; it counts the writes that failed or took nothing.
 #[derive(Drop)]
 pub struct StdSink<W> {
     inner: W,

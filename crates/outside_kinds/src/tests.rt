@@ -1,3 +1,4 @@
+//! Each kind, as tables of calls, one or the other failing.
 use crate::{Bounded, FileDisk, INPUT_LIMIT, MemDisk, MemSink, MemSource, SureSource};
 use dewey_labels::List;
 use outside_traits::{Disk, Failed, Sink, Source};
@@ -219,5 +220,14 @@ fn a_file_counts_what_it_could_not_read_or_write(rt: HostRuntime) -> Result<(), 
     let mut unwritable = FileDisk::new(File::open(&rt, "disk")?);
     assert_eq!(rt; unwritable.write_at(0, b"x"), Err(Failed));
     assert_eq!(rt; unwritable.faults(), 1);
+    Ok(())
+}
+
+#[test]
+fn a_sync_that_the_system_refuses_is_counted(rt: HostRuntime) -> Result<(), Fail> {
+    // fsync of a device that keeps nothing is refused (EINVAL), so a sync that did nothing would answer Ok here.
+    let mut disk = file_disk(&rt, "/dev/null")?;
+    assert_eq!(rt; disk.sync(), Err(Failed));
+    assert_eq!(rt; disk.faults(), 1);
     Ok(())
 }

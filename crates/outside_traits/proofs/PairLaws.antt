@@ -2,7 +2,7 @@
 use Rattle.std.proofs.Common.{◌≡◌, inl, inr, ⊎_elim, ℕ, List, [], ◌∷◌, ◌++◌, refl, sym, ap, subst}
 use Rattle.outside_traits.specs.Disks.{DiskState}
 use Rattle.outside_traits.specs.CrashImages.{IsImage}
-use Rattle.outside_traits.specs.Moments.{Told, LeavesOnly, AllImages}
+use Rattle.outside_traits.specs.Moments.{History, LeavesOnly, AllImages}
 use Rattle.outside_traits.specs.DiskPairs.{Pair, PairsHave, TouchesJournal, TouchesPages, Phases, PairsLeave}
 use Rattle.outside_traits.proofs.MomentLaws.{weaker}
 
@@ -44,7 +44,7 @@ pub pairs_weaker : (Q R : List ℕ → List ℕ → Type 0) → ((journal pages 
 pairs_weaker Q R leads old new run = record { ends = run.ends; phases = phases-weaker Q R leads old new run.ends run.phases }
 
 -- the state now is the newest: what each moment's crash leaves, a crash now leaves
-now_leaves : (P : List ℕ → Type 0) (old new : Told) → LeavesOnly P old new → ((image : List ℕ) → IsImage old.now image → P image) → (image : List ℕ) → IsImage new.now image → P image
+now_leaves : (P : List ℕ → Type 0) (old new : History) → LeavesOnly P old new → ((image : List ℕ) → IsImage old.now image → P image) → (image : List ℕ) → IsImage new.now image → P image
 now_leaves P old new run at_start image is = cases run.more run.states run.images
   where
     head : DiskState → List DiskState → DiskState
@@ -57,11 +57,11 @@ now_leaves P old new run at_start image is = cases run.more run.states run.image
 
 journal_now : (Q : List ℕ → List ℕ → Type 0) (old new : Pair) → TouchesJournal Q old new → PairsHave Q old → PairsHave Q new
 journal_now Q old new touches start journal pages of_journal of_pages =
-    now_leaves _ old.journal new.journal touches.leaves (λ j is_j p is_p. start j p is_j is_p) journal of_journal pages (subst (λ (t : Told). IsImage t.now pages) touches.still of_pages)
+    now_leaves _ old.journal new.journal touches.leaves (λ j is_j p is_p. start j p is_j is_p) journal of_journal pages (subst (λ (t : History). IsImage t.now pages) touches.still of_pages)
 
 pages_now : (Q : List ℕ → List ℕ → Type 0) (old new : Pair) → TouchesPages Q old new → PairsHave Q old → PairsHave Q new
 pages_now Q old new touches start journal pages of_journal of_pages =
-    now_leaves _ old.pages new.pages touches.leaves (λ p is_p j is_j. start j p is_j is_p) pages of_pages journal (subst (λ (t : Told). IsImage t.now journal) touches.still of_journal)
+    now_leaves _ old.pages new.pages touches.leaves (λ p is_p j is_j. start j p is_j is_p) pages of_pages journal (subst (λ (t : History). IsImage t.now journal) touches.still of_journal)
 
 rest_now : (Q : List ℕ → List ℕ → Type 0) (old new : Pair) (ends : List Pair) → Phases Q old ends new → PairsHave Q old → PairsHave Q new
 rest_now Q old new [] phases start = subst (PairsHave Q) (sym phases) start

@@ -1,14 +1,14 @@
 -- Two disks of which one is touched at a time, and what a crash may leave of both (docs/PROFILE.md, "Disks and crashes").
 use Rattle.std.specs.Prelude.{◌≡◌, ◌⊎◌, ℕ, List, [], ◌∷◌}
 use Rattle.outside_traits.specs.CrashImages.{IsImage}
-use Rattle.outside_traits.specs.Moments.{Told, LeavesOnly}
+use Rattle.outside_traits.specs.Moments.{History, LeavesOnly}
 
 -- a store's two disks between two calls
 pub record Pair : Type 0 where
-  pub journal : Told
-  pub pages : Told
+  pub journal : History
+  pub pages : History
 
-abbrev pub pair_of : Told → Told → Pair
+abbrev pub pair_of : History → History → Pair
 pair_of journal pages = record { journal = journal; pages = pages }
 
 -- each two images that a crash now may leave have Q

@@ -1,12 +1,13 @@
+//! Where bytes go.
 ghost use Rattle.std.specs.Prelude.{◌≡◌, ℕ, ◌<◌, ◌≤◌, List, length, take, Option, IfOk, OnErr};
 ghost use Rattle.outside_traits.specs.Bytes.{Took};
-ghost use Rattle.outside_traits.specs.Faults.{HasCause};
+ghost use Rattle.outside_traits.specs.Faults.{HasCause, failed};
 
 use crate::failed::Failed;
 
 /// Where bytes go.
 ///
-/// `held` is what the sink has taken, where it can tell; `faults` is how many of its calls have failed.
+/// `held` is what the sink has taken, where that is known; `faults` is how many of its calls have failed.
 pub trait Sink {
     ghost held: { Self → Option (List ℕ) };
 
@@ -18,7 +19,7 @@ pub trait Sink {
         ensures bound { IfOk result (λ count. (0 < count) × (count ≤ length piece.now)) }
         ensures bytes { IfOk result (λ count. Took (held self.old) (held self.new) (take count piece.now)) }
         ensures err { OnErr result (held self.new ≡ held self.old) }
-        ensures cause { HasCause (faults self.old) (faults self.new) result };
+        ensures cause { HasCause failed (faults self.old) (faults self.new) result };
 
     /// How many calls have failed. The count stays at the greatest `u64`.
     fn faults(&self) -> u64

@@ -1,4 +1,4 @@
-use Rattle.std.proofs.Common.{arith, take, sym, ap, subst, ◌∙◌, ◌++◌}
+use Rattle.std.proofs.Common.{arith, rules, take, sym, ap, subst, ◌∙◌, ◌++◌}
 use Rattle.std.proofs.Math.Seq.{take-add}
 use Rattle.outside_traits.specs.Bytes.{Took}
 use Rattle.outside_traits.proofs.Laws.{took_on}
@@ -10,5 +10,5 @@ loop-written-preserved g c =
     record {
       took = subst (Took (g.K.Sink.held c.args.sink.now) (g.K.Sink.held c.write.new.self)) (ap (λ t. take c.loop-written.written c.args.text.now ++ take c.in_ok-written.field-0 t) c.split_at.ensures.back ∙ sym (take-add c.loop-written.written c.in_ok-written.field-0 c.args.text.now)) (took_on _ _ _ _ _ c.loop-written.invariant.took e.bytes);
       within = omega (arith, e.bound.1, c.split_at.ensures.back_len);
-      later = omega (arith, e.cause.later);
+      same = search rules;
     }
