@@ -13,12 +13,13 @@ use Rattle.std.specs.Ordering.{ordering_index}
 use Rattle.tree_model.specs.declared.key.Key.{Key}
 use Rattle.tree_model.specs.declared.record.Record.{Record}
 use Rattle.tree_model.specs.Keys.{key_cmp}
-use Rattle.tree_model.specs.Entries.{Entries, Above, Below, Sorted, get, first_above, last_below, or_else, put, del}
+use Rattle.tree_model.specs.Entries.{Entries, Above, Below, Sorted, get, first_above, last_below, put, del}
+use Rattle.std.specs.Option.{option_or}
 use Rattle.tree_model.proofs.Keys.{key_total, key_itself, key_turned_back, key_tied}
 use Rattle.tree_model.proofs.Entries.{NotBelow, above_not_below, head_of, last_of, first_above_past, first_above_head, last_below_past, last_below_last, get_past, get_none, get_here, first_above_above, last_below_below, put_past, put_here, put_new, del_past, del_here, del_none, sorted_below, sorted_behind}
 use Rattle.tree_model.proofs.Lists.{all_on}
-use Rattle.node_seq.specs.Told.{LiesAbove, LiesBelow}
-use Rattle.node_seq.specs.Seqs.{StandsAt, BelongsAt, before}
+use Rattle.node_seq.specs.Reads.{LiesAbove, LiesBelow}
+use Rattle.node_seq.specs.inside.Seqs.{StandsAt, BelongsAt, before}
 
 -- ---- facts by index and facts by recursion
 
@@ -92,17 +93,17 @@ pub stands_at : (k : Key) (es : Entries) (i : ℕ) (d : Key × Record) → Sorte
 stands_at k es i d s l h =
     let e : Key × Record = get_or es i d in
     let tied : e.0 ≡ k = key_tied e.0 k h in
-    let front = take i es in
+    let prefix = take i es in
     let back = drop (suc i) es in
-    let whole : es ≡ front ++ (e ∷ back) = split_at es i d l in
-    let sorted : Sorted (front ++ (e ∷ back)) = subst Sorted whole s in
+    let whole : es ≡ prefix ++ (e ∷ back) = split_at es i d l in
+    let sorted : Sorted (prefix ++ (e ∷ back)) = subst Sorted whole s in
     record {
       value = e.1;
       within = l;
       here = λ d'. any_default es i d' d l ∙ ap (λ v. let pair : Key × Record = (v, e.1) in pair) tied;
-      whole = subst (λ v. es ≡ front ++ ((v, e.1) ∷ back)) tied whole;
-      below = subst (λ v. AllByRecursion (Below v) front) tied (sorted_below front back e sorted);
-      above = subst (λ v. AllByRecursion (Above v) back) tied (sorted_behind front (e ∷ back) sorted).0;
+      whole = subst (λ v. es ≡ prefix ++ ((v, e.1) ∷ back)) tied whole;
+      below = subst (λ v. AllByRecursion (Below v) prefix) tied (sorted_below prefix back e sorted);
+      above = subst (λ v. AllByRecursion (Above v) back) tied (sorted_behind prefix (e ∷ back) sorted).0;
     }
 
 pub belongs_at : (k : Key) (es : Entries) (i : ℕ) → i ≤ length es → IsPartitionPoint (λ e. key_cmp e.0 k ≡ Less) (λ e. key_cmp e.0 k ≡ Greater) es i → BelongsAt es k i
@@ -134,7 +135,7 @@ head_dropped (e ∷ es) (suc i) = head_dropped es i
 last_taken : (es : Entries) (m : ℕ) → m < length es → last_of (take (suc m) es) ≡ slice_get es m
 last_taken [] m l = absurd (omega arith)
 last_taken (e ∷ es) zero l = refl
-last_taken (e ∷ es) (suc m) l = ap (λ o. or_else o (Some e)) (last_taken es m (omega arith) ∙ get_is es m e (omega arith)) ∙ sym (get_is es m e (omega arith))
+last_taken (e ∷ es) (suc m) l = ap (λ o. option_or o (Some e)) (last_taken es m (omega arith) ∙ get_is es m e (omega arith)) ∙ sym (get_is es m e (omega arith))
 
 last_before : (es : Entries) (i : ℕ) → i ≤ length es → last_of (take i es) ≡ before es i
 last_before es zero l = refl

@@ -1,5 +1,5 @@
--- Numbers that rise along the order of labels and of lawful keys: what a walk over a map that isn't told counts down.
-use Rattle.std.proofs.Common.{◌≡◌, ℕ, zero, suc, ◌+◌, ◌-◌, ◌*◌, ◌^◌, ◌<◌, ◌≤◌, List, [], ◌∷◌, ◌++◌, length, arith, Option, Some, None, Less, Equal, Greater, nat_cmp, refl, sym, ap, ◌∙◌, mul-le-mul_right, suc-mul}
+-- Numbers that rise along the order of labels and of valid keys: what a walk over a map that isn't known counts down.
+use Rattle.std.proofs.Common.{◌≡◌, ℕ, zero, suc, ◌+◌, ◌-◌, ◌*◌, ◌^◌, ◌<◌, ◌≤◌, List, [], ◌∷◌, ◌++◌, length, arith, Less, Equal, Greater, nat_cmp, refl, sym, ap, ◌∙◌, mul-le-mul_right, suc-mul}
 use Rattle.std.proofs.Math.Nat.{pow-succ', one-le-pow}
 use Rattle.std.specs.Ordering.{ordering_then, ordering_reverse}
 use Rattle.std.specs.Cmp.{ranked}
@@ -8,19 +8,14 @@ use Rattle.std.specs.List.{AllByRecursion}
 use Rattle.dewey_labels.specs.Labels.{Label, Within, greatest, most_divisions}
 use Rattle.dewey_labels.specs.Sides.{fill}
 use Rattle.tree_model.specs.declared.key.Key.{Key}
-use Rattle.tree_model.specs.Keys.{key_at, key_cmp, top_name, IsKeyName, IsLawfulKey}
+use Rattle.tree_model.specs.Keys.{key_at, key_cmp, top_name, IsKeyName, IsValidKey}
 use Rattle.tree_model.specs.Limits.{most_name_bytes}
 use Rattle.tree_model.specs.Names.{Name}
+use Rattle.node_seq.specs.inside.Ranks.{rank, label_bound, label_rank, labels_left, name_bound, name_rank, key_rank, key_bound, keys_left, keys_before}
 use Rattle.tree_model.proofs.Keys.{list_tied}
 use Rattle.tree_model.proofs.NameLaws.{IsByte, key_name_below_top, key_name_bytes, key_name_length}
 
 -- ---- lists of at most n digits
-
--- the list as a number to the base b, with n digits, an absent digit below each that is there
-abbrev rank : ℕ → ℕ → List ℕ → ℕ
-rank b zero xs = 0
-rank b (suc n) [] = 0
-rank b (suc n) (x ∷ xs) = (x + 1) * b ^ n + rank b n xs
 
 abbrev Small : ℕ → List ℕ → Type 0
 Small b = AllByRecursion (λ d. d + 2 ≤ b)
@@ -74,12 +69,6 @@ over m i a = omega arith
 
 -- ---- labels
 
-label_bound : ℕ
-label_bound = (greatest + 2) ^ most_divisions
-
-label_rank : Label → ℕ
-label_rank l = rank (greatest + 2) most_divisions l
-
 small_label : (l : Label) → AllByRecursion (λ d. d ≤ greatest) l → Small (greatest + 2) l
 small_label [] h = tt
 small_label (d ∷ l) h = (omega (arith, h.0), small_label l h.1)
@@ -92,14 +81,6 @@ label_rank_rises : (l k : Label) → Within l → Within k → slice_cmp nat_cmp
 unfolding label_rank
 label_rank_rises l k w v h = rank_rises (greatest + 2) most_divisions l k (omega arith) w.0 v.0 (small_label l w.1) (small_label k v.1) h
 
--- how far a label is from the end of all labels
-pub labels_left : Label → ℕ
-labels_left l = label_bound - label_rank l
-
-abbrev pub labels_left_of : Option Label → ℕ
-labels_left_of None = 0
-labels_left_of (Some l) = labels_left l
-
 pub label_nearer : (l k : Label) → Within l → Within k → slice_cmp nat_cmp l k ≡ Less → labels_left k < labels_left l
 unfolding labels_left
 label_nearer l k w v h = lower label_bound (label_rank l) (label_rank k) (label_rank_below k v) (label_rank_rises l k w v h)
@@ -109,12 +90,6 @@ unfolding labels_left
 label_left l w = over label_bound (label_rank l) (label_rank_below l w)
 
 -- ---- keys
-
-name_bound : ℕ
-name_bound = 258 ^ most_name_bytes
-
-name_rank : Name → ℕ
-name_rank n = rank 258 most_name_bytes n
 
 small_name : (n : Name) → AllByRecursion IsByte n → Small 258 n
 small_name [] h = tt
@@ -128,12 +103,6 @@ name_rank_rises : (n m : Name) → IsKeyName n → IsKeyName m → slice_cmp nat
 unfolding name_rank
 name_rank_rises n m h g less = rank_rises 258 most_name_bytes n m (omega arith) (key_name_length n h) (key_name_length m g) (small_name n (key_name_bytes n h)) (small_name m (key_name_bytes m g)) less
 
-key_rank : Key → ℕ
-key_rank k = label_rank k.label * name_bound + name_rank k.name
-
-key_bound : ℕ
-key_bound = label_bound * name_bound
-
 -- a number of two digits, of which the second is below m
 carry : (a b i m : ℕ) → a < b → i < m → a * m + i < b * m
 carry a b i m h g =
@@ -141,11 +110,11 @@ carry a b i m h g =
     let d = suc-mul a m in
     omega (arith, n, d)
 
-key_rank_below : (k : Key) → IsLawfulKey k → key_rank k < key_bound
+key_rank_below : (k : Key) → IsValidKey k → key_rank k < key_bound
 unfolding key_rank key_bound
 key_rank_below k h = carry (label_rank k.label) label_bound (name_rank k.name) name_bound (label_rank_below k.label h.label.1) (name_rank_below k.name h.name)
 
-key_rank_rises : (k j : Key) → IsLawfulKey k → IsLawfulKey j → key_cmp k j ≡ Less → key_rank k < key_rank j
+key_rank_rises : (k j : Key) → IsValidKey k → IsValidKey j → key_cmp k j ≡ Less → key_rank k < key_rank j
 unfolding key_rank
 key_rank_rises k j h g less =
     elim (slice_cmp nat_cmp k.label j.label) as (λ o. slice_cmp nat_cmp k.label j.label ≡ o → ordering_then o (slice_cmp nat_cmp k.name j.name) ≡ Less → label_rank k.label * name_bound + name_rank k.name < label_rank j.label * name_bound + name_rank j.name) [
@@ -159,23 +128,16 @@ key_rank_rises k j h g less =
       | Greater ↦ λ _ v. cc
     ] refl less
 
--- how far a key is from the end of all keys, and from their beginning
-pub keys_left : Key → ℕ
-keys_left k = key_bound - key_rank k
-
-pub keys_before : Key → ℕ
-keys_before k = key_rank k + 1
-
 -- a later key is nearer to the end, an earlier one to the beginning
-pub key_nearer : (k j : Key) → IsLawfulKey k → IsLawfulKey j → key_cmp k j ≡ Less → keys_left j < keys_left k
+pub key_nearer : (k j : Key) → IsValidKey k → IsValidKey j → key_cmp k j ≡ Less → keys_left j < keys_left k
 unfolding keys_left
 key_nearer k j h g less = lower key_bound (key_rank k) (key_rank j) (key_rank_below j g) (key_rank_rises k j h g less)
 
-pub key_left : (k : Key) → IsLawfulKey k → 0 < keys_left k
+pub key_left : (k : Key) → IsValidKey k → 0 < keys_left k
 unfolding keys_left
 key_left k h = over key_bound (key_rank k) (key_rank_below k h)
 
-pub key_earlier : (k j : Key) → IsLawfulKey k → IsLawfulKey j → key_cmp j k ≡ Less → keys_before j < keys_before k
+pub key_earlier : (k j : Key) → IsValidKey k → IsValidKey j → key_cmp j k ≡ Less → keys_before j < keys_before k
 unfolding keys_before
 key_earlier k j h g less = let r = key_rank_rises j k g h less in omega (arith, r)
 

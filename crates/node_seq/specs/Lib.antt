@@ -1,3 +1,5 @@
-pub mod Causes
-pub mod Seqs
-pub mod Told
+-- words of public clauses
+pub mod Reads
+pub mod WalkSteps
+-- words that only the proof uses
+pub mod inside

@@ -1,12 +1,16 @@
 //! Finite maps from keys to records, in the order of the keys: the trait `NodeRead`, which reads one, and `SortedSeq`, which keeps one in a sorted vector.
-//! Each read answers exactly what the map has at a key, above it or below it; where a map isn't told, what is found still lies on that side and is a lawful key, so every walk ends.
-//! What the records mean is left to the crates above.
+//! Each read answers exactly what the map has at a key, above it or below it; where a map isn't known, what is found still lies on that side and is an entry that a valid tree may have.
+//! So every walk ends: `Walk` takes one entry after the other. `UnknownSeq` is a map that isn't known, for tests. What the records mean is left to the crates above.
 #![tactic(auto)]
 
 mod node_read;
 mod sorted_seq;
 #[cfg(test)]
 mod tests;
+mod unknown_seq;
+mod walk;
 
 pub use node_read::{NodeRead, SeqError};
 pub use sorted_seq::SortedSeq;
+pub use unknown_seq::{Answer, UnknownSeq};
+pub use walk::{Walk, entries_above, entries_below};

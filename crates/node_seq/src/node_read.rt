@@ -1,7 +1,9 @@
+//! Reading a finite map from keys to records, whatever keeps it.
 ghost use Rattle.std.specs.Prelude.{◌≡◌, ◌≤◌, ℕ, Option, Some, None, IfOk};
 ghost use Rattle.tree_model.specs.Entries.{Entries, Sorted, get, first_above, last_below};
-ghost use Rattle.node_seq.specs.Told.{Finds, LiesAbove, LiesBelow, LiesAtLawfulKey};
-ghost use Rattle.node_seq.specs.Causes.{HasCause};
+ghost use Rattle.node_seq.specs.Reads.{Finds, LiesAbove, LiesBelow, IsEntryOfTrees, IsRecordOfTrees};
+ghost use Rattle.node_seq.specs.declared.node_read.SeqError.TheVariants.{DiskFault};
+ghost use Rattle.outside_traits.specs.Faults.{HasCause};
 
 use dewey_labels::NoMemory;
 use std::alloc::{AllocError, AllocFailed, Global};
@@ -49,49 +51,50 @@ impl<T: Drop> From<AllocFailed<T>> for SeqError {
 
 /// A finite map from keys to records, in the order of the keys.
 ///
-/// `told` is the map, sorted by its keys, where what lies below tells its bytes. `count` is the count of faults.
-/// A map that isn't told answers only keys that a tree may have, so every walk by reads ends, told or not.
-/// `stays` holds of a value and the same value after reads: it tells the same map, and its count isn't lower.
+/// `contents` is the map where it is known. `count` is the count of faults.
+/// A map that isn't known answers only what a valid tree may have, so every walk by reads ends, known or not; what it answers may be another map's from read to read.
+/// `unchanged` holds of a value and the same value after reads: it has the same map, and its count isn't lower.
+/// A value that reads through others says of these that they are unchanged, so that who lent them learns it.
 pub trait NodeRead {
-    ghost told: { Self → Option Entries };
+    ghost contents: { Self → Option Entries };
 
     ghost count: { Self → ℕ };
 
-    ghost stays: { Self → Self → Type 0 };
+    ghost unchanged: { Self → Self → Type 0 };
 
     /// The record at a key.
     fn get(&mut self, alloc: Global, key: &Key) -> Result<Option<Record>, SeqError>
-        ensures value { Finds (told self.old) result (get key.now) }
-        ensures same { stays self.old self.new }
-        ensures cause { HasCause (count self.old) (count self.new) result };
+        ensures value { Finds (contents self.old) result (get key.now) }
+        ensures valid { contents self.old ≡ None → IfOk result IsRecordOfTrees }
+        ensures unchanged { unchanged self.old self.new }
+        ensures cause { HasCause DiskFault (count self.old) (count self.new) result };
 
     /// The entry with the least key above a key.
     fn next_from(&mut self, alloc: Global, key: &Key) -> Result<Option<(Key, Record)>, SeqError>
-        ensures value { Finds (told self.old) result (first_above key.now) }
-        ensures in_order { (es : Entries) → told self.old ≡ Some es → Sorted es }
+        ensures value { Finds (contents self.old) result (first_above key.now) }
         ensures above { IfOk result (LiesAbove key.now) }
-        ensures lawful { told self.old ≡ None → IfOk result LiesAtLawfulKey }
-        ensures same { stays self.old self.new }
-        ensures cause { HasCause (count self.old) (count self.new) result };
+        ensures valid { contents self.old ≡ None → IfOk result IsEntryOfTrees }
+        ensures unchanged { unchanged self.old self.new }
+        ensures cause { HasCause DiskFault (count self.old) (count self.new) result };
 
     /// The entry with the greatest key below a key.
     fn prev_from(&mut self, alloc: Global, key: &Key) -> Result<Option<(Key, Record)>, SeqError>
-        ensures value { Finds (told self.old) result (last_below key.now) }
-        ensures in_order { (es : Entries) → told self.old ≡ Some es → Sorted es }
+        ensures value { Finds (contents self.old) result (last_below key.now) }
         ensures below { IfOk result (LiesBelow key.now) }
-        ensures lawful { told self.old ≡ None → IfOk result LiesAtLawfulKey }
-        ensures same { stays self.old self.new }
-        ensures cause { HasCause (count self.old) (count self.new) result };
+        ensures valid { contents self.old ≡ None → IfOk result IsEntryOfTrees }
+        ensures unchanged { unchanged self.old self.new }
+        ensures cause { HasCause DiskFault (count self.old) (count self.new) result };
 
-    /// The count of faults.
+    /// The count of faults. It reads nothing, and tells that a known map is in the order of its keys.
     fn faults(&self) -> u64
-        ensures { result ≡ count self.now };
+        ensures count { result ≡ count self.now }
+        ensures in_order { (es : Entries) → contents self.now ≡ Some es → Sorted es };
 
-    ghost stays_itself: { (x : Self) → stays x x };
+    ghost unchanged_itself: { (x : Self) → unchanged x x };
 
-    ghost stays_on: { (x y z : Self) → stays x y → stays y z → stays x z };
+    ghost unchanged_onward: { (x y z : Self) → unchanged x y → unchanged y z → unchanged x z };
 
-    ghost keeps_told: { (x y : Self) → stays x y → told y ≡ told x };
+    ghost unchanged_contents: { (x y : Self) → unchanged x y → contents y ≡ contents x };
 
-    ghost counts_on: { (x y : Self) → stays x y → count x ≤ count y };
+    ghost unchanged_count: { (x y : Self) → unchanged x y → count x ≤ count y };
 }

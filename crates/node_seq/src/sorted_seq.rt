@@ -1,7 +1,8 @@
+//! A map in memory.
 ghost use Rattle.std.specs.Prelude.{◌≡◌, ◌≤◌, [], IfOk, OnOk, OnErr, MatchResult, option_copied};
 ghost use Rattle.tree_model.specs.Entries.{Sorted, get, first_above, last_below, put, del};
-ghost use Rattle.node_seq.specs.Seqs.{StandsAt, BelongsAt, before};
-ghost use Rattle.node_seq.specs.Told.{LiesAbove, LiesBelow};
+ghost use Rattle.node_seq.specs.inside.Seqs.{StandsAt, BelongsAt, before};
+ghost use Rattle.node_seq.specs.Reads.{LiesAbove, LiesBelow};
 
 use crate::{NodeRead, SeqError};
 use dewey_labels::{Copied, NoMemory};
@@ -168,11 +169,11 @@ impl NodeRead for SortedSeq {
     ghost use Rattle.std.specs.Prelude.{◌≡◌, refl, Some};
     ghost use Rattle.std.proofs.Common.{sym, ap, ◌∙◌, le_refl};
 
-    ghost told = { λ s. Some s };
+    ghost contents = { λ s. Some s };
 
     ghost count = { λ _. 0 };
 
-    ghost stays = { λ s t. s ≡ t };
+    ghost unchanged = { λ s t. s ≡ t };
 
     fn get(&mut self, alloc: Global, key: &Key) -> Result<Option<Record>, SeqError> {
         match self.record_at(key) {
@@ -190,14 +191,16 @@ impl NodeRead for SortedSeq {
     }
 
     fn faults(&self) -> u64 {
+        // They tell that the map is in order.
+        let _entries = self.entries();
         0
     }
 
-    ghost stays_itself = { λ s. refl };
+    ghost unchanged_itself = { λ s. refl };
 
-    ghost stays_on = { λ s t u a b. a ∙ b };
+    ghost unchanged_onward = { λ s t u a b. a ∙ b };
 
-    ghost keeps_told = { λ s t a. ap Some (sym a) };
+    ghost unchanged_contents = { λ s t a. ap Some (sym a) };
 
-    ghost counts_on = { λ s t a. le_refl 0 };
+    ghost unchanged_count = { λ s t a. le_refl 0 };
 }

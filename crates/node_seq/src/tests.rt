@@ -1,52 +1,9 @@
-ghost use Rattle.std.proofs.Common.{◌≡◌, filter, reverse, is_lt, IfOk, Some};
-ghost use Rattle.tree_model.specs.Entries.{Entries};
-ghost use Rattle.tree_model.specs.Keys.{key_cmp};
-ghost use Rattle.tree_model.proofs.Entries.{beyond};
-ghost use Rattle.node_seq.specs.Causes.{HasCause};
-
-use crate::{NodeRead, SeqError, SortedSeq};
+//! Maps and walks over them, as tables worked by hand.
+use crate::{Answer, NodeRead, SeqError, SortedSeq, UnknownSeq, entries_above, entries_below};
 use dewey_labels::{Label, List, Text};
 use std::alloc::Global;
 use std::test::Fail;
 use tree_model::{Key, Record};
-
-/// All entries above a key, by one read after another.
-fn entries_above<S: NodeRead>(
-    alloc: Global,
-    key: &Key,
-    seq: &mut S,
-) -> Result<List<(Key, Record)>, SeqError>
-    ensures value { IfOk result (λ found. (es : Entries) → S.told seq.old ≡ Some es → found ≡ beyond key.now es) }
-    ensures same { S.stays seq.old seq.new }
-    ensures cause { HasCause (S.count seq.old) (S.count seq.new) result }
-{
-    let mut out = List::new(alloc);
-    let mut found = seq.next_from(alloc, key)?;
-    while let Some((at, record)) = found {
-        found = seq.next_from(alloc, &at)?;
-        out.push((at, record))?;
-    }
-    Ok(out)
-}
-
-/// All entries below a key, from the nearest to the first, by one read after another.
-fn entries_below<S: NodeRead>(
-    alloc: Global,
-    key: &Key,
-    seq: &mut S,
-) -> Result<List<(Key, Record)>, SeqError>
-    ensures value { IfOk result (λ found. (es : Entries) → S.told seq.old ≡ Some es → found ≡ reverse (filter (λ e. is_lt (key_cmp e.0 key.now)) es)) }
-    ensures same { S.stays seq.old seq.new }
-    ensures cause { HasCause (S.count seq.old) (S.count seq.new) result }
-{
-    let mut out = List::new(alloc);
-    let mut found = seq.prev_from(alloc, key)?;
-    while let Some((at, record)) = found {
-        found = seq.prev_from(alloc, &at)?;
-        out.push((at, record))?;
-    }
-    Ok(out)
-}
 
 fn key(alloc: Global, divisions: &[u32], name: &str) -> Result<Key, Fail> {
     let divisions = List::from_vec(Vec::from_slice(alloc, divisions)?);
@@ -145,7 +102,7 @@ fn a_key_that_no_tree_may_have_is_kept_and_met(rt: HostRuntime) -> Result<(), Fa
     let alloc = rt.alloc();
     let mut seq = small_map(alloc)?;
     let odd = key(alloc, &[1, 1001], "1")?;
-    assert!(rt; !odd.is_lawful());
+    assert!(rt; !odd.is_valid());
     let _old = seq.put(alloc, odd, Record::Attr(Text::of(alloc, "5")?))?;
     let document = key(alloc, &[1, 1001], "")?;
     let next = seq.next_from(alloc, &document)?;
@@ -171,5 +128,116 @@ fn a_put_answers_the_old_record_and_a_del_takes_it_out(rt: HostRuntime) -> Resul
     let left = entries_above(alloc, &start, &mut seq)?;
     assert_eq!(rt; left.len(), 3);
     assert_eq!(rt; seq.faults(), 0);
+    Ok(())
+}
+
+/// An answer of a map that isn't known, for a table: an element with a name at a key, nothing or a fault.
+#[derive(Drop)]
+enum AnswerRow {
+    Element(&'static [u32], &'static str, &'static str),
+    Nothing,
+    Fault,
+}
+
+fn answers(alloc: Global, rows: &[AnswerRow]) -> Result<Vec<Answer>, Fail> {
+    let mut out = Vec::new(alloc);
+    for row in rows {
+        let answer = match row {
+            AnswerRow::Element(divisions, at, name) => {
+                let element = Record::Element(Text::of(alloc, name)?);
+                Answer::Found(key(alloc, divisions, at)?, element)
+            }
+            AnswerRow::Nothing => Answer::Nothing,
+            AnswerRow::Fault => Answer::Fault,
+        };
+        out.push(answer)?;
+    }
+    Ok(out)
+}
+
+/// How a walk over all entries above the root's key ends, and the faults that were counted.
+fn walked(alloc: Global, rows: &[AnswerRow]) -> Result<(Option<usize>, u64), Fail> {
+    let start = key(alloc, &[1], "")?;
+    let answers = answers(alloc, rows)?;
+    let mut seq = UnknownSeq { answers, faults: 0 };
+    let found = match entries_above(alloc, &start, &mut seq) {
+        Ok(entries) => Some(entries.len()),
+        Err(SeqError::DiskFault) => None,
+        Err(SeqError::NoMemory) => return Err(Fail::from("out of memory")),
+    };
+    Ok((found, seq.faults()))
+}
+
+/// The answers of the reads, the entries that a walk meets, if no read fails, and the faults.
+const WALKS: [(&[AnswerRow], Option<usize>, u64); 8] = [
+    (&[], Some(0), 0),
+    (
+        &[
+            AnswerRow::Element(&[1, 1001], "", "a"),
+            AnswerRow::Element(&[1, 1001, 1001], "", "b"),
+        ],
+        Some(2),
+        0,
+    ),
+    // A key that doesn't lie above the last one ends the walk.
+    (
+        &[
+            AnswerRow::Element(&[1, 1001], "", "a"),
+            AnswerRow::Element(&[1, 1001], "", "a"),
+            AnswerRow::Element(&[1, 1003], "", "a"),
+        ],
+        Some(1),
+        0,
+    ),
+    // So do a key and a record that no tree may have.
+    (&[AnswerRow::Element(&[1, 1001], "1", "a")], Some(0), 0),
+    (&[AnswerRow::Element(&[1, 1001], "", "1a")], Some(0), 0),
+    (
+        &[AnswerRow::Nothing, AnswerRow::Element(&[1, 1001], "", "a")],
+        Some(0),
+        0,
+    ),
+    (&[AnswerRow::Fault], None, 1),
+    (
+        &[
+            AnswerRow::Element(&[1, 1001], "", "a"),
+            AnswerRow::Fault,
+            AnswerRow::Element(&[1, 1003], "", "a"),
+        ],
+        None,
+        1,
+    ),
+];
+
+#[test]
+fn a_walk_over_a_map_that_isnt_known_ends_or_answers_the_fault(
+    rt: HostRuntime,
+) -> Result<(), Fail> {
+    for (row, (answers, found, faults)) in WALKS.iter().enumerate() {
+        let (met, counted) = walked(rt.alloc(), answers)?;
+        assert_eq!(rt; met, *found, "entries of row {row}");
+        assert_eq!(rt; counted, *faults, "faults of row {row}");
+    }
+    Ok(())
+}
+
+#[test]
+fn a_map_that_isnt_known_may_answer_otherwise_each_time(rt: HostRuntime) -> Result<(), Fail> {
+    let alloc = rt.alloc();
+    let rows = [
+        AnswerRow::Element(&[1, 1001, 1001], "", "a"),
+        AnswerRow::Nothing,
+        AnswerRow::Element(&[1, 1001, 1001], "", "b"),
+        AnswerRow::Element(&[1, 1001, 1001], "", "b"),
+    ];
+    let at = key(alloc, &[1, 1001, 1001], "")?;
+    let end = key(alloc, &[1, 1003], "")?;
+    let mut seq = UnknownSeq {
+        answers: answers(alloc, &rows)?,
+        faults: 0,
+    };
+    assert!(rt; seq.get(alloc, &at)?.is_some());
+    assert!(rt; seq.get(alloc, &at)?.is_none());
+    assert_eq!(rt; entries_below(alloc, &end, &mut seq)?.len(), 1);
     Ok(())
 }

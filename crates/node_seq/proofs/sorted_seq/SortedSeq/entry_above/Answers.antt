@@ -1,5 +1,5 @@
 use Rattle.std.proofs.Common.{◌≡◌, ◌+◌, slice_get, option_copied, sym, ap, subst, ◌∙◌}
-use Rattle.node_seq.specs.Seqs.{StandsAt, BelongsAt}
+use Rattle.node_seq.specs.inside.Seqs.{StandsAt, BelongsAt}
 use Rattle.node_seq.proofs.Cuts.{first_above_stands, first_above_belongs, found_above, looked_up}
 use Rattle.node_seq.proofs.sorted_seq.SortedSeq.entry_above.Goals as goal
 

@@ -1,5 +1,5 @@
 use Rattle.std.proofs.Common.{option_copied, sym, ap, subst, ◌∙◌}
-use Rattle.node_seq.specs.Seqs.{StandsAt, BelongsAt, before}
+use Rattle.node_seq.specs.inside.Seqs.{StandsAt, BelongsAt, before}
 use Rattle.node_seq.proofs.Cuts.{last_below_stands, last_below_belongs, found_below}
 use Rattle.node_seq.proofs.sorted_seq.SortedSeq.entry_below.Goals as goal
 

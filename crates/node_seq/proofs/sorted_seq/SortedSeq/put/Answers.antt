@@ -3,7 +3,7 @@ use Rattle.tree_model.specs.declared.key.Key.{Key}
 use Rattle.tree_model.specs.declared.record.Record.{Record}
 use Rattle.tree_model.specs.Entries.{Sorted}
 use Rattle.tree_model.proofs.Entries.{sorted_put}
-use Rattle.node_seq.specs.Seqs.{StandsAt, BelongsAt}
+use Rattle.node_seq.specs.inside.Seqs.{StandsAt, BelongsAt}
 use Rattle.node_seq.proofs.Cuts.{get_stands, get_belongs, put_stands, put_belongs}
 use Rattle.node_seq.proofs.sorted_seq.SortedSeq.put.Goals as goal
 

@@ -1,7 +1,7 @@
 use Rattle.std.proofs.Common.{◌≡◌, Some, get_or, sym, ap, subst, ◌∙◌}
 use Rattle.tree_model.specs.declared.key.Key.{Key}
 use Rattle.tree_model.specs.declared.record.Record.{Record}
-use Rattle.node_seq.specs.Seqs.{StandsAt, BelongsAt}
+use Rattle.node_seq.specs.inside.Seqs.{StandsAt, BelongsAt}
 use Rattle.node_seq.proofs.Cuts.{get_stands, get_belongs}
 use Rattle.node_seq.proofs.sorted_seq.SortedSeq.record_at.Goals as goal
 
