@@ -6,12 +6,13 @@ use Rattle.std.specs.List.{AllByRecursion}
 use Rattle.tree_model.specs.declared.change.Change.{Change}
 use Rattle.tree_model.specs.declared.key.Key.{Key}
 use Rattle.tree_model.specs.declared.record.Record.{Record}
-use Rattle.node_records.specs.Reads.{◌>>=◌, IsBytes}
+use Rattle.node_records.specs.Reads.{◌>>=◌}
+use Rattle.outside_traits.specs.Bytes.{IsBytes}
 use Rattle.node_records.specs.Changes.{bytes_of, change_bytes, change_in, IsWritableChange, changes_bytes, changes_from, changes_of}
 use Rattle.node_records.proofs.ReadLaws.{bind_some, bytes_drop}
 use Rattle.node_records.proofs.ChangeLaws.{change_again, change_written}
 
--- the change at the front is the first one
+-- the change at the start is the first one
 one_more : (n : ℕ) (bytes : List ℕ) (y : Change × ℕ) → change_in bytes ≡ Some y → changes_from (suc n) bytes ≡ (changes_from n (drop y.1 bytes) >>= λ cs. Some (y.0 ∷ cs))
 one_more n [] y e = absurd (none-some y e)
 one_more n (b ∷ bs) y e = ap (λ r. r >>= λ c. changes_from n (drop c.1 (b ∷ bs)) >>= λ cs. Some (c.0 ∷ cs)) e

@@ -8,7 +8,8 @@ use Rattle.tree_model.specs.Keys.{key_at}
 use Rattle.node_records.specs.Divisions.{division_bytes, division_in}
 use Rattle.node_records.specs.Labels.{label_in}
 use Rattle.node_records.specs.Records.{record_of}
-use Rattle.node_records.specs.Changes.{change_at, changes_bytes, changes_of, keys_rise}
+use Rattle.node_records.specs.Changes.{change_at, changes_bytes, changes_of}
+use Rattle.tree_model.specs.Changes.{keys_rise}
 
 last_of_one : division_bytes 127 ≡ 0x7F ∷ []
 last_of_one = refl

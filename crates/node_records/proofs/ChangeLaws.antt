@@ -8,9 +8,11 @@ use Rattle.byteorder.specs.Endian.{big_bytes, big_number}
 use Rattle.tree_model.specs.declared.change.Change.{Change}
 use Rattle.tree_model.specs.declared.key.Key.{Key}
 use Rattle.tree_model.specs.declared.record.Record.{Record}
-use Rattle.node_records.specs.Reads.{◌>>=◌, number_in, IsBytes, Takes}
+use Rattle.node_records.specs.Reads.{◌>>=◌, number_in, Takes}
+use Rattle.outside_traits.specs.Bytes.{IsBytes}
 use Rattle.node_records.specs.Keys.{key_bytes, key_in, IsWritable}
-use Rattle.node_records.specs.Records.{record_bytes, record_of, HasText}
+use Rattle.node_records.specs.Records.{record_bytes, record_of}
+use Rattle.tree_model.specs.Records.{HasText}
 use Rattle.node_records.specs.Changes.{sized_record, change_at, bytes_of, change_bytes, sized_record_in, put_in, delete_in, change_in, Fits, IsWritableChange}
 use Rattle.node_records.proofs.ReadLaws.{bind_some, takes_then, bytes_drop}
 use Rattle.node_records.proofs.KeyLaws.{key_again, key_written}

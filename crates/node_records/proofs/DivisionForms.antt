@@ -7,7 +7,8 @@ use Rattle.std.proofs.lemmas.Bool.{cases_lt, ltb-false, lt-ltb, le-ltb, ltb-true
 use Rattle.std.proofs.lemmas.Option.{none-some, same_Some}
 use Rattle.std.specs.Cmp.{tied_itself, nat_cmp_total}
 use Rattle.byteorder.specs.Endian.{big_bytes, big_number}
-use Rattle.node_records.specs.Reads.{IsBytes, Takes}
+use Rattle.node_records.specs.Reads.{Takes}
+use Rattle.outside_traits.specs.Bytes.{IsBytes}
 use Rattle.node_records.specs.Divisions.{division_bytes, division_in}
 
 -- the bytes of each form
@@ -174,12 +175,12 @@ pub number_itself : (a : ℕ) → nat_cmp a a ≡ Equal
 number_itself a = tied_itself nat_cmp_total a
 
 -- what two lists that begin alike compare as
-pub same_front : (p xs ys : List ℕ) → slice_cmp nat_cmp (p ++ xs) (p ++ ys) ≡ slice_cmp nat_cmp xs ys
-same_front [] xs ys = refl
-same_front (a ∷ p) xs ys = ap (λ o. ordering_then o (slice_cmp nat_cmp (p ++ xs) (p ++ ys))) (number_itself a) ∙ same_front p xs ys
+pub same_prefix : (p xs ys : List ℕ) → slice_cmp nat_cmp (p ++ xs) (p ++ ys) ≡ slice_cmp nat_cmp xs ys
+same_prefix [] xs ys = refl
+same_prefix (a ∷ p) xs ys = ap (λ o. ordering_then o (slice_cmp nat_cmp (p ++ xs) (p ++ ys))) (number_itself a) ∙ same_prefix p xs ys
 
 next_less : (a b : ℕ) (xs ys : List ℕ) → a ≡ b → IsLess xs ys → IsLess (a ∷ xs) (b ∷ ys)
-next_less a b xs ys e h = subst (λ (x : ℕ). IsLess (a ∷ xs) (x ∷ ys)) e (same_front (a ∷ []) xs ys ∙ h)
+next_less a b xs ys e h = subst (λ (x : ℕ). IsLess (a ∷ xs) (x ∷ ys)) e (same_prefix (a ∷ []) xs ys ∙ h)
 
 -- numbers of two bytes, three and four; bytes above these don't count
 two_less : (n m : ℕ) (s t : List ℕ) → n % 65536 < m % 65536 → IsLess (big_bytes 2 n ++ s) (big_bytes 2 m ++ t)

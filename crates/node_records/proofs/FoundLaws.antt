@@ -1,13 +1,15 @@
--- What an exact read says of the grammar: what was found stands at the front, and where nothing was found nothing does.
+-- What an exact read says of the grammar: what was found stands at the start, and where nothing was found nothing does.
 use Rattle.std.proofs.Common.{◌≡◌, ℕ, List, ◌++◌, length, Option, Some, None, sym, ap, ◌∙◌}
 use Rattle.std.proofs.lemmas.Option.{none-some}
 use Rattle.std.specs.Prelude.{IfSome, IfNone}
 use Rattle.tree_model.specs.declared.change.Change.{Change}
 use Rattle.tree_model.specs.declared.key.Key.{Key}
 use Rattle.tree_model.specs.declared.record.Record.{Record}
-use Rattle.node_records.specs.Reads.{IsBytes, Takes}
+use Rattle.node_records.specs.Reads.{Takes}
+use Rattle.outside_traits.specs.Bytes.{IsBytes}
 use Rattle.node_records.specs.Keys.{key_bytes, key_in, IsWritable}
-use Rattle.node_records.specs.Records.{record_bytes, record_of, HasText}
+use Rattle.node_records.specs.Records.{record_bytes, record_of}
+use Rattle.tree_model.specs.Records.{HasText}
 use Rattle.node_records.specs.Changes.{change_bytes, change_in, IsWritableChange}
 use Rattle.node_records.proofs.KeyLaws.{key_again, key_written}
 use Rattle.node_records.proofs.RecordLaws.{record_again, record_written}

@@ -1,4 +1,4 @@
--- The bytes of a key: what is written is read again, what is read was written so; a lawful key is one that its bytes tell.
+-- The bytes of a key: what is written is read again, what is read was written so; a valid key is one that its bytes tell.
 use Rattle.std.proofs.Common.{◌≡◌, ℕ, zero, suc, ◌+◌, ◌<◌, ◌/◌, ◌%◌, Bool, true, false, cond, ◌&&◌, not, nat_le, ltb, eqb, ◌==◌, List, [], ◌∷◌, ◌++◌, length, take, drop, Some, None, refl, sym, ap, subst, ◌∙◌, append_assoc, arith, length-append, lt-ltb, ltb-true, ⊎_elim}
 use Rattle.std.proofs.Math.Utf8.{encode, encodes}
 use Rattle.std.proofs.lemmas.Bool.{eqb-true, eqb-false}
@@ -9,10 +9,11 @@ use Rattle.std.specs.Prelude.{if◌then◌else◌}
 use Rattle.std.specs.List.{AllByRecursion, list_all, position, position_or_len}
 use Rattle.std.specs.Str.{chars, is_utf8}
 use Rattle.tree_model.specs.declared.key.Key.{Key}
-use Rattle.tree_model.specs.Keys.{IsKeyName, IsLawfulKey, key_at}
+use Rattle.tree_model.specs.Keys.{IsKeyName, IsValidKey, key_at}
 use Rattle.tree_model.specs.Limits.{most_name_bytes}
 use Rattle.tree_model.specs.Names.{Name, is_start_char, is_name_char, begins_name, are_name_chars, is_name}
-use Rattle.node_records.specs.Reads.{◌>>=◌, IsBytes, Takes, text_of}
+use Rattle.node_records.specs.Reads.{◌>>=◌, Takes, text_of}
+use Rattle.outside_traits.specs.Bytes.{IsBytes}
 use Rattle.node_records.specs.Labels.{label_bytes, label_in}
 use Rattle.node_records.specs.Keys.{key_bytes, name_in, key_in, IsWritable}
 use Rattle.node_records.proofs.ReadLaws.{bind_some, takes_then, both}
@@ -120,7 +121,7 @@ key_written bytes y fits e =
     let writable : IsWritable (key_at l.0 n.0) = record { label = label.1; utf8 = name.utf8; no_zero = name.no_zero } in
     subst (λ (x : Key × ℕ). Takes (key_bytes x.0) x.1 bytes × IsWritable x.0) (same_Some (key_at l.0 n.0, l.1 + n.1) y q.2) (takes_then (label_bytes l.0) (n.0 ++ 0 ∷ []) bytes l.1 n.1 label.0 name.takes, writable)
 
--- ---- lawful keys
+-- ---- valid keys
 
 name_char : (c : ℕ) → is_name_char c ≡ true → 0 < c
 unfolding is_name_char is_start_char
@@ -163,5 +164,5 @@ name_writable n h =
 key_name_writable : (n : Name) → IsKeyName n → (is_utf8 n ≡ true) × NoZero n
 key_name_writable n named = ⊎_elim (λ empty. subst (λ (x : Name). (is_utf8 x ≡ true) × NoZero x) (sym empty) (is_utf8-from_IsUtf8 [] IsUtf8-nil, tt)) (λ name. name_writable n name) named
 
-pub lawful_writable : (k : Key) → IsLawfulKey k → IsWritable k
-lawful_writable k h = let n = key_name_writable k.name h.name in record { label = h.label; utf8 = n.0; no_zero = n.1 }
+pub valid_writable : (k : Key) → IsValidKey k → IsWritable k
+valid_writable k h = let n = key_name_writable k.name h.name in record { label = h.label; utf8 = n.0; no_zero = n.1 }

@@ -9,7 +9,7 @@ use Rattle.tree_model.specs.declared.key.Key.{Key}
 use Rattle.tree_model.specs.Keys.{key_cmp}
 use Rattle.node_records.specs.Divisions.{division_bytes}
 use Rattle.node_records.specs.Keys.{key_bytes, IsWritable}
-use Rattle.node_records.proofs.DivisionForms.{IsLess, first_less, same_front, division_less, end_less}
+use Rattle.node_records.proofs.DivisionForms.{IsLess, first_less, same_prefix, division_less, end_less}
 use Rattle.node_records.proofs.LabelLaws.{IsDivision, divisions_are}
 use Rattle.node_records.proofs.KeyLaws.{NoZero}
 
@@ -43,8 +43,8 @@ labels_sort (d ∷ l) (e ∷ m) s t h g =
             turned (division_bytes d ++ left) (division_bytes e ++ right) (division_less e d right left gt h.0.1) ∙ sym (ap (λ o. ordering_then o (slice_cmp nat_cmp s t)) labels)
         | inr le ↦
             let same : d ≡ e = omega (arith, ge, le) in
-            let labels : slice_cmp nat_cmp (d ∷ l) (e ∷ m) ≡ slice_cmp nat_cmp l m = ap (λ (x : ℕ). slice_cmp nat_cmp (d ∷ l) (x ∷ m)) (sym same) ∙ same_front (d ∷ []) l m in
-            ap (λ (x : ℕ). slice_cmp nat_cmp (division_bytes d ++ left) (division_bytes x ++ right)) (sym same) ∙ same_front (division_bytes d) left right ∙ labels_sort l m s t h.1 g.1 ∙ sym (ap (λ o. ordering_then o (slice_cmp nat_cmp s t)) labels)
+            let labels : slice_cmp nat_cmp (d ∷ l) (e ∷ m) ≡ slice_cmp nat_cmp l m = ap (λ (x : ℕ). slice_cmp nat_cmp (d ∷ l) (x ∷ m)) (sym same) ∙ same_prefix (d ∷ []) l m in
+            ap (λ (x : ℕ). slice_cmp nat_cmp (division_bytes d ++ left) (division_bytes x ++ right)) (sym same) ∙ same_prefix (division_bytes d) left right ∙ labels_sort l m s t h.1 g.1 ∙ sym (ap (λ o. ordering_then o (slice_cmp nat_cmp s t)) labels)
       ]
     ]
 

@@ -5,13 +5,15 @@ use Rattle.std.proofs.lemmas.List.{drop_at}
 use Rattle.std.proofs.lemmas.Option.{none-some, same_Some, cond_some}
 use Rattle.std.specs.Prelude.{if◌then◌else◌}
 use Rattle.std.specs.List.{AllByRecursion, flat_map}
-use Rattle.dewey_labels.specs.Labels.{Label, IsLabel, is_odd, is_empty, are_codes, greatest}
-use Rattle.node_records.specs.Reads.{◌>>=◌, IsBytes, Takes}
+use Rattle.dewey_labels.specs.Labels.{Label, IsLabel, is_label_within, is_odd, are_codes, greatest}
+use Rattle.dewey_labels.proofs.Limits.{label_of_test, test_of_label}
+use Rattle.dewey_labels.specs.Lists.{is_empty}
+use Rattle.node_records.specs.Reads.{◌>>=◌, Takes}
+use Rattle.outside_traits.specs.Bytes.{IsBytes}
 use Rattle.node_records.specs.Divisions.{division_bytes, division_in}
-use Rattle.node_records.specs.Labels.{label_bytes, divisions_in, is_within, label_in}
+use Rattle.node_records.specs.Labels.{label_bytes, divisions_in, label_in}
 use Rattle.node_records.proofs.ReadLaws.{bind_some, takes_then, bytes_drop, both}
 use Rattle.node_records.proofs.DivisionForms.{forms, division_again, division_written}
-use Rattle.node_records.proofs.LabelReads.{within_is, is_label_within}
 
 -- a division that a label may have
 abbrev pub IsDivision : ℕ → Type 0
@@ -41,7 +43,7 @@ begins d t h = forms (λ x. (0 < length (x ++ t)) × (get_or (x ++ t) 0 0 ≡ 0 
     (λ low high. (omega arith, λ e. omega (arith, e)))
     (λ low. (omega arith, λ e. omega (arith, e)))
 
--- the division at the front is the first one
+-- the division at the start is the first one
 one_more : (n : ℕ) (rest : List ℕ) (d : ℕ × ℕ) → 0 < length rest → (get_or rest 0 0 ≡ 0 → ⊥) → division_in rest ≡ Some d
     → divisions_in (suc n) rest ≡ (divisions_in n (drop d.1 rest) >>= λ ds. Some (d.0 ∷ ds.0, d.1 + ds.1))
 one_more n [] d some nonzero h = absurd (omega (arith, some))
@@ -70,8 +72,8 @@ label_again l rest h =
     let all = flat_map division_bytes l in
     let counts : length all + 1 ≡ length (all ++ 0 ∷ []) = omega (arith, length-append all (0 ∷ [])) in
     ap label_in (append_assoc all (0 ∷ []) rest)
-    ∙ ap (λ r. r >>= λ ds. if is_within ds.0 then Some ds else None) (divisions_again l 256 rest (divisions_are l h) (omega (arith, h.1.0)))
-    ∙ ap (λ b. if b then Some (l, length all + 1) else None) (within_is l h)
+    ∙ ap (λ r. r >>= λ ds. if is_label_within ds.0 then Some ds else None) (divisions_again l 256 rest (divisions_are l h) (omega (arith, h.1.0)))
+    ∙ ap (λ b. if b then Some (l, length all + 1) else None) (test_of_label l h)
     ∙ ap (λ (k : ℕ). Some (l, k)) counts
 
 -- ---- what is read was written so
@@ -95,6 +97,6 @@ divisions_written (suc n) (suc b ∷ bs) y fits e =
 
 pub label_written : (bytes : List ℕ) (y : Label × ℕ) → IsBytes bytes → label_in bytes ≡ Some y → Takes (label_bytes y.0) y.1 bytes × IsLabel y.0
 label_written bytes y fits e =
-    let p = bind_some (divisions_in 256 bytes) (λ ds. if is_within ds.0 then Some ds else None) y e in
-    let g = cond_some (is_within p.0.0) p.0 y p.2 in
-    subst (λ (x : Label × ℕ). Takes (label_bytes x.0) x.1 bytes × IsLabel x.0) g.1 (divisions_written 256 bytes p.0 fits p.1, is_label_within p.0.0 g.0)
+    let p = bind_some (divisions_in 256 bytes) (λ ds. if is_label_within ds.0 then Some ds else None) y e in
+    let g = cond_some (is_label_within p.0.0) p.0 y p.2 in
+    subst (λ (x : Label × ℕ). Takes (label_bytes x.0) x.1 bytes × IsLabel x.0) g.1 (divisions_written 256 bytes p.0 fits p.1, label_of_test p.0.0 g.0)

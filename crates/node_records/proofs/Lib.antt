@@ -3,7 +3,7 @@ mod ByteRows
 pub mod ChangeLaws
 pub mod DivisionForms
 mod FoundLaws
-mod Fronts
+mod Prefixes
 pub mod KeyLaws
 pub mod KeyOrder
 pub mod LabelLaws

@@ -7,7 +7,8 @@ use Rattle.std.specs.Str.{is_utf8}
 use Rattle.tree_model.specs.declared.record.Record.{Record}
 use Rattle.tree_model.specs.declared.record.Record.TheVariants.{Document, Element, Text, Attr}
 use Rattle.node_records.specs.Reads.{◌>>=◌, text_of}
-use Rattle.node_records.specs.Records.{record_bytes, document_of, record_of, HasText}
+use Rattle.node_records.specs.Records.{record_bytes, document_of, record_of}
+use Rattle.tree_model.specs.Records.{HasText}
 use Rattle.node_records.proofs.ReadLaws.{bind_some}
 
 pub record_again : (r : Record) → HasText r → record_of (record_bytes r) ≡ Some r

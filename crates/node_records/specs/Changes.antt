@@ -1,15 +1,14 @@
 -- The bytes of changes (docs/FILE_FORMAT.md, "Changes").
-use Rattle.std.specs.Prelude.{ℕ, Bool, true, ◌&&◌, zero, suc, ◌+◌, ◌^◌, ◌<◌, nat_lt, ◌==◌, if◌then◌else◌, List, [], ◌∷◌, ◌++◌, length, take, drop, Option, Some, None}
+use Rattle.std.specs.Prelude.{ℕ, zero, suc, ◌+◌, ◌^◌, ◌<◌, nat_lt, ◌==◌, if◌then◌else◌, List, [], ◌∷◌, ◌++◌, length, take, drop, Option, Some, None}
 use Rattle.std.specs.List.{flat_map}
-use Rattle.std.specs.Ordering.{is_lt}
 use Rattle.byteorder.specs.Endian.{big_bytes}
-use Rattle.tree_model.specs.Keys.{key_cmp}
 use Rattle.tree_model.specs.declared.change.Change.{Change}
 use Rattle.tree_model.specs.declared.key.Key.{Key}
 use Rattle.tree_model.specs.declared.record.Record.{Record}
 use Rattle.node_records.specs.Reads.{◌>>=◌, number_in}
 use Rattle.node_records.specs.Keys.{key_bytes, key_in, IsWritable}
-use Rattle.node_records.specs.Records.{record_bytes, record_of, HasText}
+use Rattle.node_records.specs.Records.{record_bytes, record_of}
+use Rattle.tree_model.specs.Records.{HasText}
 
 -- the length of a record in four bytes, then the record
 abbrev pub sized_record : Record → List ℕ
@@ -28,7 +27,7 @@ bytes_of k None = 2 ∷ key_bytes k
 abbrev pub change_bytes : Change → List ℕ
 change_bytes c = bytes_of c.key c.now
 
--- the record at the front, its length before it
+-- the record at the start, its length before it
 abbrev pub sized_record_in : List ℕ → Option (Record × ℕ)
 sized_record_in bytes =
     number_in 4 bytes >>= λ n.
@@ -43,7 +42,7 @@ put_in bytes = key_in bytes >>= λ k. sized_record_in (drop k.1 bytes) >>= λ r.
 abbrev pub delete_in : List ℕ → Option (Change × ℕ)
 delete_in bytes = key_in bytes >>= λ k. Some (change_at k.0 None, 1 + k.1)
 
--- the change at the front
+-- the change at the start
 abbrev pub change_in : List ℕ → Option (Change × ℕ)
 change_in [] = None
 change_in (b ∷ bs) = if b == 1 then put_in bs else if b == 2 then delete_in bs else None
@@ -73,13 +72,3 @@ changes_from (suc n) (b ∷ bs) = change_in (b ∷ bs) >>= λ c. changes_from n 
 -- the changes that all of the bytes are; each takes a byte at least
 abbrev pub changes_of : List ℕ → Option (List Change)
 changes_of bytes = changes_from (length bytes) bytes
-
--- whether keys rise strictly, the first above k
-abbrev pub rise_above : Key → List Change → Bool
-rise_above k [] = true
-rise_above k (c ∷ cs) = is_lt (key_cmp k c.key) && rise_above c.key cs
-
--- whether keys rise strictly
-abbrev pub keys_rise : List Change → Bool
-keys_rise [] = true
-keys_rise (c ∷ cs) = rise_above c.key cs

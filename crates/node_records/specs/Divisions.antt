@@ -11,7 +11,7 @@ division_bytes d =
     if nat_lt d 2_113_664 then big_bytes 3 (0xC0_0000 + (d - 16_512)) else
     0xE0 ∷ big_bytes 4 d
 
--- the division at the front: its first byte says which form it has; five bytes aren't for one that has a shorter form
+-- the division at the start: its first byte says which form it has; five bytes aren't for one that has a shorter form
 abbrev pub division_in : List ℕ → Option (ℕ × ℕ)
 division_in [] = None
 division_in (b ∷ bs) =

@@ -14,11 +14,11 @@ use Rattle.node_records.specs.Labels.{label_bytes, label_in}
 abbrev pub key_bytes : Key → List ℕ
 key_bytes k = label_bytes k.label ++ (k.name ++ 0 ∷ [])
 
--- the name at the front: UTF-8 up to the first 00
+-- the name at the start: UTF-8 up to the first 00
 abbrev pub name_in : List ℕ → Option (Name × ℕ)
 name_in bytes = position (λ b. b == 0) bytes >>= λ n. text_of (take n bytes) >>= λ name. Some (name, n + 1)
 
--- the key at the front
+-- the key at the start
 abbrev pub key_in : List ℕ → Option (Key × ℕ)
 key_in bytes = label_in bytes >>= λ l. name_in (drop l.1 bytes) >>= λ n. Some (key_at l.0 n.0, l.1 + n.1)
 

@@ -1,6 +1,5 @@
 -- The bytes of a record (docs/FILE_FORMAT.md, "Records").
-use Rattle.std.specs.Prelude.{ℕ, ◌==◌, if◌then◌else◌, List, [], ◌∷◌, length, Option, Some, None, IsTrue}
-use Rattle.std.specs.Str.{is_utf8}
+use Rattle.std.specs.Prelude.{ℕ, ◌==◌, if◌then◌else◌, List, [], ◌∷◌, length, Option, Some, None}
 use Rattle.tree_model.specs.declared.record.Record.{Record}
 use Rattle.tree_model.specs.declared.record.Record.TheVariants.{Document, Element, Text, Attr}
 use Rattle.node_records.specs.Reads.{◌>>=◌, text_of}
@@ -30,10 +29,3 @@ record_of (kind ∷ bytes) =
 -- the same with the number of bytes that it takes, which is all of them
 abbrev pub record_in : List ℕ → Option (Record × ℕ)
 record_in bytes = record_of bytes >>= λ r. Some (r, length bytes)
-
--- the name, data or value is UTF-8, as every text is
-abbrev pub HasText : Record → Type 0
-HasText Document = Unit {0}
-HasText (Element name) = IsTrue (is_utf8 name)
-HasText (Text t) = IsTrue (is_utf8 t)
-HasText (Attr value) = IsTrue (is_utf8 value)

@@ -1,8 +1,10 @@
+//! The divisions of a label, in one, two, three or five bytes, so that they sort as their bytes do.
 ghost use Rattle.std.specs.Prelude.{◌≡◌, ◌≤◌, ◌++◌, length, IfSome, OnOk, OnErr};
 ghost use Rattle.node_records.specs.Divisions.{division_bytes, division_in};
 
 use byteorder::{BigEndian, ByteOrder};
 use dewey_labels::{List, NoMemory};
+use std::alloc::Global;
 
 /// The first division of the form of two bytes, of three and of five.
 const FIRST_OF_TWO: u32 = 128;
@@ -19,7 +21,11 @@ const THREE: u32 = 0xC0_0000;
 const FIVE: u8 = 0xE0;
 
 /// Writes a division at the end, wholly or not at all.
-pub(crate) fn write_division(division: u32, out: &mut List<u8>) -> Result<(), NoMemory>
+pub(crate) fn write_division(
+    alloc: Global,
+    division: u32,
+    out: &mut List<u8>,
+) -> Result<(), NoMemory>
     ensures ok { OnOk result (out.new ≡ out.old ++ division_bytes division) }
     ensures err { OnErr result (out.new ≡ out.old) }
 {
@@ -29,19 +35,19 @@ pub(crate) fn write_division(division: u32, out: &mut List<u8>) -> Result<(), No
     if division < FIRST_OF_THREE {
         let mut bytes = [0; 2];
         BigEndian::write_u16(&mut bytes, (TWO + (division - FIRST_OF_TWO)) as u16);
-        return out.extend_from_slice(&bytes);
+        return out.extend_from_slice(alloc, &bytes);
     }
     if division < FIRST_OF_FIVE {
         let mut bytes = [0; 3];
         BigEndian::write_u24(&mut bytes, THREE + (division - FIRST_OF_THREE));
-        return out.extend_from_slice(&bytes);
+        return out.extend_from_slice(alloc, &bytes);
     }
     let mut bytes = [FIVE; 5];
     BigEndian::write_u32(&mut bytes[1..], division);
-    out.extend_from_slice(&bytes)
+    out.extend_from_slice(alloc, &bytes)
 }
 
-/// The division at the front of the bytes, and how many of them it takes.
+/// The division at the start of the bytes, and how many of them it takes.
 pub(crate) fn read_division(bytes: &[u8]) -> Option<(u32, usize)>
     ensures exact { result ≡ division_in bytes.now }
     ensures within { IfSome result (λ d. d.1 ≤ length bytes.now) }

@@ -1,7 +1,8 @@
+//! Labels: their divisions, and a byte 0 that no division begins with.
 ghost use Rattle.std.specs.Prelude.{◌≡◌, ◌≤◌, ◌++◌, length, IfOk, IfSome, OnOk, OnErr};
 ghost use Rattle.dewey_labels.specs.Labels.{IsLabel};
 ghost use Rattle.node_records.specs.Labels.{label_bytes, label_in, divisions_in};
-ghost use Rattle.node_records.specs.Written.{AppendsFront};
+ghost use Rattle.dewey_labels.specs.Lists.{AppendsPrefix};
 
 use crate::divisions::{read_division, write_division};
 use dewey_labels::{Label, List, MOST_DIVISIONS, NoMemory};
@@ -11,19 +12,19 @@ use std::alloc::Global;
 const END: u8 = 0;
 
 /// Writes a label's divisions and their end.
-pub(crate) fn write_label(label: &Label, out: &mut List<u8>) -> Result<(), NoMemory>
+pub(crate) fn write_label(alloc: Global, label: &Label, out: &mut List<u8>) -> Result<(), NoMemory>
     ensures ok { OnOk result (out.new ≡ out.old ++ label_bytes label.now) }
-    ensures err { OnErr result (AppendsFront (label_bytes label.now) out.old out.new) }
+    ensures err { OnErr result (AppendsPrefix (label_bytes label.now) out.old out.new) }
     ensures label { OnOk result (IsLabel label.now) }
 {
     for division in label.divisions() {
-        write_division(*division, out)?;
+        write_division(alloc, *division, out)?;
     }
     out.push(END)?;
     Ok(())
 }
 
-/// The label at the front of the bytes, and how many of them it takes.
+/// The label at the start of the bytes, and how many of them it takes.
 pub(crate) fn read_label(alloc: Global, bytes: &[u8]) -> Result<Option<(Label, usize)>, NoMemory>
     ensures exact { IfOk result (λ found. found ≡ label_in bytes.now) }
     ensures within { IfOk result (λ found. IfSome found (λ l. l.1 ≤ length bytes.now)) }

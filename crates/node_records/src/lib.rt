@@ -1,5 +1,5 @@
 //! The bytes of keys, records and changes, as the files of a store hold them.
-//! What is read is exactly what the grammar has at the front of the bytes; what was written is read again, whatever follows; keys sort as their bytes do.
+//! What is read is exactly what the grammar has at the start of the bytes; what was written is read again, whatever follows; keys sort as their bytes do.
 //! Which keys and records may stand in a tree is left to the crates above.
 #![tactic(auto)]
 

@@ -1,5 +1,6 @@
+//! Why a store isn't opened, and where its files break a rule. Each crate that reads one of the files answers with it.
 ghost use Rattle.std.specs.Prelude.{◌≡◌};
-ghost use Rattle.node_records.specs.declared.open_error.OpenError.TheVariants.{DiskFault, NoMemory as WantsMemory};
+ghost use Rattle.node_records.specs.declared.open_error.OpenError.TheVariants.{Damaged, DiskFault, NoMemory as OutOfMemory};
 
 use dewey_labels::NoMemory;
 use outside_traits::Failed;
@@ -13,6 +14,15 @@ pub enum OpenError {
     /// A disk failed, and has counted it.
     DiskFault,
     NoMemory,
+}
+
+impl OpenError {
+    /// A rule of this file is broken at this place.
+    pub fn at(file: File, at: u64) -> OpenError
+        ensures { result ≡ Damaged (record { file = file; at = at }) }
+    {
+        OpenError::Damaged(Place { file, at })
+    }
 }
 
 /// Where a rule of the files is broken.
@@ -40,7 +50,7 @@ impl From<Failed> for OpenError {
 }
 
 impl From<NoMemory> for OpenError {
-    ghost from_gives = { λ _ e. e ≡ WantsMemory };
+    ghost from_gives = { λ _ e. e ≡ OutOfMemory };
 
     fn from(_refused: NoMemory) -> OpenError {
         OpenError::NoMemory
@@ -48,7 +58,7 @@ impl From<NoMemory> for OpenError {
 }
 
 impl From<AllocError> for OpenError {
-    ghost from_gives = { λ _ e. e ≡ WantsMemory };
+    ghost from_gives = { λ _ e. e ≡ OutOfMemory };
 
     fn from(_refused: AllocError) -> OpenError {
         OpenError::NoMemory

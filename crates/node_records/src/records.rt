@@ -1,7 +1,9 @@
+//! Records: a byte for the kind, and the name, data or value up to the end of what is read.
 ghost use Rattle.std.specs.Prelude.{◌≡◌, ◌∷◌, ◌++◌, length, IfOk, IfSome, IfNone, OnOk, OnErr, Option, IsTrue};
 ghost use Rattle.std.specs.Str.{is_utf8};
-ghost use Rattle.node_records.specs.Records.{HasText, record_bytes, record_in, record_of};
-ghost use Rattle.node_records.specs.Written.{AppendsFront};
+ghost use Rattle.tree_model.specs.Records.{HasText};
+ghost use Rattle.node_records.specs.Records.{record_bytes, record_in, record_of};
+ghost use Rattle.dewey_labels.specs.Lists.{AppendsPrefix};
 
 use crate::texts::read_text;
 use dewey_labels::{List, NoMemory, Text};
@@ -17,18 +19,32 @@ const TEXT: u8 = 3;
 
 const ATTR: u8 = 4;
 
-/// Writes a record at the end of `out`: its kind and its name, data or value.
-pub fn write_record(_alloc: Global, value: &Record, out: &mut List<u8>) -> Result<(), NoMemory>
+/// Writes a record at the end of `out`: its kind and its name, data or value. After `NoMemory` `out` is as it was.
+pub fn write_record(alloc: Global, value: &Record, out: &mut List<u8>) -> Result<(), NoMemory>
     ensures ok { OnOk result (out.new ≡ out.old ++ record_bytes value.now) }
-    ensures err { OnErr result (AppendsFront (record_bytes value.now) out.old out.new) }
+    ensures err { OnErr result (out.new ≡ out.old) }
     // So it is one that is read again.
+    ensures text { OnOk result (HasText value.now) }
+{
+    let before = out.len();
+    let put = put_record(alloc, value, out);
+    if put.is_err() {
+        out.truncate(before);
+    }
+    put
+}
+
+/// The same, part by part; after `NoMemory` the kind may stand there.
+pub(crate) fn put_record(alloc: Global, value: &Record, out: &mut List<u8>) -> Result<(), NoMemory>
+    ensures ok { OnOk result (out.new ≡ out.old ++ record_bytes value.now) }
+    ensures err { OnErr result (AppendsPrefix (record_bytes value.now) out.old out.new) }
     ensures text { OnOk result (HasText value.now) }
 {
     match value {
         Record::Document => out.push(DOCUMENT),
-        Record::Element(name) => write_text(ELEMENT, name, out),
-        Record::Text(data) => write_text(TEXT, data, out),
-        Record::Attr(text) => write_text(ATTR, text, out),
+        Record::Element(name) => write_text(alloc, ELEMENT, name, out),
+        Record::Text(data) => write_text(alloc, TEXT, data, out),
+        Record::Attr(text) => write_text(alloc, ATTR, text, out),
     }
 }
 
@@ -69,12 +85,12 @@ pub(crate) fn record_length(value: &Record) -> usize
 }
 
 /// Writes a kind and a text.
-fn write_text(kind: u8, text: &Text, out: &mut List<u8>) -> Result<(), NoMemory>
+fn write_text(alloc: Global, kind: u8, text: &Text, out: &mut List<u8>) -> Result<(), NoMemory>
     ensures ok { OnOk result (out.new ≡ out.old ++ kind ∷ text.now) }
-    ensures err { OnErr result (AppendsFront (kind ∷ text.now) out.old out.new) }
+    ensures err { OnErr result (AppendsPrefix (kind ∷ text.now) out.old out.new) }
     ensures utf8 { OnOk result (IsTrue (is_utf8 text.now)) }
 {
     out.push(kind)?;
-    out.extend_from_slice(text.as_str().as_bytes())?;
+    out.extend_from_slice(alloc, text.as_str().as_bytes())?;
     Ok(())
 }

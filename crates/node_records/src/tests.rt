@@ -1,3 +1,4 @@
+//! The bytes of each form at its edges, and bytes that are of no form.
 use crate::divisions::{read_division, write_division};
 use crate::{read_change, read_key, read_record, write_change, write_key, write_record};
 use dewey_labels::{Label, List};
@@ -21,7 +22,7 @@ const EDGES: [(u32, &[u8]); 8] = [
 fn a_division_has_the_bytes_of_its_form_at_each_edge(rt: HostRuntime) -> Result<(), Fail> {
     for (division, bytes) in EDGES {
         let mut out = List::new(rt.alloc());
-        write_division(division, &mut out)?;
+        write_division(rt.alloc(), division, &mut out)?;
         assert_eq!(rt; out.as_slice(), bytes, "at {division}");
         out.push(7)?;
         assert_eq!(rt;

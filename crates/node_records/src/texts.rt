@@ -1,3 +1,4 @@
+//! Texts: names, data and values, which are UTF-8.
 ghost use Rattle.std.specs.Prelude.{◌≡◌, IfOk};
 ghost use Rattle.node_records.specs.Reads.{text_of};
 

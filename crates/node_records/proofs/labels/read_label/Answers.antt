@@ -4,11 +4,11 @@ use Rattle.node_records.proofs.labels.read_label.Goals as goal
 
 pub returns-in-Some-of_divisions-clause-exact : goal.returns-in-Some-of_divisions-clause-exact
 returns-in-Some-of_divisions-clause-exact c =
-    let told = sym c.in-Some.is ∙ c.in_ok-divisions.ensures.exact in
+    let history = sym c.in-Some.is ∙ c.in_ok-divisions.ensures.exact in
     let label = c.in-Some-of_divisions.ensures in
-    ap (λ (l : List ℕ). Some (l, c.in-Some.taken)) label.divisions ∙ label_is c.args.bytes.now (c.in-Some.divisions, c.in-Some.taken) told (label.label.0 refl)
+    ap (λ (l : List ℕ). Some (l, c.in-Some.taken)) label.divisions ∙ label_is c.args.bytes.now (c.in-Some.divisions, c.in-Some.taken) history (label.label.0 refl)
 
 pub returns-in-None-clause-exact : goal.returns-in-None-clause-exact
 returns-in-None-clause-exact c =
-    let told = sym c.in-Some.is ∙ c.in_ok-divisions.ensures.exact in
-    label_is_not c.args.bytes.now (c.in-Some.divisions, c.in-Some.taken) told (λ l. absurd (let e = c.in-None.ensures.label.1 l in cc))
+    let history = sym c.in-Some.is ∙ c.in_ok-divisions.ensures.exact in
+    label_is_not c.args.bytes.now (c.in-Some.divisions, c.in-Some.taken) history (λ l. absurd (let e = c.in-None.ensures.label.1 l in cc))
