@@ -4,7 +4,7 @@ use Rattle.std.proofs.lemmas.List.{take_at, drop_more}
 use Rattle.std.proofs.lemmas.Bool.{cond-false}
 use Rattle.std.specs.Prelude.{if◌then◌else◌}
 use Rattle.std.specs.List.{starts_with, AllByRecursion}
-use Rattle.node_records.specs.Changes.{keys_rise}
+use Rattle.tree_model.specs.Changes.{keys_rise}
 use Rattle.std.specs.Cmp.Lexicographic.{bytes_decides}
 use Rattle.journal.specs.Groups.{group_at}
 use Rattle.journal.specs.Journals.{header, is_fresh, groups_from, read}
@@ -21,7 +21,7 @@ pub record HasRead (bytes : List ℕ) (at : ℕ) (last : Option ℕ) (groups : L
   pub all : groups_of pieces ≡ groups
   pub number : last ≡ last_number None groups
   pub place : at ≡ length (header ++ bytes_of pieces)
-  pub front : take at bytes ≡ header ++ bytes_of pieces
+  pub prefix : take at bytes ≡ header ++ bytes_of pieces
   pub within : at < length bytes
   pub rising : AllByRecursion (λ group. IsTrue (keys_rise group.changes)) groups
 
@@ -31,11 +31,11 @@ all-push (h ∷ gs) g all one = (all.0, all-push gs g all.1 one)
 
 -- before the first group
 pub header_read : (bytes : List ℕ) → take 8 bytes ≡ header → 8 < length bytes → HasRead bytes 8 None []
-header_read bytes is more = record { pieces = []; are_groups = tt; all = refl; number = refl; place = refl; front = is; within = more; rising = tt }
+header_read bytes is more = record { pieces = []; are_groups = tt; all = refl; number = refl; place = refl; prefix = is; within = more; rising = tt }
 
 module _ (bytes : List ℕ) (at : ℕ) (last : Option ℕ) (groups : List Group) (has : HasRead bytes at last groups) where
   split : bytes ≡ (header ++ bytes_of has.pieces) ++ get_or bytes at 0 ∷ drop (at + 1) bytes
-  split = sym (take-append-drop at bytes) ∙ ap (λ (l : List ℕ). l ++ drop at bytes) has.front
+  split = sym (take-append-drop at bytes) ∙ ap (λ (l : List ℕ). l ++ drop at bytes) has.prefix
       ∙ ap (λ (l : List ℕ). (header ++ bytes_of has.pieces) ++ l) (drop_more bytes at 0 has.within)
 
   -- behind the last group a closed gate
@@ -98,7 +98,7 @@ module _ (bytes : List ℕ) (at : ℕ) (last : Option ℕ) (groups : List Group)
       all = groups_of-push has.pieces piece ∙ ap (λ (l : List Group). l ++ found.0 ∷ []) has.all;
       number = sym (last_number-push groups None found.0);
       place = more_long;
-      front = ap (take (at + (1 + found.1))) whole ∙ take_at (header ++ bytes_of more) (drop found.1 rest) (at + (1 + found.1)) (sym more_long);
+      prefix = ap (take (at + (1 + found.1))) whole ∙ take_at (header ++ bytes_of more) (drop found.1 rest) (at + (1 + found.1)) (sym more_long);
       within = found_fits;
       rising = all-push groups found.0 has.rising (found_rises last rest found is);
     }

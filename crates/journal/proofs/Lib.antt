@@ -7,3 +7,4 @@ pub mod AppendSteps
 pub mod FreshSteps
 pub mod DecodeLaws
 pub mod PieceLaws
+mod StepLaws

@@ -10,17 +10,17 @@ use Rattle.journal.specs.declared.group.Group.{Group}
 use Rattle.journal.proofs.GroupLaws.{group_at-commit}
 
 -- these groups before what is found
-abbrev pub with_front : List Group → Result (List Group) ℕ → Result (List Group) ℕ
-with_front [] found = found
-with_front (group ∷ groups) found = with_first group (with_front groups found)
+abbrev pub with_prefix : List Group → Result (List Group) ℕ → Result (List Group) ℕ
+with_prefix [] found = found
+with_prefix (group ∷ groups) found = with_first group (with_prefix groups found)
 
-pub with_front-ok : (gs more : List Group) → with_front gs (Ok more) ≡ Ok (gs ++ more)
-with_front-ok [] more = refl
-with_front-ok (g ∷ gs) more = ap (with_first g) (with_front-ok gs more)
+pub with_prefix-ok : (gs more : List Group) → with_prefix gs (Ok more) ≡ Ok (gs ++ more)
+with_prefix-ok [] more = refl
+with_prefix-ok (g ∷ gs) more = ap (with_first g) (with_prefix-ok gs more)
 
-pub with_front-err : (gs : List Group) (at : ℕ) → with_front gs (Err at) ≡ Err at
-with_front-err [] at = refl
-with_front-err (g ∷ gs) at = ap (with_first g) (with_front-err gs at)
+pub with_prefix-err : (gs : List Group) (at : ℕ) → with_prefix gs (Err at) ≡ Err at
+with_prefix-err [] at = refl
+with_prefix-err (g ∷ gs) at = ap (with_first g) (with_prefix-err gs at)
 
 groups_from-group : (n at : ℕ) (last : Option ℕ) (piece : Piece) (rest : List ℕ) → IsGroup last piece → 0 < length rest
     → groups_from (suc n) at last (1 ∷ (piece.bytes ++ rest)) ≡ with_first piece.group (groups_from n (at + 1 + length piece.bytes) (Some piece.group.number) rest)
@@ -45,34 +45,34 @@ groups_from-broken n at last rest broken =
     ]) broken
 
 -- open groups are read one by one, and then what follows
-pub groups_from-front : (ps : List Piece) (last : Option ℕ) → AreGroups last ps → (n at : ℕ) (rest : List ℕ) → 0 < length rest
-    → groups_from (length ps + n) at last (bytes_of ps ++ rest) ≡ with_front (groups_of ps) (groups_from n (at + length (bytes_of ps)) (last_number last (groups_of ps)) rest)
-groups_from-front [] last are n at rest more = λ i. groups_from ((let e : 0 + n ≡ n = omega arith in e) i) ((let e : at ≡ at + 0 = omega arith in e) i) last rest
-groups_from-front (p ∷ ps) last are n at rest more =
+pub groups_from-prefix : (ps : List Piece) (last : Option ℕ) → AreGroups last ps → (n at : ℕ) (rest : List ℕ) → 0 < length rest
+    → groups_from (length ps + n) at last (bytes_of ps ++ rest) ≡ with_prefix (groups_of ps) (groups_from n (at + length (bytes_of ps)) (last_number last (groups_of ps)) rest)
+groups_from-prefix [] last are n at rest more = λ i. groups_from ((let e : 0 + n ≡ n = omega arith in e) i) ((let e : at ≡ at + 0 = omega arith in e) i) last rest
+groups_from-prefix (p ∷ ps) last are n at rest more =
     let some : 0 < length (bytes_of ps ++ rest) = omega (arith, length-append (bytes_of ps) rest, more) in
     let count : length (p ∷ ps) + n ≡ suc (length ps + n) = omega arith in
     let place : at + 1 + length p.bytes + length (bytes_of ps) ≡ at + length (bytes_of (p ∷ ps)) = omega (arith, length-append p.bytes (bytes_of ps)) in
     ap (λ (m : ℕ). groups_from m at last (bytes_of (p ∷ ps) ++ rest)) count
     ∙ ap (λ (l : List ℕ). groups_from (suc (length ps + n)) at last (1 ∷ l)) (append_assoc p.bytes (bytes_of ps) rest)
     ∙ groups_from-group (length ps + n) at last p (bytes_of ps ++ rest) are.0 some
-    ∙ ap (with_first p.group) (groups_from-front ps (Some p.group.number) are.1 n (at + 1 + length p.bytes) rest more
-    ∙ ap (λ (m : ℕ). with_front (groups_of ps) (groups_from n m (last_number (Some p.group.number) (groups_of ps)) rest)) place)
+    ∙ ap (with_first p.group) (groups_from-prefix ps (Some p.group.number) are.1 n (at + 1 + length p.bytes) rest more
+    ∙ ap (λ (m : ℕ). with_prefix (groups_of ps) (groups_from n m (last_number (Some p.group.number) (groups_of ps)) rest)) place)
 
 pub length-bytes_of : (ps : List Piece) → length ps ≤ length (bytes_of ps)
 length-bytes_of [] = omega arith
 length-bytes_of (p ∷ ps) = omega (arith, length-bytes_of ps, length-append p.bytes (bytes_of ps))
 
 -- a header, open groups, and what follows them
-read-front : (ps : List Piece) → AreGroups None ps → (gate : ℕ) (tail : List ℕ) → (n : ℕ) → length ((header ++ bytes_of ps) ++ gate ∷ tail) ≡ length ps + n
-    → read ((header ++ bytes_of ps) ++ gate ∷ tail) ≡ with_front (groups_of ps) (groups_from n (length (header ++ bytes_of ps)) (last_number None (groups_of ps)) (gate ∷ tail))
+read-prefix : (ps : List Piece) → AreGroups None ps → (gate : ℕ) (tail : List ℕ) → (n : ℕ) → length ((header ++ bytes_of ps) ++ gate ∷ tail) ≡ length ps + n
+    → read ((header ++ bytes_of ps) ++ gate ∷ tail) ≡ with_prefix (groups_of ps) (groups_from n (length (header ++ bytes_of ps)) (last_number None (groups_of ps)) (gate ∷ tail))
 unfolding read
-read-front ps are gate tail n count =
+read-prefix ps are gate tail n count =
     let whole = (header ++ bytes_of ps) ++ gate ∷ tail in
     let long : nat_lt 8 (length whole) ≡ true = lt-ltb 8 (length whole) (omega (arith, length-append (header ++ bytes_of ps) (gate ∷ tail), length-append header (bytes_of ps))) in
     cond-true (nat_lt 8 (length whole)) _ _ long
     ∙ ap (λ (m : ℕ). groups_from m 8 None (bytes_of ps ++ gate ∷ tail)) count
-    ∙ groups_from-front ps None are n 8 (gate ∷ tail) (omega arith)
-    ∙ ap (λ (m : ℕ). with_front (groups_of ps) (groups_from n m (last_number None (groups_of ps)) (gate ∷ tail))) (sym (length-append header (bytes_of ps)))
+    ∙ groups_from-prefix ps None are n 8 (gate ∷ tail) (omega arith)
+    ∙ ap (λ (m : ℕ). with_prefix (groups_of ps) (groups_from n m (last_number None (groups_of ps)) (gate ∷ tail))) (sym (length-append header (bytes_of ps)))
 
 -- the fuel that is left behind the groups
 fuel : (ps : List Piece) (gate : ℕ) (tail : List ℕ) → (n : ℕ) × (length ((header ++ bytes_of ps) ++ gate ∷ tail) ≡ length ps + suc n)
@@ -85,9 +85,9 @@ fuel ps gate tail = (
 pub read-closed : (ps : List Piece) → AreGroups None ps → (gate : ℕ) (tail : List ℕ) → gate ≢ 1 → read ((header ++ bytes_of ps) ++ gate ∷ tail) ≡ Ok (groups_of ps)
 read-closed ps are gate tail shut =
     let f = fuel ps gate tail in
-    read-front ps are gate tail (suc f.0) f.1
-    ∙ ap (with_front (groups_of ps)) (groups_from-closed f.0 _ _ gate tail shut)
-    ∙ with_front-ok (groups_of ps) []
+    read-prefix ps are gate tail (suc f.0) f.1
+    ∙ ap (with_prefix (groups_of ps)) (groups_from-closed f.0 _ _ gate tail shut)
+    ∙ with_prefix-ok (groups_of ps) []
     ∙ ap Ok (append-nil (groups_of ps))
 
 -- an open group that breaks a rule
@@ -95,9 +95,9 @@ pub read-broken : (ps : List Piece) → AreGroups None ps → (tail : List ℕ) 
     → read ((header ++ bytes_of ps) ++ 1 ∷ tail) ≡ Err (length (header ++ bytes_of ps))
 read-broken ps are tail broken =
     let f = fuel ps 1 tail in
-    read-front ps are 1 tail (suc f.0) f.1
-    ∙ ap (with_front (groups_of ps)) (groups_from-broken f.0 _ _ tail broken)
-    ∙ with_front-err (groups_of ps) _
+    read-prefix ps are 1 tail (suc f.0) f.1
+    ∙ ap (with_prefix (groups_of ps)) (groups_from-broken f.0 _ _ tail broken)
+    ∙ with_prefix-err (groups_of ps) _
 
 pub bytes_of-push : (ps : List Piece) (p : Piece) → bytes_of (ps ++ p ∷ []) ≡ bytes_of ps ++ 1 ∷ p.bytes
 bytes_of-push [] p = ap (λ (l : List ℕ). 1 ∷ l) (append-nil p.bytes)

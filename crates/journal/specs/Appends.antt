@@ -1,6 +1,6 @@
 -- What an append may leave of a journal (docs/FILE_FORMAT.md, "Appending").
 use Rattle.std.specs.Prelude.{◌≡◌, ◌⊎◌, ℕ, List, [], ◌∷◌, ◌++◌, Option, Some, Result, Ok, Err}
-use Rattle.outside_traits.specs.Moments.{Told}
+use Rattle.outside_traits.specs.Moments.{History}
 use Rattle.journal.specs.Journals.{read}
 use Rattle.journal.specs.declared.group.Group.{Group}
 
@@ -10,8 +10,8 @@ groups_read (Ok groups) = groups
 groups_read (Err at) = []
 
 -- the groups that a read of the disk finds now
-abbrev pub groups_in : Told → List Group
-groups_in told = groups_read (read told.now.reads)
+abbrev pub groups_in : History → List Group
+groups_in history = groups_read (read history.now.reads)
 
 -- the number of the last of these groups, or the one before them
 abbrev pub last_number : Option ℕ → List Group → Option ℕ

@@ -1,7 +1,9 @@
+pub mod DiskFaults
 pub mod Appends
 pub mod Bodies
 pub mod Groups
 pub mod Journals
 pub mod Refusals
 pub mod Settled
+pub mod Steps
 pub mod Views

@@ -1,7 +1,7 @@
 -- What a journal keeps between two of its calls (docs/FILE_FORMAT.md, "Appending"): private to its proof.
 use Rattle.std.specs.Prelude.{◌≡◌, ◌≢◌, ◌<◌, ◌≤◌, ℕ, ◌+◌, ◌^◌, Bool, false, IsTrue, List, [], ◌∷◌, ◌++◌, length, get_or, Option, Some, None}
-use Rattle.outside_traits.specs.Disks.{rests}
-use Rattle.outside_traits.specs.Moments.{Told}
+use Rattle.outside_traits.specs.Disks.{all_synced}
+use Rattle.outside_traits.specs.Moments.{History}
 use Rattle.journal.specs.Groups.{group_at}
 use Rattle.journal.specs.Journals.{header}
 use Rattle.journal.specs.Appends.{last_number, groups_in}
@@ -42,24 +42,24 @@ pub record Stands (bytes : List ℕ) (at : ℕ) (groups : List Group) : Type 0 w
   pub place : at ≡ length (header ++ bytes_of pieces)
 
 -- the file holds open groups and a closed gate at this place, all of it synced; the last group has this number
-pub record IsSettled (told : Told) (at : ℕ) (last : Option ℕ) : Type 0 where
-  pub synced : told.now ≡ rests told.now.reads
-  pub stands : Stands told.now.reads at (groups_in told)
-  pub number : last ≡ last_number None (groups_in told)
+pub record IsSettled (history : History) (at : ℕ) (last : Option ℕ) : Type 0 where
+  pub synced : history.now ≡ all_synced history.now.reads
+  pub stands : Stands history.now.reads at (groups_in history)
+  pub number : last ≡ last_number None (groups_in history)
 
 -- a fresh file whose first byte is there and isn't an open gate, all of it synced
-pub record IsBarred (told : Told) : Type 0 where
-  pub synced : told.now ≡ rests told.now.reads
-  pub some : 0 < length told.now.reads
-  pub short : length told.now.reads < 10
-  pub closed : get_or told.now.reads 0 0 ≢ 1
+pub record IsBarred (history : History) : Type 0 where
+  pub synced : history.now ≡ all_synced history.now.reads
+  pub some : 0 < length history.now.reads
+  pub short : length history.now.reads < 10
+  pub closed : get_or history.now.reads 0 0 ≢ 1
 
 -- what a journal keeps between its calls, until one fails
-pub record IsKept (tells : Bool) (told : Told) (gate : ℕ) (last : Option ℕ) : Type 0 where
-  pub settled : IsTrue tells → IsSettled told gate last
+pub record IsKept (is_known : Bool) (history : History) (gate : ℕ) (last : Option ℕ) : Type 0 where
+  pub settled : IsTrue is_known → IsSettled history gate last
   pub fits : gate + 1 < 2 ^ 64
 
 -- the same, and that its buffer holds a group without a body at least
-pub record IsUsable (tells : Bool) (told : Told) (gate : ℕ) (last : Option ℕ) (failed : Bool) (capacity : ℕ) : Type 0 where
-  pub kept : failed ≡ false → IsKept tells told gate last
+pub record IsUsable (is_known : Bool) (history : History) (gate : ℕ) (last : Option ℕ) (failed : Bool) (capacity : ℕ) : Type 0 where
+  pub kept : failed ≡ false → IsKept is_known history gate last
   pub room : 10 ≤ capacity

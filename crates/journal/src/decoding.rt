@@ -1,7 +1,7 @@
 // The groups of a journal's bytes.
 ghost use Rattle.std.specs.Prelude.{◌≡◌, ◌<◌, ◌+◌, ◌^◌, false, IsTrue, None, Ok, IfOk, IfErr};
 ghost use Rattle.std.specs.List.{AllByRecursion};
-ghost use Rattle.node_records.specs.Changes.{keys_rise};
+ghost use Rattle.tree_model.specs.Changes.{keys_rise};
 ghost use Rattle.journal.specs.Groups.{group_at, is_next};
 ghost use Rattle.journal.specs.Journals.{is_fresh, read};
 ghost use Rattle.journal.specs.Appends.{last_number};

@@ -2,7 +2,8 @@
 ghost use Rattle.std.specs.Prelude.{◌≡◌, ◌≢◌, ◌∷◌, ◌++◌, ℕ, List, IsTrue, None, Some, Ok};
 ghost use Rattle.std.specs.List.{AllByRecursion};
 ghost use Rattle.tree_model.specs.declared.change.Change.{Change};
-ghost use Rattle.node_records.specs.Changes.{IsWritableChange, changes_bytes, keys_rise};
+ghost use Rattle.node_records.specs.Changes.{IsWritableChange, changes_bytes};
+ghost use Rattle.tree_model.specs.Changes.{keys_rise};
 ghost use Rattle.journal.specs.Bodies.{changes_in};
 ghost use Rattle.journal.specs.Groups.{AreCommits, commits_of, open_groups};
 ghost use Rattle.journal.specs.Journals.{header, read};

@@ -1,13 +1,14 @@
 // A journal's disk is opened: its groups are read, or a journal is made in a fresh file.
-ghost use Rattle.std.specs.Prelude.{◌≡◌, ◌≤◌, ◌++◌, [], ◌∷◌, false, None, Ok, IsTrue, IfOk, IfErr};
-ghost use Rattle.outside_traits.specs.Disks.{rests};
+ghost use Rattle.std.specs.Prelude.{◌≡◌, ◌≤◌, ◌++◌, [], ◌∷◌, false, None, Ok, IsTrue, IfOk, IfErr, OnOk};
+ghost use Rattle.outside_traits.specs.Disks.{all_synced};
 ghost use Rattle.outside_traits.specs.Moments.{LeavesOnly};
 ghost use Rattle.std.specs.List.{AllByRecursion};
-ghost use Rattle.node_records.specs.Changes.{keys_rise};
+ghost use Rattle.tree_model.specs.Changes.{keys_rise};
 ghost use Rattle.journal.specs.Journals.{header, is_fresh, read};
 ghost use Rattle.journal.specs.Refusals.{HasReason, IsUntouched};
 ghost use Rattle.journal.specs.Appends.{last_number};
 ghost use Rattle.journal.specs.Settled.{IsKept};
+ghost use Rattle.journal.specs.Steps.{Does, fresh_steps};
 
 use crate::decoding::{Found, HEADER, read_groups};
 use crate::file::OPEN;
@@ -20,19 +21,23 @@ use std::alloc::Global;
 
 /// The groups of the disk's file; a fresh file is made a journal first. All memory is taken before the first write.
 pub fn open_file<J: Disk>(alloc: Global, disk: &mut J) -> Result<Found, OpenError>
-    requires synced { IsTrue J.tells → (J.told disk.old).now ≡ rests (J.told disk.old).now.reads }
+    requires synced { IsTrue J.is_known → (J.history disk.old).now ≡ all_synced (J.history disk.old).now.reads }
 
-    ensures kept { IfOk result (λ found. IsKept J.tells (J.told disk.new) found.gate found.last) }
-    ensures groups { IfOk result (λ found. IsTrue J.tells → read (J.told disk.old).now.reads ≡ Ok found.groups) }
-    ensures reads { IfOk result (λ found. IsTrue J.tells → read (J.told disk.new).now.reads ≡ Ok found.groups) }
+    ensures kept { IfOk result (λ found. IsKept J.is_known (J.history disk.new) found.gate found.last) }
+    ensures groups { IfOk result (λ found. IsTrue J.is_known → read (J.history disk.old).now.reads ≡ Ok found.groups) }
+    ensures reads { IfOk result (λ found. IsTrue J.is_known → read (J.history disk.new).now.reads ≡ Ok found.groups) }
     ensures last { IfOk result (λ found. found.last ≡ last_number None found.groups) }
     ensures rising { IfOk result (λ found. AllByRecursion (λ group. IsTrue (keys_rise group.changes)) found.groups) }
-    ensures fresh { IfOk result (λ found. IsTrue J.tells → IsTrue (is_fresh (J.told disk.old).now.reads) → (J.told disk.new).now.reads ≡ header ++ 0 ∷ []) }
-    ensures same { IsTrue J.tells → is_fresh (J.told disk.old).now.reads ≡ false → J.told disk.new ≡ J.told disk.old }
-    ensures any_moment { IsTrue J.tells → LeavesOnly (λ image. read image ≡ read (J.told disk.old).now.reads) (J.told disk.old) (J.told disk.new) }
-    ensures untouched { IfErr result (λ fault. IsUntouched fault (IsTrue J.tells → J.told disk.new ≡ J.told disk.old)) }
+    ensures fresh { IfOk result (λ found. IsTrue J.is_known → IsTrue (is_fresh (J.history disk.old).now.reads) → (J.history disk.new).now.reads ≡ header ++ 0 ∷ []) }
+    ensures made { IfOk result (λ found. IsTrue J.is_known → IsTrue (is_fresh (J.history disk.old).now.reads)
+        → Does (fresh_steps (J.history disk.old).now.reads) (J.history disk.old) (J.history disk.new)) }
+    ensures same { IsTrue J.is_known → is_fresh (J.history disk.old).now.reads ≡ false → J.history disk.new ≡ J.history disk.old }
+    ensures any_moment { IsTrue J.is_known → LeavesOnly (λ image. read image ≡ read (J.history disk.old).now.reads) (J.history disk.old) (J.history disk.new) }
+    ensures untouched { IfErr result (λ fault. IsUntouched fault (IsTrue J.is_known → J.history disk.new ≡ J.history disk.old)) }
     ensures later { J.faults disk.old ≤ J.faults disk.new }
-    ensures reason { IfErr result (λ fault. HasReason J.tells (read (J.told disk.old).now.reads) (J.faults disk.old) (J.faults disk.new) fault) }
+    ensures exact { OnOk result (J.faults disk.new ≡ J.faults disk.old) }
+    ensures uncounted { IfErr result (λ fault. IsUntouched fault (J.faults disk.new ≡ J.faults disk.old)) }
+    ensures reason { IfErr result (λ fault. HasReason J.is_known (read (J.history disk.old).now.reads) (J.faults disk.old) (J.faults disk.new) fault) }
 {
     let bytes = read_file(alloc, disk)?;
     if has_no_journal(&bytes) {

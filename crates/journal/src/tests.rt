@@ -1,3 +1,4 @@
+//! Journals byte by byte, stopped and failing at each call of their disk.
 ghost use Rattle.std.specs.Prelude.{◌≡◌, false, None, Some, IsTrue, IfOk, OnOk};
 ghost use Rattle.journal.specs.Groups.{is_next};
 
@@ -72,9 +73,9 @@ fn empty_journal(alloc: Global, file: &[u8], fails: &[u64]) -> Result<Journal<Me
     ensures last { IfOk result (λ journal. journal.last ≡ None) }
 {
     let mut bytes = List::new(alloc);
-    bytes.extend_from_slice(file)?;
+    bytes.extend_from_slice(alloc, file)?;
     let mut calls = List::new(alloc);
-    calls.extend_from_slice(fails)?;
+    calls.extend_from_slice(alloc, fails)?;
     match Journal::open(alloc, MemDisk::new(bytes, calls)) {
         Ok((journal, groups)) if groups.commits.is_empty() => Ok(journal),
         Ok(_) => Err(OpenError::NoMemory),
@@ -116,7 +117,7 @@ fn three_commits(alloc: Global, body: &[u8]) -> Result<MemDisk, OpenError> {
 /// How many commits a file has, or why it isn't opened.
 fn commits_in(alloc: Global, file: &[u8]) -> Result<usize, OpenError> {
     let mut bytes = List::new(alloc);
-    bytes.extend_from_slice(file)?;
+    bytes.extend_from_slice(alloc, file)?;
     match Journal::open(alloc, MemDisk::new(bytes, List::new(alloc))) {
         Ok((_, groups)) => Ok(groups.commits.len()),
         Err(refused) => Err(refused.fault),
@@ -301,5 +302,52 @@ fn a_failing_call_is_answered_as_a_fault(rt: HostRuntime) -> Result<(), Fail> {
         assert_eq!(rt; refused, Err(OpenError::DiskFault), "at call {call}");
         assert_eq!(rt; journal.faults(), 1);
     }
+    Ok(())
+}
+
+#[test]
+fn the_first_step_of_a_new_journal_closes_its_gate(rt: HostRuntime) -> Result<(), Fail> {
+    // The length, a write and its sync; the next write fails.
+    let mut calls = List::new(rt.alloc());
+    calls.push(4)?;
+    match Journal::open(rt.alloc(), MemDisk::new(List::new(rt.alloc()), calls)) {
+        Ok(_) => panic!(rt; "a write that failed is passed over"),
+        Err(refused) => assert!(rt; refused.disk.bytes() == b"\x00".as_slice()),
+    }
+    Ok(())
+}
+
+#[test]
+fn a_failed_append_may_be_found_until_the_next_sync_is_done(rt: HostRuntime) -> Result<(), Fail> {
+    // The opening makes two calls, and of the append's four the third fails: the write of the gate.
+    let Ok(mut journal) = empty_journal(rt.alloc(), NEW, &[5]) else {
+        panic!(rt; "a new journal isn't opened");
+    };
+    let refused = commit(rt.alloc(), &mut journal, 1, b"");
+    assert_eq!(rt; refused, Err(OpenError::DiskFault));
+    let mut disk = journal.into_disk();
+    assert_eq!(rt; disk.sync(), Ok(()));
+    assert_eq!(rt; commits_after_stop(rt.alloc(), &disk, 6), Ok((0, 1)));
+    assert_eq!(rt; commits_after_stop(rt.alloc(), &disk, 7), Ok((0, 0)));
+    assert_eq!(rt; commits_in(rt.alloc(), disk.bytes()), Ok(0));
+    Ok(())
+}
+
+#[test]
+fn a_gate_that_is_opened_before_its_group_does_damage(rt: HostRuntime) -> Result<(), Fail> {
+    let bytes = bytes_of(rt.alloc(), DUMP)?;
+    assert_eq!(rt; bytes.len(), 60);
+    let mut new = List::new(rt.alloc());
+    new.extend_from_slice(rt.alloc(), NEW)?;
+    let mut disk = MemDisk::new(new, List::new(rt.alloc()));
+    assert_eq!(rt; disk.bytes().len(), 9);
+    assert_eq!(rt; disk.write_at(8, b"\x01"), Ok(()));
+    assert_eq!(rt; disk.bytes().len(), 9);
+    assert_eq!(rt; disk.write_at(9, &bytes.as_slice()[9..]), Ok(()));
+    let mut harmed = false;
+    for image in disk.stop_images(rt.alloc(), 3)?.as_slice() {
+        harmed = harmed || commits_in(rt.alloc(), image.as_slice()) == damaged(8);
+    }
+    assert!(rt; harmed);
     Ok(())
 }

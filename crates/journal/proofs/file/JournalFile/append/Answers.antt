@@ -1,4 +1,6 @@
 use Rattle.std.proofs.Common.{arith, ap, ◌∙◌, List, ℕ, length}
+use Rattle.std.proofs.lemmas.Result.{err_from_is_err_and}
+use Rattle.journal.proofs.StepLaws.{stops_at_last, length-framed}
 use Rattle.journal.specs.Groups.{commit, behind_gate}
 use Rattle.journal.specs.Settled.{Piece, IsGroup}
 use Rattle.journal.proofs.GroupLaws.{group_at-commit}
@@ -9,60 +11,69 @@ abbrev piece : ℕ → List ℕ → Piece
 piece number body = record { bytes = behind_gate number body; group = commit number body }
 
 pub returns-in_err-write_at-clause-any_moment : goal.returns-in_err-write_at-clause-any_moment
-returns-in_err-write_at-clause-any_moment g c tells =
+returns-in_err-write_at-clause-any_moment g c is_known =
     let p = piece c.args.number c.args.body.now in
     let is : IsGroup c.args.self.now.last p = λ rest more. group_at-commit c.args.number c.args.body.now c.ranges.number.fits c.requires.length c.args.self.now.last rest c.requires.next c.requires.body more in
-    first_torn _ _ _ p _ (c.as_slice-framed.ensures.value ∙ c.frame.ensures.framed) (c.requires.kept.settled tells) is _ (c.in_err-write_at.ensures.err tells)
+    first_torn _ _ _ p _ (c.as_slice-framed.ensures.value ∙ c.frame.ensures.framed) (c.requires.kept.settled is_known) is _ (c.in_err-write_at.ensures.err is_known)
 
 pub returns-in_err-sync-clause-any_moment : goal.returns-in_err-sync-clause-any_moment
-returns-in_err-sync-clause-any_moment g c tells =
+returns-in_err-sync-clause-any_moment g c is_known =
     let p = piece c.args.number c.args.body.now in
     let is : IsGroup c.args.self.now.last p = λ rest more. group_at-commit c.args.number c.args.body.now c.ranges.number.fits c.requires.length c.args.self.now.last rest c.requires.next c.requires.body more in
-    first_unsynced _ _ _ p _ (c.as_slice-framed.ensures.value ∙ c.frame.ensures.framed) (c.requires.kept.settled tells) is _ (c.in_ok-write_at.ensures.ok tells) _ (c.in_err-sync.ensures.err tells)
+    first_unsynced _ _ _ p _ (c.as_slice-framed.ensures.value ∙ c.frame.ensures.framed) (c.requires.kept.settled is_known) is _ (c.in_ok-write_at.ensures.ok is_known) _ (c.in_err-sync.ensures.err is_known)
 
 pub returns-in_err-write_at-2-clause-any_moment : goal.returns-in_err-write_at-2-clause-any_moment
-returns-in_err-write_at-2-clause-any_moment g c tells =
+returns-in_err-write_at-2-clause-any_moment g c is_known =
     let p = piece c.args.number c.args.body.now in
     let is : IsGroup c.args.self.now.last p = λ rest more. group_at-commit c.args.number c.args.body.now c.ranges.number.fits c.requires.length c.args.self.now.last rest c.requires.next c.requires.body more in
-    second_torn _ _ _ p _ (c.as_slice-framed.ensures.value ∙ c.frame.ensures.framed) (c.requires.kept.settled tells) is _ (c.in_ok-write_at.ensures.ok tells) _ (c.in_ok-sync.ensures.ok tells) _ (c.in_err-write_at-2.ensures.err tells)
+    second_torn _ _ _ p _ (c.as_slice-framed.ensures.value ∙ c.frame.ensures.framed) (c.requires.kept.settled is_known) is _ (c.in_ok-write_at.ensures.ok is_known) _ (c.in_ok-sync.ensures.ok is_known) _ (c.in_err-write_at-2.ensures.err is_known)
 
 pub returns-in_err-sync-2-clause-any_moment : goal.returns-in_err-sync-2-clause-any_moment
-returns-in_err-sync-2-clause-any_moment g c tells =
+returns-in_err-sync-2-clause-any_moment g c is_known =
     let p = piece c.args.number c.args.body.now in
     let is : IsGroup c.args.self.now.last p = λ rest more. group_at-commit c.args.number c.args.body.now c.ranges.number.fits c.requires.length c.args.self.now.last rest c.requires.next c.requires.body more in
-    second_unsynced _ _ _ p _ (c.as_slice-framed.ensures.value ∙ c.frame.ensures.framed) (c.requires.kept.settled tells) is _ (c.in_ok-write_at.ensures.ok tells) _ (c.in_ok-sync.ensures.ok tells) _ (c.in_ok-write_at-2.ensures.ok tells) _ (c.in_err-sync-2.ensures.err tells)
+    second_unsynced _ _ _ p _ (c.as_slice-framed.ensures.value ∙ c.frame.ensures.framed) (c.requires.kept.settled is_known) is _ (c.in_ok-write_at.ensures.ok is_known) _ (c.in_ok-sync.ensures.ok is_known) _ (c.in_ok-write_at-2.ensures.ok is_known) _ (c.in_err-sync-2.ensures.err is_known)
 
 pub returns-clause-any_moment : goal.returns-clause-any_moment
-returns-clause-any_moment g c tells =
+returns-clause-any_moment g c is_known =
     let p = piece c.args.number c.args.body.now in
     let is : IsGroup c.args.self.now.last p = λ rest more. group_at-commit c.args.number c.args.body.now c.ranges.number.fits c.requires.length c.args.self.now.last rest c.requires.next c.requires.body more in
-    second_synced _ _ _ p _ (c.as_slice-framed.ensures.value ∙ c.frame.ensures.framed) (c.requires.kept.settled tells) is _ (c.in_ok-write_at.ensures.ok tells) _ (c.in_ok-sync.ensures.ok tells) _ (c.in_ok-write_at-2.ensures.ok tells) _ (c.in_ok-sync-2.ensures.ok tells)
+    second_synced _ _ _ p _ (c.as_slice-framed.ensures.value ∙ c.frame.ensures.framed) (c.requires.kept.settled is_known) is _ (c.in_ok-write_at.ensures.ok is_known) _ (c.in_ok-sync.ensures.ok is_known) _ (c.in_ok-write_at-2.ensures.ok is_known) _ (c.in_ok-sync-2.ensures.ok is_known)
 
 pub returns-clause-groups : goal.returns-clause-groups
-returns-clause-groups g c tells =
+returns-clause-groups g c is_known =
     let p = piece c.args.number c.args.body.now in
     let is : IsGroup c.args.self.now.last p = λ rest more. group_at-commit c.args.number c.args.body.now c.ranges.number.fits c.requires.length c.args.self.now.last rest c.requires.next c.requires.body more in
-    one_more _ _ _ p _ (c.as_slice-framed.ensures.value ∙ c.frame.ensures.framed) (c.requires.kept.settled tells) is _ (c.in_ok-write_at.ensures.ok tells) _ (c.in_ok-sync.ensures.ok tells) _ (c.in_ok-write_at-2.ensures.ok tells) _ (c.in_ok-sync-2.ensures.ok tells)
+    one_more _ _ _ p _ (c.as_slice-framed.ensures.value ∙ c.frame.ensures.framed) (c.requires.kept.settled is_known) is _ (c.in_ok-write_at.ensures.ok is_known) _ (c.in_ok-sync.ensures.ok is_known) _ (c.in_ok-write_at-2.ensures.ok is_known) _ (c.in_ok-sync-2.ensures.ok is_known)
 
 pub returns-clause-durable : goal.returns-clause-durable
-returns-clause-durable g c tells =
+returns-clause-durable g c is_known =
     let p = piece c.args.number c.args.body.now in
     let is : IsGroup c.args.self.now.last p = λ rest more. group_at-commit c.args.number c.args.body.now c.ranges.number.fits c.requires.length c.args.self.now.last rest c.requires.next c.requires.body more in
-    each_image _ _ _ p _ (c.as_slice-framed.ensures.value ∙ c.frame.ensures.framed) (c.requires.kept.settled tells) is _ (c.in_ok-write_at.ensures.ok tells) _ (c.in_ok-sync.ensures.ok tells) _ (c.in_ok-write_at-2.ensures.ok tells) _ (c.in_ok-sync-2.ensures.ok tells)
+    each_image _ _ _ p _ (c.as_slice-framed.ensures.value ∙ c.frame.ensures.framed) (c.requires.kept.settled is_known) is _ (c.in_ok-write_at.ensures.ok is_known) _ (c.in_ok-sync.ensures.ok is_known) _ (c.in_ok-write_at-2.ensures.ok is_known) _ (c.in_ok-sync-2.ensures.ok is_known)
 
 pub returns-clause-kept : goal.returns-clause-kept
 returns-clause-kept g c = record {
-  settled = λ tells.
+  settled = λ is_known.
       let p = piece c.args.number c.args.body.now in
       let is : IsGroup c.args.self.now.last p = λ rest more. group_at-commit c.args.number c.args.body.now c.ranges.number.fits c.requires.length c.args.self.now.last rest c.requires.next c.requires.body more in
       let framing = c.as_slice-framed.ensures.value ∙ c.frame.ensures.framed in
-      settled_again _ _ _ p _ framing (c.requires.kept.settled tells) is _ (c.in_ok-write_at.ensures.ok tells) _ (c.in_ok-sync.ensures.ok tells) _ (c.in_ok-write_at-2.ensures.ok tells) _ (c.in_ok-sync-2.ensures.ok tells)
+      settled_again _ _ _ p _ framing (c.requires.kept.settled is_known) is _ (c.in_ok-write_at.ensures.ok is_known) _ (c.in_ok-sync.ensures.ok is_known) _ (c.in_ok-write_at-2.ensures.ok is_known) _ (c.in_ok-sync-2.ensures.ok is_known)
       _ (omega (arith, ap length framing));
   fits = omega (arith, c.in_ok-write_at.ensures.fits);
 }
 
 pub returns-clause-synced : goal.returns-clause-synced
-returns-clause-synced g c tells =
+returns-clause-synced g c is_known =
     let p = piece c.args.number c.args.body.now in
     let is : IsGroup c.args.self.now.last p = λ rest more. group_at-commit c.args.number c.args.body.now c.ranges.number.fits c.requires.length c.args.self.now.last rest c.requires.next c.requires.body more in
-    now_rests _ _ _ p _ (c.as_slice-framed.ensures.value ∙ c.frame.ensures.framed) (c.requires.kept.settled tells) is _ (c.in_ok-write_at.ensures.ok tells) _ (c.in_ok-sync.ensures.ok tells) _ (c.in_ok-write_at-2.ensures.ok tells) _ (c.in_ok-sync-2.ensures.ok tells)
+    now_rests _ _ _ p _ (c.as_slice-framed.ensures.value ∙ c.frame.ensures.framed) (c.requires.kept.settled is_known) is _ (c.in_ok-write_at.ensures.ok is_known) _ (c.in_ok-sync.ensures.ok is_known) _ (c.in_ok-write_at-2.ensures.ok is_known) _ (c.in_ok-sync-2.ensures.ok is_known)
+
+pub returns-in_err-sync-2-clause-stops : goal.returns-in_err-sync-2-clause-stops
+returns-in_err-sync-2-clause-stops g c =
+    let p = err_from_is_err_and c.from_residual-in_err-sync-2.result c.from_residual-in_err-sync-2.ensures.1 in
+    let framing = c.as_slice-framed.ensures.value ∙ c.frame.ensures.framed in
+    rw p.1 (λ is_known. stops_at_last _ _ _ _ _ _ _ _ _ framing (c.in_ok-write_at.ensures.ok is_known) (c.in_ok-sync.ensures.ok is_known) (c.in_ok-write_at-2.ensures.ok is_known) (c.in_err-sync-2.ensures.err is_known))
+
+pub returns-clause-gate : goal.returns-clause-gate
+returns-clause-gate g c = omega (arith, length-framed c.args.number c.args.body.now c.as_slice-framed.result.now (c.as_slice-framed.ensures.value ∙ c.frame.ensures.framed))
