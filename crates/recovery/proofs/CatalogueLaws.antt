@@ -12,9 +12,10 @@ use Rattle.tree_model.specs.Names.{Name}
 use Rattle.tree_model.specs.declared.key.Key.{Key}
 use Rattle.tree_model.specs.declared.record.Record.{Record}
 use Rattle.tree_model.specs.Entries.{Entries}
-use Rattle.tree_model.specs.StoredTree.{is_root, label_in, catalogue_in, with_label}
+use Rattle.tree_model.specs.Places.{is_root}
+use Rattle.tree_model.specs.StoredTree.{label_in, catalogue_in, with_label}
 use Rattle.tree_model.specs.Tree.{Catalogue}
-use Rattle.tree_model.specs.WellFormed.{same_label, entries_with}
+use Rattle.tree_model.specs.ValidTrees.{same_label, entries_with}
 use Rattle.tree_model.proofs.Keys.{list_tied}
 use Rattle.recovery.specs.Named.{whether_one, Names}
 
@@ -72,10 +73,10 @@ one_name_more named new cat name label first names is_first updates l =
         ∙ ap (λ (b : Bool). whether_one (cond b (suc (entries_with l cat)) (entries_with l cat))) (sym (turned l label ∙ q))
     by_test false q = names l ∙ ap (λ (b : Bool). whether_one (cond b (suc (entries_with l cat)) (entries_with l cat))) (sym (turned l label ∙ q))
 
--- what one record adds stands in front of what follows
-pub with_label_front : (cat more : Catalogue) (name : Name) (o : Option Label) → (cat ++ with_label name o []) ++ more ≡ cat ++ with_label name o more
-with_label_front cat more name None = append_assoc cat [] more
-with_label_front cat more name (Some l) = append_assoc cat ((name, l) ∷ []) more
+-- what one record adds stands before what follows
+pub with_label_prefix : (cat more : Catalogue) (name : Name) (o : Option Label) → (cat ++ with_label name o []) ++ more ≡ cat ++ with_label name o more
+with_label_prefix cat more name None = append_assoc cat [] more
+with_label_prefix cat more name (Some l) = append_assoc cat ((name, l) ∷ []) more
 
 abbrev pub AllLabelled : Entries → Type 0
 AllLabelled es = AllByRecursion (λ e. IsLabel e.0.label) es
@@ -102,7 +103,7 @@ walk_root named new es rest behind e walked is label root goes = record {
   so_far = walked.so_far ++ with_label e.0.name (label_in e.1) [];
   names = goes e.0.name walked.so_far walked.names;
   whole =
-      with_label_front walked.so_far (catalogue_in behind) e.0.name (label_in e.1)
+      with_label_prefix walked.so_far (catalogue_in behind) e.0.name (label_in e.1)
       ∙ ap (λ (b : Bool). walked.so_far ++ cond b (with_label e.0.name (label_in e.1) (catalogue_in behind)) (catalogue_in behind)) (sym root)
       ∙ ap (λ (l : Entries). walked.so_far ++ catalogue_in l) (sym is) ∙ walked.whole;
   labelled = λ h. walked.labelled (subst AllLabelled (sym is) (label, h));

@@ -1,13 +1,14 @@
 -- What files stand for, when a commit is added and when other bytes are read as the same commits.
 use Rattle.std.proofs.Common.{◌≡◌, ◌+◌, ℕ, Bool, true, false, List, [], ◌∷◌, ◌++◌, Option, Some, None, Result, Ok, Err, if◌then◌else◌, refl, sym, ◌∙◌, ap}
 use Rattle.std.proofs.lemmas.Bool.{eq-eqb}
+use Rattle.dewey_labels.specs.Lists.{is_empty}
 use Rattle.tree_model.specs.Entries.{Entries, changed}
 use Rattle.tree_model.specs.StoredTree.{broken_at}
 use Rattle.node_records.specs.declared.open_error.Place.{Place}
 use Rattle.node_records.specs.declared.open_error.File.TheVariants.{Journal, Tree}
 use Rattle.journal.specs.Journals.{read}
 use Rattle.journal.specs.declared.group.Group.{Group}
-use Rattle.recovery.specs.Opened.{Contents, place_in, after_commits, last_of, first_is_one, contents_of, checked, opened_from, opened, is_empty}
+use Rattle.recovery.specs.Opened.{Contents, place_in, after_commits, last_of, first_is_one, contents_of, checked, opened_from, opened}
 use Rattle.recovery.proofs.OpenedLaws.{by_groups, by_damage, both_fresh, contents_are}
 
 -- ---- a commit more

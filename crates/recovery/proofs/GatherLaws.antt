@@ -7,7 +7,8 @@ use Rattle.std.specs.Ordering.{match_ordering}
 use Rattle.tree_model.specs.declared.key.Key.{Key}
 use Rattle.tree_model.specs.declared.record.Record.{Record}
 use Rattle.tree_model.specs.Keys.{key_cmp}
-use Rattle.tree_model.specs.Entries.{Entries, Above, Sorted, by_order, put, del, changed}
+use Rattle.tree_model.specs.Entries.{Entries, Above, Sorted, put, del, changed}
+use Rattle.tree_model.specs.Orders.{by_order}
 use Rattle.tree_model.proofs.Entries.{all_above_lower, sorted_changed}
 use Rattle.tree_model.proofs.Keys.{key_tied}
 use Rattle.journal.specs.declared.group.Group.{Group}

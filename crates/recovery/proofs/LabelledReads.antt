@@ -3,6 +3,8 @@ use Rattle.std.proofs.Common.{◌≡◌, ℕ, zero, suc, ◌+◌, ◌==◌, Bool
 use Rattle.std.specs.Prelude.{option_and_then}
 use Rattle.std.specs.List.{AllByRecursion, starts_with}
 use Rattle.dewey_labels.specs.Labels.{IsLabel}
+use Rattle.dewey_labels.specs.Lists.{is_empty}
+use Rattle.outside_traits.proofs.ByteLaws.{bytes-drop, bytes-take}
 use Rattle.tree_model.specs.declared.change.Change.{Change}
 use Rattle.tree_model.specs.declared.key.Key.{Key}
 use Rattle.tree_model.specs.declared.record.Record.{Record}
@@ -10,8 +12,9 @@ use Rattle.tree_model.specs.Entries.{Entries, set, changed}
 use Rattle.tree_model.specs.StoredTree.{IsStoredTree, broken_at}
 use Rattle.tree_model.proofs.Entries.{all_put, all_del}
 use Rattle.tree_model.proofs.StoredMaps.{stored_tree}
-use Rattle.node_records.specs.Changes.{IsWritableChange, changes_of, keys_rise}
-use Rattle.node_records.specs.Reads.{IsBytes}
+use Rattle.node_records.specs.Changes.{IsWritableChange, changes_of}
+use Rattle.tree_model.specs.Changes.{keys_rise}
+use Rattle.outside_traits.specs.Bytes.{IsBytes}
 use Rattle.node_records.specs.declared.open_error.Place.{Place}
 use Rattle.node_records.specs.declared.open_error.File.TheVariants.{Journal, Tree}
 use Rattle.node_records.proofs.BodyLaws.{changes_written}
@@ -20,7 +23,7 @@ use Rattle.journal.specs.Groups.{group_at, is_framed, body_at, number_at, size_a
 use Rattle.journal.specs.Journals.{header, is_fresh, with_first, groups_from, read}
 use Rattle.journal.specs.Appends.{groups_read}
 use Rattle.journal.specs.declared.group.Group.{Group}
-use Rattle.recovery.specs.Opened.{Contents, after_commits, contents_of, checked, first_is_one, first_broken, opened, opened_beside, opened_from, place_in, is_empty}
+use Rattle.recovery.specs.Opened.{Contents, after_commits, contents_of, checked, first_is_one, first_broken, opened, opened_beside, opened_from, place_in}
 use Rattle.recovery.specs.Trees.{StandForOne}
 use Rattle.recovery.proofs.GatherLaws.{sorted_after}
 use Rattle.recovery.proofs.OpenedLaws.{contents_are, stand_for_one}
@@ -33,18 +36,6 @@ AllLabelled groups = AllByRecursion (λ g. Labelled g.changes) groups
 
 abbrev HaveLabels : Entries → Type 0
 HaveLabels es = AllByRecursion (λ e. IsLabel e.0.label) es
-
--- ---- bytes
-
-bytes_drop : (n : ℕ) (bytes : List ℕ) → IsBytes bytes → IsBytes (drop n bytes)
-bytes_drop zero bytes h = h
-bytes_drop (suc n) [] h = tt
-bytes_drop (suc n) (b ∷ bytes) h = bytes_drop n bytes h.1
-
-bytes_take : (n : ℕ) (bytes : List ℕ) → IsBytes bytes → IsBytes (take n bytes)
-bytes_take zero bytes h = tt
-bytes_take (suc n) [] h = tt
-bytes_take (suc n) (b ∷ bytes) h = (h.0, bytes_take n bytes h.1)
 
 -- ---- what is read
 
@@ -70,7 +61,7 @@ unfolding group_at
 group_labelled last rest found bytes h = elim (is_framed last rest) as (λ (b : Bool). (if b then option_map (group_found rest) (changes_in (body_at rest)) else None) ≡ Some found → Labelled found.0.changes) [
   | true ↦ λ g. elim (changes_in (body_at rest)) as (λ (o : Option (List Change)). changes_in (body_at rest) ≡ o → option_map (group_found rest) o ≡ Some found → Labelled found.0.changes) [
     | None ↦ λ _ e. cc
-    | Some cs ↦ λ is e. subst (λ (f : Group × ℕ). Labelled f.0.changes) (ap (λ (o : Option (Group × ℕ)). unwrap_or o found) e) (body_labelled (body_at rest) cs (bytes_take (word_of (drop 5 rest)) (drop 9 rest) (bytes_drop 9 rest bytes)) is)
+    | Some cs ↦ λ is e. subst (λ (f : Group × ℕ). Labelled f.0.changes) (ap (λ (o : Option (Group × ℕ)). unwrap_or o found) e) (body_labelled (body_at rest) cs (bytes-take (word_of (drop 5 rest)) (drop 9 rest) (bytes-drop 9 rest bytes)) is)
   ] refl g
   | false ↦ λ g. cc
 ] h
@@ -84,7 +75,7 @@ groups_labelled (suc n) at last (gate ∷ rest) groups b h =
       | true ↦ λ g. elim (group_at last rest) as (λ (o : Option (Group × ℕ)). group_at last rest ≡ o → elim o as (λ _. Result (List Group) ℕ) [ None ↦ Err at | Some found ↦ with_first found.0 (groups_from n (at + 1 + found.1) (Some found.0.number) (drop found.1 rest)) ] ≡ Ok groups → AllLabelled groups) [
         | None ↦ λ _ e. cc
         | Some found ↦ λ is e. elim (groups_from n (at + 1 + found.1) (Some found.0.number) (drop found.1 rest)) as (λ (r : Result (List Group) ℕ). groups_from n (at + 1 + found.1) (Some found.0.number) (drop found.1 rest) ≡ r → with_first found.0 r ≡ Ok groups → AllLabelled groups) [
-          | Ok more ↦ λ more_is k. subst AllLabelled (ap groups_read k) (group_labelled last rest found b.1 is, groups_labelled n (at + 1 + found.1) (Some found.0.number) (drop found.1 rest) more (bytes_drop found.1 rest b.1) more_is)
+          | Ok more ↦ λ more_is k. subst AllLabelled (ap groups_read k) (group_labelled last rest found b.1 is, groups_labelled n (at + 1 + found.1) (Some found.0.number) (drop found.1 rest) more (bytes-drop found.1 rest b.1) more_is)
           | Err p ↦ λ _ k. cc
         ] refl e
       ] refl g
@@ -97,7 +88,7 @@ read_labelled journal groups bytes h =
     elim (is_fresh journal) as (λ (t : Bool). (if t then Ok [] else if starts_with nat_eq journal header && nat_lt 8 (length journal) then groups_from (length journal) 8 None (drop 8 journal) else Err 0) ≡ Ok groups → AllLabelled groups) [
       | true ↦ λ g. subst AllLabelled (ap groups_read g) tt
       | false ↦ λ g. elim (starts_with nat_eq journal header && nat_lt 8 (length journal)) as (λ (t : Bool). (if t then groups_from (length journal) 8 None (drop 8 journal) else Err 0) ≡ Ok groups → AllLabelled groups) [
-        | true ↦ λ e. groups_labelled (length journal) 8 None (drop 8 journal) groups (bytes_drop 8 journal bytes) e
+        | true ↦ λ e. groups_labelled (length journal) 8 None (drop 8 journal) groups (bytes-drop 8 journal bytes) e
         | false ↦ λ e. cc
       ] g
     ] h

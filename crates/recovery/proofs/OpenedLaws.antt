@@ -1,8 +1,9 @@
 -- What files stand for, by a few of their parts.
-use Rattle.std.proofs.Common.{◌≡◌, ◌≤◌, ◌+◌, ℕ, Bool, true, false, List, [], ◌∷◌, length, Option, Some, None, Result, Ok, Err, if◌then◌else◌, refl, sym, ◌∙◌, ap, subst, arith}
+use Rattle.std.proofs.Common.{◌≡◌, ◌≤◌, ◌+◌, ℕ, Bool, true, false, List, [], ◌∷◌, ◌++◌, length, Option, Some, None, Result, Ok, Err, if◌then◌else◌, refl, sym, ◌∙◌, ap, subst, arith}
 use Rattle.std.proofs.lemmas.Bool.{eq-eqb}
-use Rattle.outside_traits.specs.Faults.{Rose}
-use Rattle.outside_traits.specs.Moments.{Told, LeavesOnly}
+use Rattle.dewey_labels.specs.Lists.{is_empty}
+use Rattle.outside_traits.specs.Faults.{FaultCounted}
+use Rattle.outside_traits.specs.Moments.{History, LeavesOnly}
 use Rattle.outside_traits.proofs.MomentLaws.{started, weaker}
 use Rattle.tree_model.specs.Entries.{Entries}
 use Rattle.tree_model.specs.StoredTree.{IsStoredTree, broken_at}
@@ -12,12 +13,12 @@ use Rattle.node_records.specs.declared.open_error.OpenError.TheVariants.{Damaged
 use Rattle.node_records.specs.declared.open_error.Place.{Place}
 use Rattle.node_records.specs.declared.open_error.File.TheVariants.{Journal, Pages, Tree}
 use Rattle.journal.specs.Groups.{is_next}
-use Rattle.journal.specs.Journals.{read, is_fresh}
+use Rattle.journal.specs.Journals.{header, read, is_fresh}
 use Rattle.journal.specs.Appends.{groups_read, last_number}
 use Rattle.journal.specs.declared.group.Group.{Group}
 use Rattle.journal.proofs.FreshSteps.{fresh_reads}
-use Rattle.recovery.specs.Causes.{IsDamage, HasReason, IfDamaged, IsFirst}
-use Rattle.recovery.specs.Opened.{Contents, place_in, after_commits, last_of, first_is_one, contents_of, checked, opened_from, first_broken, opened_beside, opened, is_empty}
+use Rattle.recovery.specs.Causes.{IsDamage, HasReason, IfDamaged, IsFirst, UnlessFault}
+use Rattle.recovery.specs.Opened.{Contents, place_in, after_commits, last_of, first_is_one, contents_of, checked, opened_from, first_broken, opened_beside, opened, journal_made, KeepsJournal}
 use Rattle.recovery.specs.Trees.{StandForOne}
 
 -- where a journal is read, what it stands for hangs on its groups alone
@@ -83,20 +84,20 @@ not_fresh empty journal groups place h made broken = elim (is_fresh journal) as 
 
 -- ---- a crash while the journal is opened
 
-pub journal_moments : (empty : Bool) (t u : Told) → (is_fresh t.now.reads ≡ false → u ≡ t) → LeavesOnly (λ image. read image ≡ read t.now.reads) t u → LeavesOnly (λ image. opened_beside empty image ≡ opened_beside empty t.now.reads) t u
+pub journal_moments : (empty : Bool) (t u : History) → (is_fresh t.now.reads ≡ false → u ≡ t) → LeavesOnly (λ image. read image ≡ read t.now.reads) t u → LeavesOnly (λ image. opened_beside empty image ≡ opened_beside empty t.now.reads) t u
 journal_moments empty t u same run = elim (is_fresh t.now.reads) as (λ (b : Bool). is_fresh t.now.reads ≡ b → LeavesOnly (λ image. opened_beside empty image ≡ opened_beside empty t.now.reads) t u) [
   | true ↦ λ fresh.
       let none = fresh_reads t.now.reads fresh in
       weaker _ (λ image. opened_beside empty image ≡ opened_beside empty t.now.reads) t u (λ image alike. both_fresh empty image t.now.reads [] (alike ∙ none) none) run
-  | false ↦ λ made. subst (λ (v : Told). LeavesOnly (λ image. opened_beside empty image ≡ opened_beside empty t.now.reads) t v) (sym (same made)) (started _ t)
+  | false ↦ λ made. subst (λ (v : History). LeavesOnly (λ image. opened_beside empty image ≡ opened_beside empty t.now.reads) t v) (sym (same made)) (started _ t)
 ] refl
 
 -- ---- why a store isn't opened
 
-pub reason_of : (told : Type 0) (opened from : Result Contents Place) (cause : Type 0) (fault : OpenError) → IsDamage from fault → (told → opened ≡ from) → HasReason told opened cause fault
-reason_of told opened from cause (Damaged place) damage same = λ t. same t ∙ damage
-reason_of told opened from cause DiskFault damage same = absurd damage
-reason_of told opened from cause NoMemory damage same = tt
+pub reason_of : (history : Type 0) (opened from : Result Contents Place) (cause : Type 0) (fault : OpenError) → IsDamage from fault → (history → opened ≡ from) → HasReason history opened cause fault
+reason_of history opened from cause (Damaged place) damage same = λ t. same t ∙ damage
+reason_of history opened from cause DiskFault damage same = absurd damage
+reason_of history opened from cause NoMemory damage same = tt
 
 pub untouched_of : (P : Type 0) (fault : OpenError) → ((place : Place) → fault ≡ Damaged place → P) → IfDamaged fault P
 untouched_of P (Damaged place) h = h place refl
@@ -107,24 +108,53 @@ untouched_of P NoMemory h = tt
 pub damage_of : (from : Result Contents Place) (fault : OpenError) (place : Place) → IsDamage from fault → fault ≡ Damaged place → from ≡ Err place
 damage_of from fault place damage is = subst (λ (f : OpenError). IsDamage from f) is damage
 
-rose_later : (a b d : ℕ) → a ≤ b → Rose b d → Rose a d
+rose_later : (a b d : ℕ) → a ≤ b → FaultCounted b d → FaultCounted a d
 rose_later a b d later rose = omega (arith, later, rose)
 
-rose_sooner : (a b d : ℕ) → b ≤ d → Rose a b → Rose a d
+rose_sooner : (a b d : ℕ) → b ≤ d → FaultCounted a b → FaultCounted a d
 rose_sooner a b d later rose = omega (arith, later, rose)
 
-pub first_reason : (tells : Type 0) (empty : Bool) (t u : Told) (a b d : ℕ) (found fault : OpenError) → IsFirst tells empty u.now.reads (Rose b d) found fault
-    → ((place : Place) → found ≡ Damaged place → (place.file ≡ Journal) × (tells → read t.now.reads ≡ Err place.at))
-    → ((found ≡ DiskFault → ⊥) → tells → u ≡ t) → (found ≡ DiskFault → Rose a b) → a ≤ b → b ≤ d → HasReason tells (opened_beside empty t.now.reads) (Rose a d) fault
-first_reason tells empty t u a b d (Damaged p) (Damaged q) first damaged same rose before later = λ told.
-    by_damage empty t.now.reads p.at ((damaged p refl).1 told)
-    ∙ sym (ap (λ (place : Place). Err place) (first told ∙ ap (λ (v : Told). place_in Journal (first_broken empty v.now.reads p.at)) (same (λ e. cc) told)))
-first_reason tells empty t u a b d (Damaged p) DiskFault first damaged same rose before later = rose_later a b d before first
-first_reason tells empty t u a b d (Damaged p) NoMemory first damaged same rose before later = absurd first
-first_reason tells empty t u a b d DiskFault fault first damaged same rose before later =
-    subst (λ (f : OpenError). HasReason tells (opened_beside empty t.now.reads) (Rose a d) f) (sym first) (rose_sooner a b d later (rose refl))
-first_reason tells empty t u a b d NoMemory fault first damaged same rose before later =
-    subst (λ (f : OpenError). HasReason tells (opened_beside empty t.now.reads) (Rose a d) f) (sym first) tt
+pub first_reason : (is_known : Type 0) (empty : Bool) (t u : History) (a b d : ℕ) (found fault : OpenError) → IsFirst is_known empty u.now.reads (FaultCounted b d) found fault
+    → ((place : Place) → found ≡ Damaged place → (place.file ≡ Journal) × (is_known → read t.now.reads ≡ Err place.at))
+    → ((found ≡ DiskFault → ⊥) → is_known → u ≡ t) → (found ≡ DiskFault → FaultCounted a b) → a ≤ b → b ≤ d → HasReason is_known (opened_beside empty t.now.reads) (FaultCounted a d) fault
+first_reason is_known empty t u a b d (Damaged p) (Damaged q) first damaged same rose before later = λ history.
+    by_damage empty t.now.reads p.at ((damaged p refl).1 history)
+    ∙ sym (ap (λ (place : Place). Err place) (first history ∙ ap (λ (v : History). place_in Journal (first_broken empty v.now.reads p.at)) (same (λ e. cc) history)))
+first_reason is_known empty t u a b d (Damaged p) DiskFault first damaged same rose before later = rose_later a b d before first
+first_reason is_known empty t u a b d (Damaged p) NoMemory first damaged same rose before later = absurd first
+first_reason is_known empty t u a b d DiskFault fault first damaged same rose before later =
+    subst (λ (f : OpenError). HasReason is_known (opened_beside empty t.now.reads) (FaultCounted a d) f) (sym first) (rose_sooner a b d later (rose refl))
+first_reason is_known empty t u a b d NoMemory fault first damaged same rose before later =
+    subst (λ (f : OpenError). HasReason is_known (opened_beside empty t.now.reads) (FaultCounted a d) f) (sym first) tt
+
+-- ---- what an opening leaves as it was
+
+pub unless_of : (P : Type 0) (fault : OpenError) → P → UnlessFault fault P
+unless_of P (Damaged place) h = h
+unless_of P DiskFault h = tt
+unless_of P NoMemory h = h
+
+pub unless_then : (P Q : Type 0) (fault : OpenError) → (P → Q) → UnlessFault fault P → UnlessFault fault Q
+unless_then P Q (Damaged place) f h = f h
+unless_then P Q DiskFault f h = tt
+unless_then P Q NoMemory f h = f h
+
+pub unless_both : (P Q R : Type 0) (fault : OpenError) → (P → Q → R) → UnlessFault fault P → UnlessFault fault Q → UnlessFault fault R
+unless_both P Q R (Damaged place) f h g = f h g
+unless_both P Q R DiskFault f h g = tt
+unless_both P Q R NoMemory f h g = f h g
+
+-- where the journal's own fault was none of the disk, and the one that is answered is none either
+pub unless_first : (P : Type 0) (is_known : Type 0) (empty : Bool) (journal : List ℕ) (cause : Type 0) (found fault : OpenError) → IsFirst is_known empty journal cause found fault → ((found ≡ DiskFault → ⊥) → P) → UnlessFault fault P
+unless_first P is_known empty journal cause (Damaged p) fault first h = unless_of P fault (h (λ e. cc))
+unless_first P is_known empty journal cause DiskFault fault first h = subst (λ (f : OpenError). UnlessFault f P) (sym first) tt
+unless_first P is_known empty journal cause NoMemory fault first h = unless_of P fault (h (λ e. cc))
+
+pub made_or_same : (t u : History) → (is_fresh t.now.reads ≡ true → u.now.reads ≡ header ++ 0 ∷ []) → (is_fresh t.now.reads ≡ false → u ≡ t) → u.now.reads ≡ journal_made t.now.reads
+made_or_same t u fresh same = elim (is_fresh t.now.reads) as (λ (b : Bool). is_fresh t.now.reads ≡ b → u.now.reads ≡ (if b then header ++ 0 ∷ [] else t.now.reads)) [
+  | true ↦ λ e. fresh e
+  | false ↦ λ e. ap (λ (v : History). v.now.reads) (same e)
+] refl
 
 -- ---- the tree
 
@@ -136,6 +166,6 @@ entries_read (Err place) = []
 pub stand_for_one : (journal pages : List ℕ) (es : Entries) (n : ℕ) → opened journal pages ≡ Ok (record { entries = es; number = n }) → IsStoredTree es → StandForOne journal pages n
 stand_for_one journal pages es n h stored = record {
   tree = stored.tree;
-  stand = record { well_formed = stored.well_formed; opens = h ∙ ap (λ (l : Entries). Ok (record { entries = l; number = n })) (sym stored.map) };
-  alone = λ other stand. same_tree other stored.tree stand.well_formed stored.well_formed (ap entries_read (sym stand.opens ∙ h) ∙ sym stored.map);
+  stand = record { is_valid_tree = stored.is_valid_tree; opens = h ∙ ap (λ (l : Entries). Ok (record { entries = l; number = n })) (sym stored.map) };
+  alone = λ other stand. same_tree other stored.tree stand.is_valid_tree stored.is_valid_tree (ap entries_read (sym stand.opens ∙ h) ∙ sym stored.map);
 }

@@ -8,7 +8,7 @@ use Rattle.tree_model.specs.declared.key.Key.{Key}
 use Rattle.tree_model.specs.declared.record.Record.{Record}
 use Rattle.tree_model.specs.Entries.{Entries}
 use Rattle.tree_model.specs.Tree.{Catalogue}
-use Rattle.tree_model.specs.WellFormed.{entries_with}
+use Rattle.tree_model.specs.ValidTrees.{entries_with}
 
 -- of none of them nothing, of one true, of more false
 abbrev pub whether_one : ℕ → Option Bool

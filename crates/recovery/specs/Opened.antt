@@ -1,12 +1,13 @@
 -- What the two files of a store stand for, as long as the page file is empty (docs/FILE_FORMAT.md, "Opening").
-use Rattle.std.specs.Prelude.{ℕ, ◌+◌, Bool, true, false, ◌&&◌, not, ◌==◌, nat_lt, List, [], ◌∷◌, take, drop, get_or, Option, Some, None, Result, Ok, Err, if◌then◌else◌}
+use Rattle.std.specs.Prelude.{◌≡◌, ◌⊎◌, ℕ, ◌+◌, Bool, true, false, ◌&&◌, not, ◌==◌, nat_lt, List, [], ◌∷◌, ◌++◌, take, drop, get_or, Option, Some, None, Result, Ok, Err, if◌then◌else◌}
+use Rattle.dewey_labels.specs.Lists.{is_empty, is_one}
 use Rattle.tree_model.specs.Entries.{Entries, changed}
 use Rattle.tree_model.specs.StoredTree.{broken_at}
 use Rattle.node_records.specs.Reads.{number_in}
 use Rattle.node_records.specs.declared.open_error.Place.{Place}
 use Rattle.node_records.specs.declared.open_error.File.{File}
 use Rattle.node_records.specs.declared.open_error.File.TheVariants.{Journal, Pages, Tree}
-use Rattle.journal.specs.Journals.{read}
+use Rattle.journal.specs.Journals.{header, is_fresh, read}
 use Rattle.journal.specs.declared.group.Group.{Group}
 
 -- the map of a tree, and the number of the last commit
@@ -58,10 +59,6 @@ opened_from is_empty groups =
 abbrev pub first_number : List ℕ → Option ℕ
 first_number journal = number_in 4 (take 4 (drop 10 journal))
 
-abbrev pub is_one : Option ℕ → Bool
-is_one None = false
-is_one (Some number) = number == 1
-
 -- the group at a later gate breaks a rule and isn't one of images, and the first commit's number isn't 1
 abbrev pub starts_wrong : List ℕ → ℕ → Bool
 starts_wrong journal at = nat_lt 8 at && (not (get_or journal (at + 1) 0 == 1) && not (is_one (first_number journal)))
@@ -71,10 +68,6 @@ abbrev pub first_broken : Bool → List ℕ → ℕ → ℕ
 first_broken is_empty journal at = if is_empty && starts_wrong journal at then 8 else at
 
 -- ---- both files
-
-abbrev pub is_empty : List ℕ → Bool
-is_empty [] = true
-is_empty (byte ∷ bytes) = false
 
 -- the map and the number that a journal stands for beside a page file that is empty or isn't, or the place of the first rule that they break
 unfoldable pub opened_beside : Bool → List ℕ → Result Contents Place
@@ -86,3 +79,13 @@ opened_beside is_empty journal = elim (read journal) [
 -- the same of two files
 abbrev pub opened : List ℕ → List ℕ → Result Contents Place
 opened journal pages = opened_beside (is_empty pages) journal
+
+-- ---- the bytes that an opening leaves
+
+-- the nine bytes of a journal without groups in place of a fresh file; any other file as it is
+abbrev pub journal_made : List ℕ → List ℕ
+journal_made journal = if is_fresh journal then header ++ 0 ∷ [] else journal
+
+-- the journal is as it was, or was made
+abbrev pub KeepsJournal : List ℕ → List ℕ → Type 0
+KeepsJournal old new = (new ≡ old) ⊎ (new ≡ journal_made old)

@@ -1,14 +1,14 @@
 -- The tree that two files stand for, and what a crash keeps of it (docs/FILE_FORMAT.md, "Opening").
 use Rattle.std.specs.Prelude.{◌≡◌, ℕ, List, Ok}
 use Rattle.tree_model.specs.Tree.{Tree, map_of}
-use Rattle.tree_model.specs.WellFormed.{WellFormed}
+use Rattle.tree_model.specs.ValidTrees.{IsValidTree}
 use Rattle.outside_traits.specs.CrashImages.{IsImage}
 use Rattle.outside_traits.specs.DiskPairs.{Pair, PairsLeave}
 use Rattle.recovery.specs.Opened.{opened}
 
--- the files stand for this tree, well formed, with this number
+-- the files stand for this tree, valid, with this number
 pub record StandFor (journal pages : List ℕ) (tree : Tree) (number : ℕ) : Type 0 where
-  pub well_formed : WellFormed tree
+  pub is_valid_tree : IsValidTree tree
   pub opens : opened journal pages ≡ Ok (record { entries = map_of tree; number = number })
 
 -- the files stand for exactly one tree, with this number

@@ -2,13 +2,13 @@
 ghost use Rattle.std.specs.Prelude.{◌≡◌, ℕ, ◌+◌, List, [], ◌∷◌, ◌++◌, None, Ok};
 ghost use Rattle.tree_model.specs.Entries.{changed};
 ghost use Rattle.tree_model.specs.StoredTree.{broken_at};
-ghost use Rattle.node_records.specs.Reads.{IsBytes};
+ghost use Rattle.outside_traits.specs.Bytes.{IsBytes};
 ghost use Rattle.journal.specs.Journals.{read};
 ghost use Rattle.journal.specs.declared.group.Group.{Group};
 ghost use Rattle.recovery.specs.Opened.{Contents, opened};
 ghost use Rattle.recovery.specs.Trees.{StandForOne};
 
-/// Files that break no rule stand for exactly one well formed tree.
+/// Files that break no rule stand for exactly one valid tree.
 pub fn opened_files_are_trees()
     ensures { (journal pages : List ℕ) (contents : Contents) → IsBytes journal → opened journal pages ≡ Ok contents → StandForOne journal pages contents.number }
 {}

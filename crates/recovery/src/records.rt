@@ -1,15 +1,14 @@
 // Tests of one record, or of a label, by itself.
 ghost use Rattle.std.specs.Prelude.{◌≡◌, IfOk, option_copied};
-ghost use Rattle.dewey_labels.specs.Labels.{IsLabel, is_empty};
-ghost use Rattle.tree_model.specs.StoredTree.{is_root, is_value, is_element_record, is_document_record, label_in};
-ghost use Rattle.tree_model.specs.WellFormed.{may_stand, record_fits};
+ghost use Rattle.dewey_labels.specs.Labels.{IsLabel};
+ghost use Rattle.dewey_labels.specs.Lists.{is_empty};
+ghost use Rattle.tree_model.specs.Places.{is_root};
+ghost use Rattle.tree_model.specs.StoredTree.{is_value, is_element_record, is_document_record, label_in};
+ghost use Rattle.tree_model.specs.ValidTrees.{may_stand};
 
 use dewey_labels::{Label, LabelTextError, NoMemory};
 use std::alloc::Global;
-use tree_model::{Key, Record, is_name};
-
-/// The most bytes of a text's data and of an attribute's value.
-const MOST_TEXT_BYTES: usize = 1_048_576;
+use tree_model::{Key, Record};
 
 pub fn is_root(label: &Label) -> bool
     ensures root { result ≡ is_root label.now }
@@ -39,24 +38,12 @@ pub fn label_in(alloc: Global, value: &Record) -> Result<Option<Label>, NoMemory
     }
 }
 
-/// Whether a name is one, and a text isn't too long.
-pub fn record_fits(value: &Record) -> bool
-    ensures { result ≡ record_fits value.now }
-{
-    match value {
-        Record::Document => true,
-        Record::Element(name) => is_name(name),
-        Record::Text(data) => data.as_str().len() <= MOST_TEXT_BYTES,
-        Record::Attr(text) => text.as_str().len() <= MOST_TEXT_BYTES,
-    }
-}
-
 /// Whether it is a value that isn't too long.
 pub fn is_value(value: &Record) -> bool
     ensures { result ≡ is_value value.now }
 {
     match value {
-        Record::Attr(_) => record_fits(value),
+        Record::Attr(_) => value.fits(),
         _ => false,
     }
 }

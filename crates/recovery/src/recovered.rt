@@ -1,13 +1,13 @@
 // The journal is opened and its commits are followed.
 ghost use Rattle.std.specs.Prelude.{◌≡◌, ◌≤◌, ◌+◌, ◌^◌, ◌<◌, Ok, false, IsTrue, IfOk, IfErr, MatchResult};
-ghost use Rattle.outside_traits.specs.Disks.{rests};
-ghost use Rattle.outside_traits.specs.Faults.{Rose};
+ghost use Rattle.outside_traits.specs.Disks.{all_synced};
+ghost use Rattle.outside_traits.specs.Faults.{FaultCounted};
 ghost use Rattle.outside_traits.specs.Moments.{LeavesOnly};
 ghost use Rattle.tree_model.specs.StoredTree.{IsStoredTree};
 ghost use Rattle.journal.specs.Groups.{is_next};
 ghost use Rattle.journal.specs.Journals.{is_fresh};
-ghost use Rattle.recovery.specs.Causes.{HasReason, IfDamaged};
-ghost use Rattle.recovery.specs.Opened.{opened_beside};
+ghost use Rattle.recovery.specs.Causes.{HasReason, IfDamaged, UnlessFault};
+ghost use Rattle.recovery.specs.Opened.{KeepsJournal, journal_made, opened_beside};
 
 use crate::contents::contents;
 use crate::damage::first_fault;
@@ -29,20 +29,24 @@ pub fn recover<J: Disk>(
     journal: J,
     is_empty: bool,
 ) -> Result<Recovered<J>, OpenFault<J>>
-    requires synced { IsTrue J.tells → (J.told journal).now ≡ rests (J.told journal).now.reads }
-    requires made { IsTrue J.tells → is_empty ≡ false → is_fresh (J.told journal).now.reads ≡ false }
+    requires synced { IsTrue J.is_known → (J.history journal).now ≡ all_synced (J.history journal).now.reads }
+    requires made { IsTrue J.is_known → is_empty ≡ false → is_fresh (J.history journal).now.reads ≡ false }
 
-    ensures opens { IfOk result (λ found. IsTrue J.tells → opened_beside is_empty (J.told journal).now.reads ≡ Ok (record { entries = found.gathered.base; number = found.gathered.number })) }
-    ensures opens_now { IfOk result (λ found. IsTrue J.tells → opened_beside is_empty found.journal.told.now.reads ≡ Ok (record { entries = found.gathered.base; number = found.gathered.number })) }
+    ensures opens { IfOk result (λ found. IsTrue J.is_known → opened_beside is_empty (J.history journal).now.reads ≡ Ok (record { entries = found.gathered.base; number = found.gathered.number })) }
+    ensures opens_now { IfOk result (λ found. IsTrue J.is_known → opened_beside is_empty found.journal.history.now.reads ≡ Ok (record { entries = found.gathered.base; number = found.gathered.number })) }
     ensures tree { IfOk result (λ found. IsStoredTree found.gathered.base) }
     ensures ok { IfOk result (λ found. found.journal.failed ≡ false) }
     ensures next { IfOk result (λ found. IsTrue (is_next found.journal.last (found.gathered.number + 1))) }
-    ensures synced { IfOk result (λ found. IsTrue J.tells → found.journal.told.now ≡ rests found.journal.told.now.reads) }
-    ensures any_moment { IsTrue J.tells → MatchResult result
-        (λ found. LeavesOnly (λ image. opened_beside is_empty image ≡ opened_beside is_empty (J.told journal).now.reads) (J.told journal) found.journal.told)
-        (λ refused. LeavesOnly (λ image. opened_beside is_empty image ≡ opened_beside is_empty (J.told journal).now.reads) (J.told journal) (J.told refused.disk)) }
-    ensures reason { IfErr result (λ refused. HasReason (IsTrue J.tells) (opened_beside is_empty (J.told journal).now.reads) (Rose (J.faults journal) (J.faults refused.disk)) refused.fault) }
-    ensures untouched { IfErr result (λ refused. IfDamaged refused.fault (IsTrue J.tells → J.told refused.disk ≡ J.told journal)) }
+    ensures synced { IfOk result (λ found. IsTrue J.is_known → found.journal.history.now ≡ all_synced found.journal.history.now.reads) }
+    ensures bytes { IfOk result (λ found. IsTrue J.is_known → found.journal.history.now.reads ≡ journal_made (J.history journal).now.reads) }
+    ensures kept { IfErr result (λ refused. UnlessFault refused.fault (IsTrue J.is_known → KeepsJournal (J.history journal).now.reads (J.history refused.disk).now.reads)) }
+    ensures exact { IfOk result (λ found. found.journal.faults ≡ J.faults journal) }
+    ensures uncounted { IfErr result (λ refused. UnlessFault refused.fault (J.faults refused.disk ≡ J.faults journal)) }
+    ensures any_moment { IsTrue J.is_known → MatchResult result
+        (λ found. LeavesOnly (λ image. opened_beside is_empty image ≡ opened_beside is_empty (J.history journal).now.reads) (J.history journal) found.journal.history)
+        (λ refused. LeavesOnly (λ image. opened_beside is_empty image ≡ opened_beside is_empty (J.history journal).now.reads) (J.history journal) (J.history refused.disk)) }
+    ensures reason { IfErr result (λ refused. HasReason (IsTrue J.is_known) (opened_beside is_empty (J.history journal).now.reads) (FaultCounted (J.faults journal) (J.faults refused.disk)) refused.fault) }
+    ensures untouched { IfErr result (λ refused. IfDamaged refused.fault (IsTrue J.is_known → J.history refused.disk ≡ J.history journal)) }
     ensures later { MatchResult result (λ found. J.faults journal ≤ found.journal.faults) (λ refused. J.faults journal ≤ J.faults refused.disk) }
 {
     match Journal::open(alloc, journal) {

@@ -2,7 +2,8 @@
 ghost use Rattle.std.specs.Prelude.{◌≡◌, [], false, IfOk, OnOk, option_copied};
 ghost use Rattle.std.specs.List.{AllByRecursion};
 ghost use Rattle.dewey_labels.specs.Labels.{IsLabel};
-ghost use Rattle.tree_model.specs.StoredTree.{attribute_fits, broken_at, catalogue_in, fits, is_root, may_join, may_stand_at, misfit_at, node_fits};
+ghost use Rattle.tree_model.specs.StoredTree.{attribute_fits, broken_at, catalogue_in, entry_fits, may_join, may_stand_at, misfit_at, node_fits};
+ghost use Rattle.tree_model.specs.Places.{is_root};
 ghost use Rattle.tree_model.specs.Entries.{Sorted};
 ghost use Rattle.tree_model.specs.Keys.{node_key};
 ghost use Rattle.tree_model.proofs.Entries.{last_of};
@@ -10,15 +11,12 @@ ghost use Rattle.tree_model.proofs.StoredReads.{lies_under};
 ghost use Rattle.recovery.specs.Named.{Names, StandsBehind};
 
 use crate::catalogue::{catalogue_fits, is_named_once, name_documents};
-use crate::records::{is_element, is_node, is_root, is_value, may_stand, record_fits};
+use crate::records::{is_element, is_node, is_root, is_value, may_stand};
 use dewey_labels::{Label, NoMemory};
 use node_seq::SortedSeq;
 use std::alloc::Global;
 use std::collections::BTreeMap;
-use tree_model::{Key, Record, is_name};
-
-/// The greatest level of a node.
-const DEEPEST_LEVEL: u32 = 101;
+use tree_model::{DEEPEST_LEVEL, Key, Record, is_name};
 
 /// The number of records before the first that breaks a rule of the tree. Takes n log n steps for n records.
 pub fn broken_at(alloc: Global, base: &SortedSeq) -> Result<Option<usize>, NoMemory>
@@ -71,7 +69,7 @@ fn fits(
     requires named { Names named.now (catalogue_in base.now) }
     requires sorted { Sorted base.now }
     requires stands { StandsBehind base.now before.now entry.now }
-    ensures { IfOk result (λ answer. answer ≡ fits before.now entry.now) }
+    ensures { IfOk result (λ answer. answer ≡ entry_fits before.now entry.now) }
 {
     let (key, record) = entry;
     if is_root(&key.label) {
@@ -101,7 +99,7 @@ fn node_fits(
     requires inner { is_root label.now ≡ false }
     ensures { IfOk result (λ answer. answer ≡ node_fits label.now value.now before.now) }
 {
-    if label.level() > DEEPEST_LEVEL || !record_fits(value) {
+    if label.level() > DEEPEST_LEVEL || !value.fits() {
         return Ok(false);
     }
     let may_stand = may_stand_at(alloc, base, named, before, label, value)?;

@@ -20,9 +20,9 @@ const ELEMENT: &[u8] = b"\x01\x01\x83\x69\x83\x69\0\0\0\0\0\x02\x02a";
 /// A disk that fails at the listed calls.
 fn disk(alloc: Global, file: &[u8], fails: &[u64]) -> Result<MemDisk, NoMemory> {
     let mut bytes = List::new(alloc);
-    bytes.extend_from_slice(file)?;
+    bytes.extend_from_slice(alloc, file)?;
     let mut calls = List::new(alloc);
-    calls.extend_from_slice(fails)?;
+    calls.extend_from_slice(alloc, fails)?;
     Ok(MemDisk::new(bytes, calls))
 }
 
@@ -47,14 +47,14 @@ fn commit(
 ) -> Result<(), NoMemory> {
     let mut bytes = List::new(alloc);
     for piece in body {
-        bytes.extend_from_slice(piece)?;
+        bytes.extend_from_slice(alloc, piece)?;
     }
     let Ok(length) = u8::try_from(bytes.len()) else {
         return Err(NoMemory);
     };
     let _gate = journal.pop();
-    journal.extend_from_slice(&[1, 0, 0, 0, 0, number, 0, 0, 0, length])?;
-    journal.extend_from_slice(bytes.as_slice())?;
+    journal.extend_from_slice(alloc, &[1, 0, 0, 0, 0, number, 0, 0, 0, length])?;
+    journal.extend_from_slice(alloc, bytes.as_slice())?;
     journal.push(0)?;
     Ok(())
 }
@@ -62,7 +62,7 @@ fn commit(
 /// A journal with one commit.
 fn journal(alloc: Global, body: &[&[u8]]) -> Result<List<u8>, NoMemory> {
     let mut journal = List::new(alloc);
-    journal.extend_from_slice(NEW)?;
+    journal.extend_from_slice(alloc, NEW)?;
     commit(alloc, &mut journal, 1, body)?;
     Ok(journal)
 }

@@ -4,7 +4,8 @@ use Rattle.std.specs.Cmp.Lexicographic.{slice_cmp}
 use Rattle.dewey_labels.specs.Labels.{Label, parent}
 use Rattle.tree_model.specs.Keys.{node_key}
 use Rattle.tree_model.specs.Entries.{get}
-use Rattle.tree_model.specs.StoredTree.{is_root, may_join}
+use Rattle.tree_model.specs.Places.{is_root}
+use Rattle.tree_model.specs.StoredTree.{may_join}
 use Rattle.tree_model.specs.declared.key.Key.{Key}
 use Rattle.tree_model.specs.declared.record.Record.{Record}
 use Rattle.tree_model.proofs.Entries.{last_of}
