@@ -1,0 +1,52 @@
+-- How a step follows an input that was taken so far, for any machine: what was written before the last read was asked for stays written.
+use Rattle.std.proofs.Common.{◌≡◌, ℕ, ◌+◌, ◌-◌, ◌≤◌, List, [], ◌++◌, length, take, sym, ap, ◌∙◌, subst, arith, append-nil}
+use Rattle.std.specs.Prelude.{Option, Result, Ok}
+use Rattle.std.proofs.Math.Seq.{take-append_seam}
+use Rattle.script_runs.specs.Machine.{Machine}
+use Rattle.script_runs.specs.Runs.{IsPrompt}
+use Rattle.script_runs.specs.inside.Feeding.{Script, IsNew, LeavesFrom, Leaves, TakesFrom}
+use Rattle.script_runs.specs.declared.feeding.Stop.{Stop}
+use Rattle.script_runs.proofs.LogLaws.{leaves_none, leaves_on, flushed_on}
+use Rattle.script_runs.proofs.RunLaws.{prompt_later, prompt_nothing, prompt_here, prompt_before}
+
+-- where a read was asked for behind these bytes
+asked_behind : (read piece : List ℕ) (given before asked : ℕ) → given ≡ before + length read → asked ≡ given → take (asked - before) (read ++ piece) ≡ read
+asked_behind read piece given before asked gave is =
+    let count : asked - before ≡ length read = omega (arith, gave, is) in
+    ap (λ (n : ℕ). take n (read ++ piece)) count ∙ take-append_seam read piece
+
+module _ {M : Type 0} (m : Machine M) (limit : ℕ) where
+  -- before the first read
+  pub takes_none : (s : m.State) (k : Script M) (held : Option (List ℕ)) (asked : ℕ) → m.stands k.machine s → TakesFrom m limit s k k held held [] asked (Ok tt)
+  takes_none s k held asked stands = record { leaves = leaves_none m limit s k held stands; prompt = prompt_nothing m limit s asked held }
+
+  -- a flush followed or stopped
+  pub takes_flushed : (s : m.State) (a b c : Script M) (h i j : Option (List ℕ)) (read : List ℕ) (asked : ℕ) (r : Result (Unit {0}) Stop) → TakesFrom m limit s a b h i read asked (Ok tt) → Leaves m limit b c i j [] r → TakesFrom m limit s a c h j read asked r
+  takes_flushed s a b c h i j read asked r p q =
+      let fed = p.leaves.comes in
+      record {
+        leaves = flushed_on m limit s a b c h i j read r p.leaves q;
+        prompt = prompt_later m limit s (take asked read) h i j _ p.prompt (q fed.0 fed.1).does.wrote;
+      }
+
+  -- the read behind it failed
+  pub takes_fault : (s : m.State) (a b : Script M) → IsNew a → (h i : Option (List ℕ)) (read : List ℕ) (asked : ℕ) → LeavesFrom m limit s a b h i read (Ok tt) → b.pending ≡ [] → length b.unended ≤ limit → TakesFrom m limit s a b h i read asked (Ok tt)
+  takes_fault s a b new h i read asked p written short = record { leaves = p; prompt = prompt_before m limit s asked read h i (prompt_here m limit s a new h read b i p written short) }
+
+  module _ (s : m.State) (a : Script M) (new : IsNew a) (b : Script M) (h i : Option (List ℕ)) (read : List ℕ) (p : LeavesFrom m limit s a b h i read (Ok tt)) (written : b.pending ≡ []) (short : length b.unended ≤ limit) (given before asked : ℕ) (gave : given ≡ before + length read) (is : asked ≡ given) where
+    -- the input ended
+    pub takes_end : TakesFrom m limit s a b h i read (asked - before) (Ok tt)
+    takes_end = record {
+      leaves = p;
+      prompt = subst (λ (x : List ℕ). IsPrompt m limit s x h i) (sym (ap (take (asked - before)) (sym (append-nil read)) ∙ asked_behind read [] given before asked gave is)) (prompt_here m limit s a new h read b i p written short);
+    }
+
+    -- a piece was read behind what is written, and a step took it or stopped
+    pub takes_piece : (c : Script M) (j : Option (List ℕ)) (piece : List ℕ) (r : Result (Unit {0}) Stop) → Leaves m limit b c i j piece r → TakesFrom m limit s a c h j (read ++ piece) (asked - before) r
+    takes_piece c j piece r q =
+        let fed = p.comes in
+        record {
+          leaves = leaves_on m limit s a b c h i j read piece r p q;
+          prompt = subst (λ (x : List ℕ). IsPrompt m limit s x h j) (sym (asked_behind read piece given before asked gave is))
+              (prompt_later m limit s read h i j _ (prompt_here m limit s a new h read b i p written short) (q fed.0 fed.1).does.wrote);
+        }

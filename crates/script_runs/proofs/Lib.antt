@@ -1,0 +1,6 @@
+pub mod EchoLaws
+pub mod FeedingLaws
+pub mod InputLaws
+pub mod LineEnds
+pub mod LogLaws
+pub mod RunLaws

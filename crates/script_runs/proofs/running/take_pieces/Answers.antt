@@ -1,0 +1,120 @@
+use Rattle.std.specs.Option.{option_map}
+use Rattle.std.specs.Prelude.{Option}
+use Rattle.std.proofs.Common.{rules, arith, refl, ap, ◌∙◌, append-nil, ◌≡◌, ◌+◌, ℕ, List, [], ◌++◌, take, sym, subst, length-append, Ok, Err}
+use Rattle.outside_traits.specs.Bytes.{Gave}
+use Rattle.outside_traits.proofs.Laws.{gave_none, gave_on}
+use Rattle.script_runs.specs.Lines.{line_limit}
+use Rattle.script_runs.specs.Machine.{IsReady}
+use Rattle.script_runs.specs.inside.Feeding.{TakesFrom, went}
+use Rattle.script_runs.proofs.LogLaws.{flushed_on}
+use Rattle.script_runs.proofs.InputLaws.{takes_none, takes_flushed, takes_fault, takes_end, takes_piece}
+use Rattle.script_runs.proofs.running.take_pieces.Goals as goal
+
+-- one piece more was given
+gave_piece : (a b c : Option (List ℕ)) (read piece prefix : List ℕ) → Gave a b read → piece ≡ prefix → Gave b c prefix → Gave a c (read ++ piece)
+gave_piece a b c read piece prefix so_far is given = gave_on a b c read piece so_far (subst (Gave b c) (sym is) given)
+
+pub feed-requires-clause-ready : goal.feed-requires-clause-ready
+feed-requires-clause-ready g c = subst (IsReady g.M.LineMachine.machine) (sym c.in_ok-flush.ensures.machine) c.loop-source.invariant.ready
+
+pub loop-source-init : goal.loop-source-init
+loop-source-init g c = record {
+  so_far = ([], gave_none _, omega arith, λ s stands. takes_none g.M.LineMachine.machine line_limit s c.args.script.now (g.K.Sink.held c.args.sink.now) _ stands);
+  ready = c.requires.ready;
+  same_reference = refl;
+  used = ap (λ n. g.S.Source.given c.args.source.now.inner.now + n) c.requires.room;
+  lines = omega (arith, c.requires.new.lines, c.requires.room);
+  no_read_fault = refl;
+  no_write_fault = refl;
+  no_disk_fault = refl;
+}
+
+pub returns-in_err-flush-clause-takes : goal.returns-in_err-flush-clause-takes
+returns-in_err-flush-clause-takes g c =
+    let so = c.loop-source.invariant.so_far in
+    let h = g.K.Sink.held c.args.sink.now in
+    let j = g.K.Sink.held c.flush.new.sink in
+    let is : c.from_residual.result ≡ Err c.in_err-flush.field-0.0 = search rules in
+    let stop : went c.from_residual.result ≡ Err c.in_err-flush.field-0.0 = ap went is in (
+      so.0,
+      so.1,
+      so.2,
+      λ s stands.
+          subst (TakesFrom g.M.LineMachine.machine line_limit s c.args.script.now c.flush.new.self h j so.0 _) (sym stop)
+          (takes_flushed g.M.LineMachine.machine line_limit s c.args.script.now c.loop-source.script c.flush.new.self h _ j so.0 _ (Err c.in_err-flush.field-0.0) (so.3 s stands) c.in_err-flush.ensures.leaves),
+    )
+
+pub returns-in-Err-clause-takes : goal.returns-in-Err-clause-takes
+returns-in-Err-clause-takes g c =
+    let m = g.M.LineMachine.machine in
+    let so = c.loop-source.invariant.so_far in
+    let err = c.in-Err.ensures.err in
+    let f = c.in_ok-flush.ensures in (
+      so.0,
+      so.1 ∙ ap (λ o. option_map (λ rest. so.0 ++ rest) o) (sym err.0),
+      omega (arith, so.2, err.1),
+      λ s stands. takes_fault m line_limit s c.args.script.now c.flush.new.self c.requires.new _ _ so.0 _ (flushed_on m line_limit s c.args.script.now c.loop-source.script c.flush.new.self _ _ _ so.0 (Ok tt) (so.3 s stands).leaves f.leaves) f.empty f.short,
+    )
+
+pub returns-then-count-eq0-clause-takes : goal.returns-then-count-eq0-clause-takes
+returns-then-count-eq0-clause-takes g c =
+    let m = g.M.LineMachine.machine in
+    let so = c.loop-source.invariant.so_far in
+    let f = c.in_ok-flush.ensures in
+    let left = g.S.Source.left c.args.source.now.inner.now in
+    let now = g.S.Source.left c.read.new.self.inner.now in
+    let none : c.in-Ok.count ≡ 0 = search rules in
+    let gave : Gave left now so.0 = subst (Gave left now) (ap (λ k. so.0 ++ take k c.read.new.buf) none ∙ append-nil so.0) (gave_on _ _ _ so.0 (take c.in-Ok.count c.read.new.buf) so.1 c.in-Ok.ensures.bytes) in (
+      so.0,
+      gave,
+      omega (arith, so.2, c.in-Ok.ensures.count, none),
+      λ s stands.
+          takes_end m line_limit s c.args.script.now c.requires.new c.flush.new.self _ _ so.0 (flushed_on m line_limit s c.args.script.now c.loop-source.script c.flush.new.self _ _ _ so.0 (Ok tt) (so.3 s stands).leaves f.leaves) f.empty f.short
+          _ _ _ so.2 c.in-Ok.ensures.asked,
+    )
+
+pub returns-in_err-feed-clause-takes : goal.returns-in_err-feed-clause-takes
+returns-in_err-feed-clause-takes g c =
+    let m = g.M.LineMachine.machine in
+    let so = c.loop-source.invariant.so_far in
+    let f = c.in_ok-flush.ensures in
+    let piece = c.split_at.result.0.now in
+    let e = c.in_err-feed.field-0.0 in
+    let h = g.K.Sink.held c.args.sink.now in
+    let j = g.K.Sink.held c.feed.new.sink in
+    let is : c.from_residual-in_err-feed.result ≡ Err e = search rules in
+    let stop : went c.from_residual-in_err-feed.result ≡ Err e = ap went is in (
+      so.0 ++ piece,
+      gave_piece _ _ _ so.0 piece (take c.in-Ok.count c.read.new.buf) so.1 c.split_at.ensures.front c.in-Ok.ensures.bytes,
+      omega (arith, so.2, c.in-Ok.ensures.count, c.split_at.ensures.front_len, length-append so.0 piece),
+      λ s stands.
+          subst (TakesFrom m line_limit s c.args.script.now c.feed.new.self h j (so.0 ++ piece) _) (sym stop)
+          (takes_piece m line_limit s c.args.script.now c.requires.new c.flush.new.self h _ so.0 (flushed_on m line_limit s c.args.script.now c.loop-source.script c.flush.new.self h _ _ so.0 (Ok tt) (so.3 s stands).leaves f.leaves) f.empty f.short
+          _ _ _ so.2 c.in-Ok.ensures.asked c.feed.new.self j piece (Err e) c.in_err-feed.ensures.leaves),
+    )
+
+pub loop-source-preserved : goal.loop-source-preserved
+loop-source-preserved g c =
+    let m = g.M.LineMachine.machine in
+    let so = c.loop-source.invariant.so_far in
+    let f = c.in_ok-flush.ensures in
+    let fed = c.in_ok-feed.ensures in
+    let piece = c.split_at.result.0.now in
+    let invariant = c.loop-source.invariant in
+    record {
+      so_far = (
+        so.0 ++ piece,
+        gave_piece _ _ _ so.0 piece (take c.in-Ok.count c.read.new.buf) so.1 c.split_at.ensures.front c.in-Ok.ensures.bytes,
+        omega (arith, so.2, c.in-Ok.ensures.count, c.split_at.ensures.front_len, length-append so.0 piece),
+        λ s stands.
+            takes_piece m line_limit s c.args.script.now c.requires.new c.flush.new.self _ _ so.0 (flushed_on m line_limit s c.args.script.now c.loop-source.script c.flush.new.self _ _ _ so.0 (Ok tt) (so.3 s stands).leaves f.leaves) f.empty f.short
+            _ _ _ so.2 c.in-Ok.ensures.asked c.feed.new.self _ piece (Ok tt) fed.leaves,
+      );
+      ready = fed.ready;
+      same_reference = c.in-Ok.ensures.same_reference ∙ invariant.same_reference;
+      used = omega (arith, invariant.used, c.in-Ok.ensures.room);
+      lines = omega (arith, invariant.lines, fed.lines, f.lines, c.split_at.ensures.front_len, c.in-Ok.ensures.count, c.in-Ok.ensures.room);
+      no_read_fault = c.in-Ok.ensures.below.exact ∙ invariant.no_read_fault;
+      no_write_fault = fed.write.exact (λ e. cc) ∙ f.write.exact (λ e. cc) ∙ invariant.no_write_fault;
+      no_disk_fault = fed.disk.exact (λ e. cc) ∙ ap m.faults f.machine ∙ invariant.no_disk_fault;
+    }

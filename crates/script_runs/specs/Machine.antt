@@ -1,0 +1,40 @@
+-- A machine that does the lines of a script over a store's two disks, for proofs.
+use Rattle.std.specs.Prelude.{◌⊎◌, ℕ, List, Bool, IsTrue}
+use Rattle.outside_traits.specs.DiskPairs.{Pair, PairsHave}
+use Rattle.script_runs.specs.Counts.{Counts}
+
+-- A type `Self` that does lines.
+-- `State`: what its answers depend on. `text`: what a line, by its number from 1, is answered in a state; `next`: the state after it.
+-- `holds`: which two files stand for what is committed in a state.
+-- `stands`: in which states a value is. `usable`: whether it may be asked. `settled`: what it knows of its disks between two lines.
+-- `fixed`: what of a value no line changes, a `Fixed`.
+-- `is_known`: whether the histories of its disks are known; `disks`: those histories; `faults`: the disks' counts.
+pub record Machine (Self : Type 0) : Type 1 where
+  pub State : Type 0
+  pub text : State → ℕ → List ℕ → List ℕ
+  pub next : State → List ℕ → State
+  pub holds : State → List ℕ → List ℕ → Type 0
+  pub stands : Self → State → Type 0
+  pub usable : Self → Type 0
+  pub settled : Self → Type 0
+  pub Fixed : Type 0
+  pub fixed : Self → Fixed
+  pub is_known : Bool
+  pub disks : Self → Pair
+  pub faults : Self → Counts
+
+-- it may be asked, and is in some state
+pub record IsReady {M : Type 0} (m : Machine M) (k : M) : Type 0 where
+  pub state : m.State
+  pub stands : m.stands k state
+  pub usable : m.usable k
+
+-- its disks are known, and what a crash leaves of them stands for what is committed in this state
+pub record IsSettled {M : Type 0} (m : Machine M) (k : M) (s : m.State) : Type 0 where
+  pub is_known : IsTrue m.is_known
+  pub kept : m.settled k
+  pub holds : PairsHave (m.holds s) (m.disks k)
+
+-- two files stand for what is committed in the one state or in the other
+abbrev pub HoldsEither : {M : Type 0} (m : Machine M) → m.State → m.State → List ℕ → List ℕ → Type 0
+HoldsEither m s t journal pages = m.holds s journal pages ⊎ m.holds t journal pages

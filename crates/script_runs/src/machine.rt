@@ -1,0 +1,32 @@
+ghost use Rattle.std.specs.Prelude.{◌≡◌, ◌++◌, Err, OnOk};
+ghost use Rattle.outside_traits.specs.DiskPairs.{PairsLeave};
+ghost use Rattle.script_runs.specs.Counts.{DisksCountedWhere};
+ghost use Rattle.script_runs.specs.Machine.{Machine, IsReady, IsSettled, HoldsEither};
+
+use crate::halt::Halt;
+use std::alloc::Global;
+
+/// Does the lines of a script over a store's two disks, one at a time.
+pub trait LineMachine {
+    ghost machine: { Machine Self };
+
+    /// Does a line, by its number from 1, and adds its replies to `out`. After an error the machine isn't used again.
+    fn line(
+        &mut self,
+        alloc: Global,
+        number: u64,
+        line: &[u8],
+        out: &mut Vec<u8>,
+    ) -> Result<(), Halt>
+        requires ready { IsReady machine self.old }
+        ensures state { OnOk result ((s : machine.State) → machine.stands self.old s → machine.stands self.new (machine.next s line.now)) }
+        ensures text { OnOk result ((s : machine.State) → machine.stands self.old s → out.new.items ≡ out.old.items ++ machine.text s number line.now) }
+        ensures ready { OnOk result (IsReady machine self.new) }
+        ensures settled { OnOk result ((s : machine.State) → machine.stands self.old s → IsSettled machine self.old s → IsSettled machine self.new (machine.next s line.now)) }
+
+        // A crash at any moment of it leaves what was committed before the line or what is after it.
+        ensures any_moment { (s : machine.State) → machine.stands self.old s → IsSettled machine self.old s
+            → PairsLeave (HoldsEither machine s (machine.next s line.now)) (machine.disks self.old) (machine.disks self.new) }
+        ensures fixed { machine.fixed self.new ≡ machine.fixed self.old }
+        ensures cause { DisksCountedWhere (result ≡ Err Halt.DiskFault) (machine.faults self.old) (machine.faults self.new) };
+}

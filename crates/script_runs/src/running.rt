@@ -1,0 +1,188 @@
+ghost use Rattle.std.specs.Prelude.{◌≡◌, ◌≢◌, ◌+◌, ◌-◌, ◌<◌, ◌≤◌, ℕ, List, [], length, OnOk, Ok, Err, IfSome, IfOk};
+ghost use Rattle.outside_kinds.specs.Bounds.{input_limit};
+ghost use Rattle.outside_traits.specs.Bytes.{Gave};
+ghost use Rattle.script_runs.specs.Counts.{CountedWhere, DisksCountedWhere, ReadCountedWhere};
+ghost use Rattle.script_runs.specs.Lines.{line_limit};
+ghost use Rattle.script_runs.specs.Machine.{IsReady};
+ghost use Rattle.script_runs.specs.Runs.{Ran};
+ghost use Rattle.script_runs.specs.inside.Feeding.{IsNew, TakesFrom, IfGoesOn, went, stopped};
+
+use crate::feeding::{Script, Stop};
+use crate::halt::Halt;
+use crate::machine::LineMachine;
+use outside_kinds::Bounded;
+use outside_traits::{Failed, Sink, Source};
+use std::alloc::{AllocError, Global};
+
+/// How many bytes are asked for at a time.
+const PIECE: usize = 65_536;
+
+/// How the reading came to its end.
+#[derive(Clone, Copy, Debug, PartialEq, Eq)]
+enum Input {
+    Ended,
+    Fault,
+}
+
+/// How a run of a script ended.
+#[derive(Clone, Copy, Debug, PartialEq, Eq)]
+pub enum End {
+    Done,
+    LineTooLong { line: u64 },
+    ReadFault,
+    WriteFault,
+    Halted(Halt),
+}
+
+/// How a run ended, and its machine.
+#[derive(Drop)]
+pub struct Finish<M> {
+    pub end: End,
+    pub machine: M,
+}
+
+/// Runs the script of the source: does its lines one after the other, and writes what they are answered.
+/// All that is pending is written before each read, so whoever writes a line and waits has its reply.
+pub fn run<S: Source, K: Sink, M: LineMachine>(
+    alloc: Global,
+    machine: M,
+    source: &mut S,
+    sink: &mut K,
+) -> Finish<M>
+    requires ready { IsReady M.machine machine }
+    ensures ran { (read : List ℕ) × Gave (S.left source.old) (S.left source.new) read × (S.given source.new ≡ S.given source.old + length read)
+        × ((s : M.machine.State) → M.machine.stands machine s
+        → Ran M.machine line_limit s result.end read (S.asked source.new - S.given source.old) (S.left source.new) (K.held sink.old) (K.held sink.new) machine result.machine) }
+    ensures whole { result.end ≡ End.Done → IfSome (S.left source.new) (λ rest. rest ≡ []) }
+    ensures read { ReadCountedWhere (result.end ≡ End.ReadFault) input_limit (S.faults source.old) (S.faults source.new) (S.given source.old) (S.given source.new) }
+    ensures write { CountedWhere (result.end ≡ End.WriteFault) (K.faults sink.old) (K.faults sink.new) }
+    ensures disk { DisksCountedWhere (result.end ≡ End.Halted Halt.DiskFault) (M.machine.faults machine) (M.machine.faults result.machine) }
+{
+    let mut script = Script::new(alloc, machine);
+    let end = match buffer(alloc) {
+        Ok(mut buffer) => run_script(alloc, &mut script, source, sink, &mut buffer),
+        Err(_) => End::Halted(Halt::NoMemory),
+    };
+    Finish {
+        end,
+        machine: script.into_machine(),
+    }
+}
+
+/// Room for a piece.
+pub fn buffer(alloc: Global) -> Result<Vec<u8>, AllocError>
+    ensures { IfOk result (λ buffer. 0 < length buffer.items) }
+{
+    Vec::from_elem(alloc, 0u8, PIECE)
+}
+
+/// Runs the script of the source.
+fn run_script<S: Source, K: Sink, M: LineMachine>(
+    alloc: Global,
+    script: &mut Script<M>,
+    source: &mut S,
+    sink: &mut K,
+    buffer: &mut [u8],
+) -> End
+    requires new { IsNew script.old }
+    requires ready { IsReady M.machine script.old.machine }
+    requires some { 0 < length buffer.old }
+    ensures ran { (read : List ℕ) × Gave (S.left source.old) (S.left source.new) read × (S.given source.new ≡ S.given source.old + length read)
+        × ((s : M.machine.State) → M.machine.stands script.old.machine s
+        → Ran M.machine line_limit s result read (S.asked source.new - S.given source.old) (S.left source.new) (K.held sink.old) (K.held sink.new) script.old.machine script.new.machine) }
+    ensures whole { result ≡ End.Done → IfSome (S.left source.new) (λ rest. rest ≡ []) }
+    ensures read { ReadCountedWhere (result ≡ End.ReadFault) input_limit (S.faults source.old) (S.faults source.new) (S.given source.old) (S.given source.new) }
+    ensures write { CountedWhere (result ≡ End.WriteFault) (K.faults sink.old) (K.faults sink.new) }
+    ensures disk { DisksCountedWhere (result ≡ End.Halted Halt.DiskFault) (M.machine.faults script.old.machine) (M.machine.faults script.new.machine) }
+{
+    match take_all(script, alloc, source, sink, buffer) {
+        Ok(Input::Ended) => match script.finish(alloc, sink) {
+            Ok(()) => End::Done,
+            Err(stop) => end_of_stop(stop),
+        },
+        Ok(Input::Fault) => End::ReadFault,
+        Err(Stop::LineTooLong) => match script.flush(sink) {
+            Ok(()) => End::LineTooLong {
+                line: script.lines() + 1,
+            },
+            Err(_) => End::WriteFault,
+        },
+        Err(stop) => end_of_stop(stop),
+    }
+}
+
+/// The end of a script that stopped for good.
+fn end_of_stop(stop: Stop) -> End
+    requires { stop ≢ Stop.LineTooLong }
+    ensures { result ≡ stopped stop }
+{
+    match stop {
+        Stop::WriteFault => End::WriteFault,
+        Stop::Halted(halt) => End::Halted(halt),
+        Stop::LineTooLong => unreachable!(),
+    }
+}
+
+/// Takes the whole input into a new script, or as much of it as one run takes.
+fn take_all<S: Source, K: Sink, M: LineMachine>(
+    script: &mut Script<M>,
+    alloc: Global,
+    source: &mut S,
+    sink: &mut K,
+    buffer: &mut [u8],
+) -> Result<Input, Stop>
+    requires new { IsNew script.old }
+    requires ready { IsReady M.machine script.old.machine }
+    requires some { 0 < length buffer.old }
+    ensures takes { (read : List ℕ) × Gave (S.left source.old) (S.left source.new) read × (S.given source.new ≡ S.given source.old + length read)
+        × ((s : M.machine.State) → M.machine.stands script.old.machine s
+        → TakesFrom M.machine line_limit s script.old script.new (K.held sink.old) (K.held sink.new) read (S.asked source.new - S.given source.old) (went result)) }
+    ensures ready { IfGoesOn (IsReady M.machine script.new.machine) (went result) }
+    ensures lines { script.new.lines ≤ input_limit }
+    ensures written { OnOk result ((script.new.pending ≡ []) × (length script.new.unended ≤ line_limit)) }
+    ensures ended { result ≡ Ok Input.Ended → IfSome (S.left source.new) (λ rest. rest ≡ []) }
+    ensures read { ReadCountedWhere (result ≡ Ok Input.Fault) input_limit (S.faults source.old) (S.faults source.new) (S.given source.old) (S.given source.new) }
+    ensures write { CountedWhere (result ≡ Err Stop.WriteFault) (K.faults sink.old) (K.faults sink.new) }
+    ensures disk { DisksCountedWhere (result ≡ Err (Stop.Halted Halt.DiskFault)) (M.machine.faults script.old.machine) (M.machine.faults script.new.machine) }
+{
+    let mut bounded = Bounded::new(source);
+    take_pieces(script, alloc, &mut bounded, sink, buffer)
+}
+
+/// Takes piece by piece. Before each read all that is pending is written.
+fn take_pieces<S: Source, K: Sink, M: LineMachine>(
+    script: &mut Script<M>,
+    alloc: Global,
+    source: &mut Bounded<'_, S>,
+    sink: &mut K,
+    buffer: &mut [u8],
+) -> Result<Input, Stop>
+    requires new { IsNew script.old }
+    requires ready { IsReady M.machine script.old.machine }
+    requires room { source.old.room ≡ input_limit }
+    requires some { 0 < length buffer.old }
+    ensures takes { (read : List ℕ) × Gave (S.left source.old.inner.now) (S.left source.new.inner.now) read × (S.given source.new.inner.now ≡ S.given source.old.inner.now + length read)
+        × ((s : M.machine.State) → M.machine.stands script.old.machine s
+        → TakesFrom M.machine line_limit s script.old script.new (K.held sink.old) (K.held sink.new) read (S.asked source.new.inner.now - S.given source.old.inner.now) (went result)) }
+    ensures ready { IfGoesOn (IsReady M.machine script.new.machine) (went result) }
+    ensures same_reference { source.new.inner.ghost_name ≡ source.old.inner.ghost_name }
+    ensures lines { script.new.lines ≤ input_limit }
+    ensures written { OnOk result ((script.new.pending ≡ []) × (length script.new.unended ≤ line_limit)) }
+    ensures ended { result ≡ Ok Input.Ended → IfSome (S.left source.new.inner.now) (λ rest. rest ≡ []) }
+    ensures read { ReadCountedWhere (result ≡ Ok Input.Fault) input_limit (S.faults source.old.inner.now) (S.faults source.new.inner.now) (S.given source.old.inner.now) (S.given source.new.inner.now) }
+    ensures write { CountedWhere (result ≡ Err Stop.WriteFault) (K.faults sink.old) (K.faults sink.new) }
+    ensures disk { DisksCountedWhere (result ≡ Err (Stop.Halted Halt.DiskFault)) (M.machine.faults script.old.machine) (M.machine.faults script.new.machine) }
+{
+    loop {
+        script.flush(sink)?;
+        let count = match source.read(buffer) {
+            Ok(count) => count,
+            Err(Failed) => return Ok(Input::Fault),
+        };
+        if count == 0 {
+            return Ok(Input::Ended);
+        }
+        let (piece, _) = buffer.split_at(count);
+        script.feed(alloc, piece, sink)?;
+    }
+}
