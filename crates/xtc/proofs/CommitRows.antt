@@ -8,7 +8,7 @@ use Rattle.dewey_labels.specs.Labels.{Label}
 use Rattle.tree_model.specs.declared.record.Record.TheVariants.{Document, Element}
 use Rattle.tree_model.specs.declared.reply.Reply.TheVariants.{Number, Place}
 use Rattle.tree_model.specs.DomCalls.{dom}
-use Rattle.tree_model.specs.DomWrites.{create}
+use Rattle.tree_model.specs.Documents.{create}
 use Rattle.tree_model.specs.Entries.{put_all}
 use Rattle.tree_model.specs.Names.{Name, is_name, is_start_char, is_name_char}
 use Rattle.tree_model.specs.Tree.{Tree, none, node, empty_tree}
@@ -41,10 +41,10 @@ abbrev empty : State
 empty = fresh empty_tree 0 1
 
 abbrev live : State
-live = record { committed = empty_tree; view = Some with_x; own = new_entries x a document; begun = 1; number = 0; opened = 0; limit = 1 }
+live = record { committed = empty_tree; view = Some with_x; overlay = new_entries x a document; begun = 1; number = 0; opened = 0; limit = 1 }
 
 abbrev committed : State
-committed = record { committed = with_x; view = None; own = []; begun = 1; number = 1; opened = 0; limit = 1 }
+committed = record { committed = with_x; view = None; overlay = []; begun = 1; number = 1; opened = 0; limit = 1 }
 
 created : dom (create_call x a) empty_tree ≡ (Place (Some document), with_x)
 unfolding is_name is_utf8 chars encode is_start_char is_name_char
@@ -52,10 +52,10 @@ created = ap (λ f. create x f empty_tree) (plain-Element a [] [])
 
 puts : after (after empty Begin) (Create x a) ≡ live
 unfolding digits
-puts = ap (λ outcome. record { committed = empty_tree; view = Some outcome.1; own = put_all (entries_of_reply x a outcome.0) []; begun = 1; number = 0; opened = 0; limit = 1 }) created
+puts = ap (λ outcome. record { committed = empty_tree; view = Some outcome.1; overlay = put_all (entries_of_reply x a outcome.0) []; begun = 1; number = 0; opened = 0; limit = 1 }) created
 
 -- the 41 bytes
-body : commit_body live.own ≡ first_body
+body : commit_body live.overlay ≡ first_body
 unfolding digits
 body = refl
 

@@ -8,8 +8,8 @@ use Rattle.journal.specs.Views.{JournalView}
 use Rattle.tree_model.specs.Names.{Name, is_name}
 use Rattle.tree_model.specs.Entries.{put_all}
 use Rattle.tree_model.specs.Tree.{Tree, map_of}
-use Rattle.tree_model.specs.WellFormed.{WellFormed}
-use Rattle.tree_model.specs.DomWrites.{create}
+use Rattle.tree_model.specs.ValidTrees.{IsValidTree}
+use Rattle.tree_model.specs.Documents.{create}
 use Rattle.tree_model.specs.Outcomes.{Outcome}
 use Rattle.tree_model.specs.DomCalls.{dom}
 use Rattle.tree_model.proofs.Creates.{create_keeps}
@@ -27,23 +27,23 @@ create_is n e t = ap (λ f. create n f t) (sym (plain-Element e [] []))
 -- a transaction made `create`
 pub create_stands : (k m : Kept) (s : State) (n e : Name) → Stands k s → k.live ≡ true → is_name e ≡ true
     → m.live ≡ k.live → m.committed ≡ k.committed → m.begun ≡ k.begun → m.number ≡ k.number → m.opened ≡ k.opened → m.limit ≡ k.limit
-    → ((t : Tree) → WellFormed t → k.seen ≡ map_of t → m.seen ≡ map_of (create n (bare_element e) t).1)
-    → ((t : Tree) → WellFormed t → k.seen ≡ map_of t → m.own ≡ put_all (entries_of_reply n e (create n (bare_element e) t).0) k.own)
+    → ((t : Tree) → IsValidTree t → k.seen ≡ map_of t → m.seen ≡ map_of (create n (bare_element e) t).1)
+    → ((t : Tree) → IsValidTree t → k.seen ≡ map_of t → m.overlay ≡ put_all (entries_of_reply n e (create n (bare_element e) t).0) k.overlay)
     → Stands m (after s (Create n e))
-create_stands k m s n e stands live name live_is committed begun number opened limit seen own = by s.view stands.view
+create_stands k m s n e stands live name live_is committed begun number opened limit seen overlay = by s.view stands.view
   where
     by : (v : Option Tree) → Sees k v → Stands m (after_create s n e v)
     by None sees = absurd (true≢false (sym live ∙ sees))
     by (Some t) sees = record {
       committed = record { formed = stands.committed.formed; map = committed ∙ stands.committed.map };
-      own =
-          own t sees.1.formed sees.1.map
-          ∙ ap (λ (o : Outcome). put_all (entries_of_reply n e o.0) k.own) (create_is n e t)
-          ∙ ap (put_all (entries_of_reply n e (dom (create_call n e) t).0)) stands.own;
+      overlay =
+          overlay t sees.1.formed sees.1.map
+          ∙ ap (λ (o : Outcome). put_all (entries_of_reply n e o.0) k.overlay) (create_is n e t)
+          ∙ ap (put_all (entries_of_reply n e (dom (create_call n e) t).0)) stands.overlay;
       view = (
         live_is ∙ live,
         record {
-          formed = subst (λ (o : Outcome). WellFormed o.1) (create_is n e t) (create_keeps n (bare_element e) t sees.1.formed (name, tt, tt, tt, tt));
+          formed = subst (λ (o : Outcome). IsValidTree o.1) (create_is n e t) (create_keeps n (bare_element e) t sees.1.formed (name, tt, tt, tt, tt));
           map = seen t sees.1.formed sees.1.map ∙ ap (λ (o : Outcome). map_of o.1) (create_is n e t);
         },
       );
@@ -77,5 +77,5 @@ asked_ready k m what is ready = record {
   next = (λ i. is_next (is.journal i).last (is.number i + 1)) ∙ ready.next;
 }
 
-pub stays_there : (P : List ℕ → Type 0) (k m : Kept) → m.journal ≡ k.journal → LeavesOnly P k.journal.told m.journal.told
-stays_there P k m same = subst (λ (j : JournalView). LeavesOnly P k.journal.told j.told) (sym same) (started P k.journal.told)
+pub stays_there : (P : List ℕ → Type 0) (k m : Kept) → m.journal ≡ k.journal → LeavesOnly P k.journal.history m.journal.history
+stays_there P k m same = subst (λ (j : JournalView). LeavesOnly P k.journal.history j.history) (sym same) (started P k.journal.history)

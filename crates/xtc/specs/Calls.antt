@@ -1,8 +1,8 @@
--- A call over a map: what it answers is the call's answer on whichever well formed tree the map stands for.
+-- A call over a map: what it answers is the call's answer on whichever valid tree the map stands for.
 use Rattle.std.specs.Prelude.{◌≡◌, [], ◌∷◌, ◌++◌, if◌then◌else◌, Option, Some, None, Result, IfOk}
 use Rattle.dewey_labels.specs.Labels.{Label, root}
 use Rattle.dewey_labels.specs.LabelText.{label_text}
-use Rattle.dewey_labels.specs.NewLabels.{new_label}
+use Rattle.dewey_labels.specs.NewLabels.{new_label, first_division}
 use Rattle.tree_model.specs.declared.record.Record.TheVariants.{Document, Element, Attr}
 use Rattle.tree_model.specs.declared.reply.Reply.{Reply}
 use Rattle.tree_model.specs.declared.reply.Reply.TheVariants.{Place, Refused}
@@ -11,14 +11,14 @@ use Rattle.tree_model.specs.Keys.{key_at, node_key}
 use Rattle.tree_model.specs.Entries.{Entries}
 use Rattle.tree_model.specs.Names.{Name}
 use Rattle.tree_model.specs.Tree.{Tree, map_of}
-use Rattle.tree_model.specs.WellFormed.{WellFormed}
+use Rattle.tree_model.specs.ValidTrees.{IsValidTree}
 use Rattle.tree_model.specs.Fragments.{Fragments, no_more, element}
-use Rattle.tree_model.specs.Graft.{first_division, all_within}
-use Rattle.tree_model.specs.DomWrites.{document_at}
+use Rattle.tree_model.specs.Graft.{all_within}
+use Rattle.tree_model.specs.Documents.{document_at}
 
 -- where the map stands for a tree, the result is right of it
 abbrev pub OnTree : {A E : Type 0} → Option Entries → Result A E → (Tree → A → Type 0) → Type 0
-OnTree told result P = IfOk result (λ r. (t : Tree) → WellFormed t → told ≡ Some (map_of t) → P t r)
+OnTree contents result P = IfOk result (λ r. (t : Tree) → IsValidTree t → contents ≡ Some (map_of t) → P t r)
 
 -- an element without attributes and children
 abbrev pub bare_element : Name → Fragments

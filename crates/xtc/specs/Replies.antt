@@ -8,11 +8,8 @@ use Rattle.tree_model.specs.declared.reply.Reply.{Reply}
 use Rattle.tree_model.specs.declared.reply.Reply.TheVariants.{Number, Place, Refused}
 use Rattle.tree_model.specs.declared.refusal.Refusal.{Refusal}
 use Rattle.tree_model.specs.declared.refusal.Refusal.TheVariants.{Dom, DocumentExists, TooDeep, TextLimit, LabelLimit}
-use Rattle.xtc.specs.declared.line.Line.{Line}
-use Rattle.xtc.specs.declared.line.Line.TheVariants.{Blank, Ask, Later}
 use Rattle.xtc.specs.declared.session.SessionError.{SessionError}
 use Rattle.xtc.specs.declared.session.SessionError.TheVariants.{InTransaction, NoTransaction, TxLimit, CommitLimit}
-use Rattle.xtc.specs.Session.{State, answer_to}
 
 -- the number of the one session
 abbrev pub session_one : Data
@@ -86,9 +83,3 @@ answer_text answer = reply_text (answer_value answer)
 
 abbrev pub bad_text : ℕ → List ℕ
 bad_text line = reply_text (bad_value line)
-
--- what line number `n` is answered
-abbrev pub line_text : State → ℕ → Line → List ℕ
-line_text s n Blank = []
-line_text s n (Ask what) = answer_text (answer_to s what)
-line_text s n Later = bad_text n

@@ -98,10 +98,10 @@ unfoldable pub line_of : List ℕ → Line
 line_of line = if list_all is_blank_byte line then Blank else request_of (value_of line)
 
 -- the element's name in a request is a Name
-abbrev pub IsLawfulRequest : What → Type 0
-IsLawfulRequest (Create name element) = IsTrue (is_name element)
-IsLawfulRequest what = Unit {0}
+abbrev pub IsValidRequest : What → Type 0
+IsValidRequest (Create name element) = IsTrue (is_name element)
+IsValidRequest what = Unit {0}
 
-abbrev pub IsLawfulLine : Line → Type 0
-IsLawfulLine (Ask what) = IsLawfulRequest what
-IsLawfulLine line = Unit {0}
+abbrev pub IsValidLine : Line → Type 0
+IsValidLine (Ask what) = IsValidRequest what
+IsValidLine line = Unit {0}

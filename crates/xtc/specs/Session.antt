@@ -22,7 +22,7 @@ use Rattle.xtc.specs.declared.session.SessionError.TheVariants.{InTransaction, N
 pub record State : Type 0 where
   pub committed : Tree
   pub view : Option Tree
-  pub own : Entries
+  pub overlay : Entries
   pub begun : ℕ
   pub number : ℕ
   pub opened : ℕ
@@ -30,7 +30,7 @@ pub record State : Type 0 where
 
 -- as the opening finds it
 abbrev pub fresh : Tree → ℕ → ℕ → State
-fresh t opened limit = record { committed = t; view = None; own = []; begun = 0; number = opened; opened = opened; limit = limit }
+fresh t opened limit = record { committed = t; view = None; overlay = []; begun = 0; number = opened; opened = opened; limit = limit }
 
 -- as many transactions were begun as commits may be numbered
 abbrev pub is_spent : State → Bool
@@ -53,7 +53,7 @@ put_change e = change_at e.0 (Some e.1)
 
 -- the body of a commit: a change for each key that the transaction put, in the order of the keys
 abbrev pub commit_body : Entries → List ℕ
-commit_body own = changes_bytes (map put_change own)
+commit_body overlay = changes_bytes (map put_change overlay)
 
 -- the most bytes that a body may have
 abbrev pub body_limit : ℕ
@@ -61,7 +61,7 @@ body_limit = 4294967295
 
 -- the commit's body passes the limit
 abbrev pub is_past_limit : State → Bool
-is_past_limit s = nat_lt body_limit (length (commit_body s.own))
+is_past_limit s = nat_lt body_limit (length (commit_body s.overlay))
 
 -- the number of a commit
 abbrev pub commit_answer : State → Option Tree → Result Reply SessionError
@@ -71,7 +71,7 @@ commit_answer s (Some view) = if is_past_limit s then Err CommitLimit else Ok (N
 -- a commit that is refused leaves its transaction live
 abbrev pub after_commit : State → Option Tree → State
 after_commit s None = s
-after_commit s (Some view) = if is_past_limit s then s else record s { committed = view; view = None; own = []; number = s.number + 1 }
+after_commit s (Some view) = if is_past_limit s then s else record s { committed = view; view = None; overlay = []; number = s.number + 1 }
 
 -- ---- calls
 
@@ -92,7 +92,7 @@ create_call name element = DomCall.Create name (Some (Element element [] []))
 -- a document that is created puts its entries
 abbrev pub after_create : State → List ℕ → List ℕ → Option Tree → State
 after_create s name element None = s
-after_create s name element (Some view) = record s { view = Some (dom (create_call name element) view).1; own = put_all (entries_of_reply name element (dom (create_call name element) view).0) s.own }
+after_create s name element (Some view) = record s { view = Some (dom (create_call name element) view).1; overlay = put_all (entries_of_reply name element (dom (create_call name element) view).0) s.overlay }
 
 -- what a request is answered: a reply, or the first refusal whose condition holds
 abbrev pub answer_to : State → What → Result Reply SessionError

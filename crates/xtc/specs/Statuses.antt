@@ -2,6 +2,9 @@
 use Rattle.std.specs.Prelude.{ℕ}
 use Rattle.node_records.specs.declared.open_error.OpenError.{OpenError}
 use Rattle.node_records.specs.declared.open_error.OpenError.TheVariants as error
+use Rattle.script_runs.specs.declared.halt.Halt.TheVariants as halt
+use Rattle.script_runs.specs.declared.running.End.{End}
+use Rattle.script_runs.specs.declared.running.End.TheVariants as end
 use Rattle.xtc.specs.declared.status.Status.{Status}
 use Rattle.xtc.specs.declared.status.Status.TheVariants.{Done, Usage, LineTooLong, Damaged, ReadFault, WriteFault, DiskFault, NoMemory}
 
@@ -20,3 +23,12 @@ abbrev pub status_of : OpenError → Status
 status_of (error.Damaged place) = Damaged place
 status_of error.DiskFault = DiskFault
 status_of error.NoMemory = NoMemory
+
+-- the status of a script that ran
+abbrev pub status_of_end : End → Status
+status_of_end end.Done = Done
+status_of_end (end.LineTooLong line) = LineTooLong line
+status_of_end end.ReadFault = ReadFault
+status_of_end end.WriteFault = WriteFault
+status_of_end (end.Halted halt.DiskFault) = DiskFault
+status_of_end (end.Halted halt.NoMemory) = NoMemory

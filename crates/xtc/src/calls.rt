@@ -1,15 +1,15 @@
 ghost use Rattle.std.specs.Prelude.{◌≡◌, [], ◌∷◌, ◌++◌, Some, None, Err, IfOk, IfSome, OnOk, IsTrue, is_some, option_map};
 ghost use Rattle.tree_model.specs.Keys.{key_at, node_key, top_name};
 ghost use Rattle.tree_model.specs.Entries.{get, first_above, last_below, put_all};
-ghost use Rattle.tree_model.specs.Seeks.{behind_tree, if_under, if_child};
+ghost use Rattle.tree_model.specs.inside.Seeks.{behind_tree, if_under, if_child};
 ghost use Rattle.tree_model.specs.Tree.{map_of};
-ghost use Rattle.tree_model.specs.DomReads.{first as first_reply};
-ghost use Rattle.tree_model.specs.DomWrites.{create as create_outcome};
+ghost use Rattle.tree_model.specs.Navigation.{first as first_reply};
+ghost use Rattle.tree_model.specs.Documents.{create as create_outcome};
 ghost use Rattle.dewey_labels.specs.Labels.{root, is_child};
 ghost use Rattle.dewey_labels.specs.NewLabels.{new_label};
 ghost use Rattle.tree_model.specs.Names.{is_name};
-ghost use Rattle.node_seq.specs.Told.{Finds};
-ghost use Rattle.node_seq.specs.Causes.{HasCause};
+ghost use Rattle.node_seq.specs.Reads.{Finds};
+ghost use Rattle.outside_traits.specs.Faults.{HasCause};
 ghost use Rattle.xtc.specs.Calls.{OnTree, IsPastLimit, bare_element, placed, new_entries, entries_of_reply};
 
 use dewey_labels::{Label, LabelError, NoMemory, Text, child_after, child_first};
@@ -25,9 +25,9 @@ const NOT_FOUND_ERR: u16 = 8;
 
 /// The first child of a node (DOM Level 3 Core, `firstChild`), by two reads of the map whatever lies below.
 pub fn first<S: NodeRead>(alloc: Global, at: &Label, seq: &mut S) -> Result<Reply, SeqError>
-    ensures reply { OnTree (S.told seq.old) result (λ t reply. reply ≡ first_reply at.now t) }
-    ensures same { S.stays seq.old seq.new }
-    ensures cause { HasCause (S.count seq.old) (S.count seq.new) result }
+    ensures reply { OnTree (S.contents seq.old) result (λ t reply. reply ≡ first_reply at.now t) }
+    ensures unchanged { S.unchanged seq.old seq.new }
+    ensures cause { HasCause SeqError.DiskFault (S.count seq.old) (S.count seq.new) result }
 {
     if !is_there(alloc, at, seq)? {
         return Ok(Reply::Refused(Refusal::Dom(NOT_FOUND_ERR)));
@@ -38,9 +38,9 @@ pub fn first<S: NodeRead>(alloc: Global, at: &Label, seq: &mut S) -> Result<Repl
 
 /// Whether a node has this label.
 fn is_there<S: NodeRead>(alloc: Global, at: &Label, seq: &mut S) -> Result<bool, SeqError>
-    ensures value { Finds (S.told seq.old) result (λ es. is_some (get (node_key at.now) es)) }
-    ensures same { S.stays seq.old seq.new }
-    ensures cause { HasCause (S.count seq.old) (S.count seq.new) result }
+    ensures value { Finds (S.contents seq.old) result (λ es. is_some (get (node_key at.now) es)) }
+    ensures unchanged { S.unchanged seq.old seq.new }
+    ensures cause { HasCause SeqError.DiskFault (S.count seq.old) (S.count seq.new) result }
 {
     let key = Key {
         label: at.copy(alloc)?,
@@ -56,9 +56,9 @@ fn next_under<S: NodeRead>(
     key: &Key,
     seq: &mut S,
 ) -> Result<Option<Label>, SeqError>
-    ensures value { Finds (S.told seq.old) result (λ es. if_under at.now (first_above key.now es)) }
-    ensures same { S.stays seq.old seq.new }
-    ensures cause { HasCause (S.count seq.old) (S.count seq.new) result }
+    ensures value { Finds (S.contents seq.old) result (λ es. if_under at.now (first_above key.now es)) }
+    ensures unchanged { S.unchanged seq.old seq.new }
+    ensures cause { HasCause SeqError.DiskFault (S.count seq.old) (S.count seq.new) result }
 {
     let found = seq.next_from(alloc, key)?;
     Ok(label_under(at, found))
@@ -92,11 +92,11 @@ pub fn create<S: NodeRead>(
 ) -> Result<Reply, SeqError>
     requires empty { out.old.items ≡ [] }
     requires element { IsTrue (is_name element.now) }
-    ensures reply { OnTree (S.told seq.old) result (λ t reply. reply ≡ (create_outcome name.now (bare_element element.now) t).0) }
-    ensures entries { OnTree (S.told seq.old) result (λ t _. put_all out.new.items (map_of t) ≡ map_of (create_outcome name.now (bare_element element.now) t).1) }
+    ensures reply { OnTree (S.contents seq.old) result (λ t reply. reply ≡ (create_outcome name.now (bare_element element.now) t).0) }
+    ensures entries { OnTree (S.contents seq.old) result (λ t _. put_all out.new.items (map_of t) ≡ map_of (create_outcome name.now (bare_element element.now) t).1) }
     ensures puts { IfOk result (λ reply. out.new.items ≡ entries_of_reply name.now element.now reply) }
-    ensures same { S.stays seq.old seq.new }
-    ensures cause { HasCause (S.count seq.old) (S.count seq.new) result }
+    ensures unchanged { S.unchanged seq.old seq.new }
+    ensures cause { HasCause SeqError.DiskFault (S.count seq.old) (S.count seq.new) result }
 {
     if !is_name(name) {
         return Ok(Reply::Refused(Refusal::Dom(INVALID_CHARACTER_ERR)));
@@ -110,9 +110,9 @@ pub fn create<S: NodeRead>(
 
 /// Whether the catalogue has this name.
 fn has_document<S: NodeRead>(alloc: Global, name: &Text, seq: &mut S) -> Result<bool, SeqError>
-    ensures value { Finds (S.told seq.old) result (λ es. is_some (get (key_at root name.now) es)) }
-    ensures same { S.stays seq.old seq.new }
-    ensures cause { HasCause (S.count seq.old) (S.count seq.new) result }
+    ensures value { Finds (S.contents seq.old) result (λ es. is_some (get (key_at root name.now) es)) }
+    ensures unchanged { S.unchanged seq.old seq.new }
+    ensures cause { HasCause SeqError.DiskFault (S.count seq.old) (S.count seq.new) result }
 {
     let key = Key {
         label: Label::root(alloc)?,
@@ -123,10 +123,10 @@ fn has_document<S: NodeRead>(alloc: Global, name: &Text, seq: &mut S) -> Result<
 
 /// The label of the last document: the root's child on the way to what lies last of all.
 fn last_document<S: NodeRead>(alloc: Global, seq: &mut S) -> Result<Option<Label>, SeqError>
-    ensures value { Finds (S.told seq.old) result (λ es. if_child root (last_below (behind_tree root) es)) }
+    ensures value { Finds (S.contents seq.old) result (λ es. if_child root (last_below (behind_tree root) es)) }
     ensures child { IfOk result (λ child. IfSome child (λ c. IsTrue (is_child root c))) }
-    ensures same { S.stays seq.old seq.new }
-    ensures cause { HasCause (S.count seq.old) (S.count seq.new) result }
+    ensures unchanged { S.unchanged seq.old seq.new }
+    ensures cause { HasCause SeqError.DiskFault (S.count seq.old) (S.count seq.new) result }
 {
     let root = Label::root(alloc)?;
     let key = Key::behind_tree(alloc, &root)?;

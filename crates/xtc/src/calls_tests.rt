@@ -16,11 +16,11 @@ impl NodeRead for Counted {
     ghost use Rattle.std.specs.Prelude.{◌≡◌, refl, Some};
     ghost use Rattle.std.proofs.Common.{sym, ap, ◌∙◌, le_refl};
 
-    ghost told = { λ c. Some c.map };
+    ghost contents = { λ c. Some c.map };
 
     ghost count = { λ _. 0 };
 
-    ghost stays = { λ c d. c.map ≡ d.map };
+    ghost unchanged = { λ c d. c.map ≡ d.map };
 
     fn get(&mut self, alloc: Global, key: &Key) -> Result<Option<Record>, SeqError> {
         self.reads = self.reads.saturating_add(1);
@@ -38,16 +38,17 @@ impl NodeRead for Counted {
     }
 
     fn faults(&self) -> u64 {
+        let _entries = self.map.entries();
         0
     }
 
-    ghost stays_itself = { λ c. refl };
+    ghost unchanged_itself = { λ c. refl };
 
-    ghost stays_on = { λ c d e a b. a ∙ b };
+    ghost unchanged_onward = { λ c d e a b. a ∙ b };
 
-    ghost keeps_told = { λ c d a. ap Some (sym a) };
+    ghost unchanged_contents = { λ c d a. ap Some (sym a) };
 
-    ghost counts_on = { λ c d a. le_refl 0 };
+    ghost unchanged_count = { λ c d a. le_refl 0 };
 }
 
 fn label(alloc: Global, text: &str) -> Result<Label, Fail> {

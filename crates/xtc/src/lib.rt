@@ -1,29 +1,21 @@
 //! The whole of what the program `xtc` does, as one call over a source, a sink and the two disks of a store: `xtc`.
-//! At `Done` the sink grew by exactly the script text of the input, the input was read to its end and the files open as the tree after all commits (clauses `text`, `whole` and `done`); every other status has its cause and leaves a front of that text.
-//! Whatever the status, a crash finds the tree after a prefix of the commits, each that was answered among them (clause `crash`).
+//! Its clause `leaves` shows one book: what each line that was done was answered. The sink has the text of the book, and the files, as they read and as a crash leaves them, stand for the tree after its commits,
+//! whose replies are those of a run of them one after the other. Whatever the status, each commit that was answered is found, and at most one that wasn't.
 //! The program over it opens the real streams and files, prints the status and ends with its number.
 #![tactic(auto)]
 
 mod calls;
 #[cfg(test)]
 mod calls_tests;
-mod feeding;
 mod halt;
 mod line;
-mod own_view;
+mod overlay_view;
 #[cfg(test)]
-mod own_view_tests;
-#[cfg(test)]
-mod pieces;
+mod overlay_view_tests;
 mod reply;
 mod session;
 mod status;
-#[cfg(test)]
-mod store_tests;
-#[cfg(test)]
-mod test_runs;
-#[cfg(test)]
-mod tests;
+mod store_session;
 mod top_call;
 mod words;
 

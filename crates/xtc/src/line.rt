@@ -2,7 +2,7 @@ ghost use Rattle.std.specs.Prelude.{◌≡◌, ◌==◌, Some, IfOk, IfSome, IsT
 ghost use Rattle.std.specs.List.{list_all};
 ghost use Rattle.serde_json.specs.Events.{members_len};
 ghost use Rattle.serde_json.specs.View.{view, items_view, members_view};
-ghost use Rattle.xtc.specs.ScriptLine.{is_blank_byte, value_of, request_of, call_of, create_of, element_of, only_item, only_text, first_of, label_line, line_of, IsLawfulLine};
+ghost use Rattle.xtc.specs.ScriptLine.{is_blank_byte, value_of, request_of, call_of, create_of, element_of, only_item, only_text, first_of, label_line, line_of, IsValidLine};
 ghost use Rattle.tree_model.specs.Names.{is_name};
 
 use dewey_labels::{Label, LabelTextError, NoMemory, Text};
@@ -36,7 +36,7 @@ pub enum Line {
 #[tactic(auto, unfolding(crate::specs::ScriptLine::line_of))]
 pub fn read_line(alloc: Global, line: &[u8]) -> Result<Line, NoMemory>
     ensures line { IfOk result (λ read. read ≡ line_of line.now) }
-    ensures lawful { IfOk result IsLawfulLine }
+    ensures valid { IfOk result IsValidLine }
 {
     if is_blank(line) {
         return Ok(Line::Blank);
@@ -76,7 +76,7 @@ fn read_value(alloc: Global, line: &[u8]) -> Result<Option<Value>, NoMemory>
 /// The request that a value is.
 fn request_of(alloc: Global, value: &Value) -> Result<Line, NoMemory>
     ensures line { IfOk result (λ line. line ≡ request_of (Some (view value.now))) }
-    ensures lawful { IfOk result IsLawfulLine }
+    ensures valid { IfOk result IsValidLine }
 {
     let Some(members) = value.as_object() else {
         return Ok(Line::Later);
@@ -102,7 +102,7 @@ fn count(members: &Map<String, Value>) -> usize
 /// The request of a call by its name, of an object of so many members.
 fn call_of(alloc: Global, name: &str, members: usize, value: &Value) -> Result<Line, NoMemory>
     ensures line { IfOk result (λ line. line ≡ call_of name.now members (view value.now)) }
-    ensures lawful { IfOk result IsLawfulLine }
+    ensures valid { IfOk result IsValidLine }
 {
     if name == "begin" && members == 2 {
         return Ok(Line::Ask(What::Begin));
@@ -121,7 +121,7 @@ fn call_of(alloc: Global, name: &str, members: usize, value: &Value) -> Result<L
 
 fn create_of(alloc: Global, value: &Value) -> Result<Line, NoMemory>
     ensures line { IfOk result (λ line. line ≡ create_of (view value.now)) }
-    ensures lawful { IfOk result IsLawfulLine }
+    ensures valid { IfOk result IsValidLine }
 {
     let Some(name) = value.get("name").and_then(Value::as_str) else {
         return Ok(Line::Later);
@@ -138,7 +138,7 @@ fn create_of(alloc: Global, value: &Value) -> Result<Line, NoMemory>
 /// The name of an element without attributes and children.
 fn read_element(alloc: Global, tree: &Value) -> Result<Option<Text>, NoMemory>
     ensures element { IfOk result (λ element. element ≡ element_of (view tree.now)) }
-    ensures lawful { IfOk result (λ element. IfSome element (λ n. IsTrue (is_name n))) }
+    ensures valid { IfOk result (λ element. IfSome element (λ n. IsTrue (is_name n))) }
 {
     let Some(name) = only_text(tree) else {
         return Ok(None);
@@ -173,7 +173,7 @@ fn only_item(items: &[Value]) -> Option<&str>
 
 fn first_of(alloc: Global, value: &Value) -> Result<Line, NoMemory>
     ensures line { IfOk result (λ line. line ≡ first_of (view value.now)) }
-    ensures lawful { IfOk result IsLawfulLine }
+    ensures valid { IfOk result IsValidLine }
 {
     let Some(at) = value.get("at").and_then(Value::as_str) else {
         return Ok(Line::Later);
@@ -188,7 +188,7 @@ fn first_of(alloc: Global, value: &Value) -> Result<Line, NoMemory>
 /// The request at a label, which isn't the root's.
 fn label_line(at: Label) -> Line
     ensures line { result ≡ label_line at }
-    ensures lawful { IsLawfulLine result }
+    ensures valid { IsValidLine result }
 {
     if at.level() == 0 {
         Line::Later

@@ -1,25 +1,26 @@
-ghost use Rattle.std.specs.Prelude.{◌≡◌, ◌≤◌, ℕ, true, [], ◌++◌, Some, IsTrue, IfOk, OnOk, vec_capacity, Ok, length, ◌+◌};
+ghost use Rattle.std.specs.Prelude.{◌≡◌, ◌≤◌, ℕ, true, [], ◌++◌, Some, IsTrue, IfOk, OnOk, vec_capacity, Ok, Err, length, ◌+◌};
 ghost use Rattle.std.specs.List.{AllByRecursion};
 ghost use Rattle.outside_traits.specs.Moments.{LeavesOnly};
+ghost use Rattle.script_runs.specs.Counts.{CountedWhere};
 ghost use Rattle.tree_model.specs.Names.{is_name};
 ghost use Rattle.tree_model.specs.Tree.{Tree, map_of};
 ghost use Rattle.tree_model.specs.declared.reply.Reply.TheVariants.{Number};
-ghost use Rattle.tree_model.specs.DomReads.{first as first_reply};
-ghost use Rattle.tree_model.specs.DomWrites.{create as create_outcome};
+ghost use Rattle.tree_model.specs.Navigation.{first as first_reply};
+ghost use Rattle.tree_model.specs.Documents.{create as create_outcome};
 ghost use Rattle.tree_model.specs.Entries.{Sorted, put_all};
 ghost use Rattle.node_records.specs.Changes.{Fits};
-ghost use Rattle.xtc.specs.ScriptLine.{IsLawfulRequest, IsLawfulLine};
+ghost use Rattle.xtc.specs.ScriptLine.{IsValidRequest, IsValidLine};
 ghost use Rattle.xtc.specs.Session.{State, fresh, answer_to, after, commit_body};
 ghost use Rattle.xtc.specs.Kept.{Stands, IsReady, IsSettled, IsMapOf};
-ghost use Rattle.xtc.specs.Durable.{HoldsEither, HaltsByDisk};
+ghost use Rattle.xtc.specs.Durable.{HoldsEither};
 ghost use Rattle.xtc.specs.Calls.{OnTree, bare_element, entries_of_reply};
-ghost use Rattle.xtc.specs.ScriptText.{after_line};
-ghost use Rattle.xtc.specs.Replies.{line_text, answer_text};
+ghost use Rattle.xtc.specs.Book.{after_line, entry_of, entry_text};
+ghost use Rattle.xtc.specs.Replies.{answer_text};
 
 use crate::calls::{create, first};
 use crate::halt::Halt;
 use crate::line::{Line, What};
-use crate::own_view::{OwnView, commit_entries, put_entries};
+use crate::overlay_view::{OverlayView, commit_entries, put_entries};
 use crate::reply::{write_answer, write_bad};
 use dewey_labels::{Copied, Label, List, NoMemory, Text};
 use journal::Journal;
@@ -71,7 +72,7 @@ pub type Answer = Result<Reply, SessionError>;
 pub struct Session<J: Disk> {
     committed: SortedSeq,
     /// What the live transaction has put; nothing where none is live.
-    own: SortedSeq,
+    overlay: SortedSeq,
     live: bool,
     begun: u32,
     number: u32,
@@ -87,9 +88,9 @@ impl<J: Disk> Model for Session<J> {
 
     ghost Value = { Kept };
 
-    ghost view = { λ s. record { committed = s.committed; own = s.own; seen = put_all s.own s.committed; live = s.live; begun = s.begun; number = s.number; opened = s.opened; limit = s.limit; journal = s.journal } };
+    ghost view = { λ s. record { committed = s.committed; overlay = s.overlay; seen = put_all s.overlay s.committed; live = s.live; begun = s.begun; number = s.number; opened = s.opened; limit = s.limit; journal = s.journal } };
 
-    ghost invariant = { λ s. (s.opened + s.begun ≤ s.limit) × (s.number + (if s.live then 1 else 0) ≤ s.opened + s.begun) × (s.live ≡ false → s.own ≡ []) };
+    ghost invariant = { λ s. (s.opened + s.begun ≤ s.limit) × (s.number + (if s.live then 1 else 0) ≤ s.opened + s.begun) × (s.live ≡ false → s.overlay ≡ []) };
 }
 
 impl<J: Disk> Session<J> {
@@ -107,7 +108,7 @@ impl<J: Disk> Session<J> {
     {
         Session {
             committed,
-            own: SortedSeq::new(alloc),
+            overlay: SortedSeq::new(alloc),
             live: false,
             begun: 0,
             number: opened,
@@ -132,18 +133,19 @@ impl<J: Disk> Session<J> {
         line: Line,
         out: &mut Vec<u8>,
     ) -> Result<(), Halt>
-        requires lawful { IsLawfulLine line }
+        requires valid { IsValidLine line }
         requires ready { IsReady self.old }
 
         ensures state { OnOk result ((s : State) → Stands self.old s → Stands self.new (after_line s line)) }
-        ensures text { OnOk result ((s : State) → Stands self.old s → out.new.items ≡ out.old.items ++ line_text s number line) }
+        ensures text { OnOk result ((s : State) → Stands self.old s → out.new.items ≡ out.old.items ++ entry_text (entry_of s number line)) }
         ensures ready { OnOk result (IsReady self.new) }
-        ensures settled { OnOk result (IsTrue J.tells → IsSettled self.old → IsSettled self.new) }
+        ensures settled { OnOk result (IsTrue J.is_known → IsSettled self.old → IsSettled self.new) }
 
         // A crash at any moment of it leaves what was committed before the line or what is after it.
-        ensures any_moment { IsTrue J.tells → IsSettled self.old → (s : State) → Stands self.old s
-            → LeavesOnly (HoldsEither s (after_line s line)) self.old.journal.told self.new.journal.told }
-        ensures cause { HaltsByDisk self.old.journal.faults self.new.journal.faults result }
+        ensures any_moment { IsTrue J.is_known → IsSettled self.old → (s : State) → Stands self.old s
+            → LeavesOnly (HoldsEither s (after_line s line)) self.old.journal.history self.new.journal.history }
+        ensures cause { CountedWhere (result ≡ Err Halt.DiskFault) self.old.journal.faults self.new.journal.faults }
+        ensures later { self.old.journal.faults ≤ self.new.journal.faults }
     {
         match line {
             Line::Blank => Ok(()),
@@ -154,15 +156,16 @@ impl<J: Disk> Session<J> {
 
     /// Does what it is asked, and adds the reply to `out`.
     pub fn ask(&mut self, alloc: Global, what: What, out: &mut Vec<u8>) -> Result<(), Halt>
-        requires lawful { IsLawfulRequest what }
+        requires valid { IsValidRequest what }
         requires ready { IsReady self.old }
         ensures state { OnOk result ((s : State) → Stands self.old s → Stands self.new (after s what)) }
         ensures text { OnOk result ((s : State) → Stands self.old s → out.new.items ≡ out.old.items ++ answer_text (answer_to s what)) }
         ensures ready { OnOk result (IsReady self.new) }
-        ensures settled { OnOk result (IsTrue J.tells → IsSettled self.old → IsSettled self.new) }
-        ensures any_moment { IsTrue J.tells → IsSettled self.old → (s : State) → Stands self.old s
-            → LeavesOnly (HoldsEither s (after s what)) self.old.journal.told self.new.journal.told }
-        ensures cause { HaltsByDisk self.old.journal.faults self.new.journal.faults result }
+        ensures settled { OnOk result (IsTrue J.is_known → IsSettled self.old → IsSettled self.new) }
+        ensures any_moment { IsTrue J.is_known → IsSettled self.old → (s : State) → Stands self.old s
+            → LeavesOnly (HoldsEither s (after s what)) self.old.journal.history self.new.journal.history }
+        ensures cause { CountedWhere (result ≡ Err Halt.DiskFault) self.old.journal.faults self.new.journal.faults }
+        ensures later { self.old.journal.faults ≤ self.new.journal.faults }
     {
         let answer = match what {
             What::Begin => self.begin(),
@@ -196,15 +199,16 @@ impl<J: Disk> Session<J> {
         ensures state { OnOk result ((s : State) → Stands self.old s → Stands self.new (after s What.Commit)) }
         ensures text { OnOk result ((s : State) → Stands self.old s → out.new.items ≡ out.old.items ++ answer_text (answer_to s What.Commit)) }
         ensures ready { OnOk result (IsReady self.new) }
-        ensures settled { OnOk result (IsTrue J.tells → IsSettled self.old → IsSettled self.new) }
-        ensures any_moment { IsTrue J.tells → IsSettled self.old → (s : State) → Stands self.old s
-            → LeavesOnly (HoldsEither s (after s What.Commit)) self.old.journal.told self.new.journal.told }
-        ensures cause { HaltsByDisk self.old.journal.faults self.new.journal.faults result }
+        ensures settled { OnOk result (IsTrue J.is_known → IsSettled self.old → IsSettled self.new) }
+        ensures any_moment { IsTrue J.is_known → IsSettled self.old → (s : State) → Stands self.old s
+            → LeavesOnly (HoldsEither s (after s What.Commit)) self.old.journal.history self.new.journal.history }
+        ensures cause { CountedWhere (result ≡ Err Halt.DiskFault) self.old.journal.faults self.new.journal.faults }
+        ensures later { self.old.journal.faults ≤ self.new.journal.faults }
     {
         if !self.live {
             return Ok(write_answer(alloc, &Err(SessionError::NoTransaction), out)?);
         }
-        let body = body_of(alloc, &self.own)?;
+        let body = body_of(alloc, &self.overlay)?;
         if body.as_slice().len() > BODY_LIMIT {
             return Ok(write_answer(alloc, &Err(SessionError::CommitLimit), out)?);
         }
@@ -228,16 +232,16 @@ impl<J: Disk> Session<J> {
         ensures reply { IfOk result (λ reply. reply.items ≡ answer_text (Ok (Number (self.old.number + 1)))) }
         ensures out { OnOk result (out.new.items ≡ out.old.items) }
         ensures room { IfOk result (λ reply. length out.new.items + length reply.items ≤ vec_capacity out.new) }
-        ensures kept { OnOk result (self.new ≡ record self.old { committed = put_all self.old.own self.old.committed; own = []; seen = put_all self.old.own self.old.committed; journal = self.new.journal }) }
+        ensures kept { OnOk result (self.new ≡ record self.old { committed = put_all self.old.overlay self.old.committed; overlay = []; seen = put_all self.old.overlay self.old.committed; journal = self.new.journal }) }
         ensures journal { OnOk result (self.new.journal ≡ record self.old.journal { room = self.new.journal.room }) }
         ensures fits { OnOk result (body ≤ self.new.journal.room) }
-        ensures untouched { (self.new.journal.told ≡ self.old.journal.told) × (self.new.journal.faults ≡ self.old.journal.faults) }
+        ensures untouched { (self.new.journal.history ≡ self.old.journal.history) × (self.new.journal.faults ≡ self.old.journal.faults) }
     {
         let reply = reply_of(alloc, self.number + 1)?;
         out.reserve(reply.len())?;
         self.journal.make_room(alloc, body)?;
-        let own = mem::replace(&mut self.own, SortedSeq::new(alloc));
-        commit_entries(alloc, &mut self.committed, own)?;
+        let overlay = mem::replace(&mut self.overlay, SortedSeq::new(alloc));
+        commit_entries(alloc, &mut self.committed, overlay)?;
         Ok(reply)
     }
 
@@ -251,7 +255,7 @@ impl<J: Disk> Session<J> {
         if !self.live {
             return Ok(Err(SessionError::NoTransaction));
         }
-        let reply = create_seen(alloc, name, element, &mut self.committed, &mut self.own)?;
+        let reply = create_seen(alloc, name, element, &mut self.committed, &mut self.overlay)?;
         Ok(Ok(reply))
     }
 
@@ -264,7 +268,7 @@ impl<J: Disk> Session<J> {
         if !self.live {
             return Ok(Err(SessionError::NoTransaction));
         }
-        let reply = first_seen(alloc, at, &mut self.committed, &mut self.own)?;
+        let reply = first_seen(alloc, at, &mut self.committed, &mut self.overlay)?;
         Ok(Ok(reply))
     }
 }
@@ -277,13 +281,13 @@ fn reply(alloc: Global, answer: Answer, out: &mut Vec<u8>) -> Result<(), NoMemor
 }
 
 /// The body of a commit of what a transaction has put.
-fn body_of(alloc: Global, own: &SortedSeq) -> Result<List<u8>, NoMemory>
-    ensures body { IfOk result (λ body. body ≡ commit_body own.now) }
-    ensures fits { OnOk result (AllByRecursion (λ e. Fits (Some e.1)) own.now) }
-    ensures sorted { OnOk result (Sorted own.now) }
+fn body_of(alloc: Global, overlay: &SortedSeq) -> Result<List<u8>, NoMemory>
+    ensures body { IfOk result (λ body. body ≡ commit_body overlay.now) }
+    ensures fits { OnOk result (AllByRecursion (λ e. Fits (Some e.1)) overlay.now) }
+    ensures sorted { OnOk result (Sorted overlay.now) }
 {
     let mut body = List::new(alloc);
-    for (key, record) in own.entries() {
+    for (key, record) in overlay.entries() {
         let change = Change {
             key: key.copy(alloc)?,
             now: Some(record.copy(alloc)?),
@@ -317,25 +321,25 @@ fn first_seen(
     alloc: Global,
     at: &Label,
     committed: &mut SortedSeq,
-    own: &mut SortedSeq,
+    overlay: &mut SortedSeq,
 ) -> Result<Reply, NoMemory>
-    ensures reply { OnTree (Some (put_all own.old committed.old)) result (λ t reply. reply ≡ first_reply at.now t) }
+    ensures reply { OnTree (Some (put_all overlay.old committed.old)) result (λ t reply. reply ≡ first_reply at.now t) }
     ensures committed { committed.new ≡ committed.old }
-    ensures own { own.new ≡ own.old }
+    ensures overlay { overlay.new ≡ overlay.old }
 {
-    let mut seen = OwnView {
+    let mut seen = OverlayView {
         base: committed,
-        own,
+        overlay,
     };
     first_over(alloc, at, &mut seen)
 }
 
-fn first_over(alloc: Global, at: &Label, seen: &mut OwnView<'_>) -> Result<Reply, NoMemory>
-    ensures reply { OnTree (Some (put_all seen.old.own.now seen.old.base.now)) result (λ t reply. reply ≡ first_reply at.now t) }
+fn first_over(alloc: Global, at: &Label, seen: &mut OverlayView<'_>) -> Result<Reply, NoMemory>
+    ensures reply { OnTree (Some (put_all seen.old.overlay.now seen.old.base.now)) result (λ t reply. reply ≡ first_reply at.now t) }
     ensures base { seen.new.base.now ≡ seen.old.base.now }
-    ensures own { seen.new.own.now ≡ seen.old.own.now }
+    ensures overlay { seen.new.overlay.now ≡ seen.old.overlay.now }
     ensures same_base { seen.new.base.ghost_name ≡ seen.old.base.ghost_name }
-    ensures same_own { seen.new.own.ghost_name ≡ seen.old.own.ghost_name }
+    ensures same_overlay { seen.new.overlay.ghost_name ≡ seen.old.overlay.ghost_name }
 {
     match first(alloc, at, seen) {
         Ok(reply) => Ok(reply),
@@ -350,17 +354,17 @@ fn create_seen(
     name: &Text,
     element: &Text,
     committed: &mut SortedSeq,
-    own: &mut SortedSeq,
+    overlay: &mut SortedSeq,
 ) -> Result<Reply, NoMemory>
     requires { IsTrue (is_name element.now) }
-    ensures reply { OnTree (Some (put_all own.old committed.old)) result (λ t reply. reply ≡ (create_outcome name.now (bare_element element.now) t).0) }
-    ensures seen { OnTree (Some (put_all own.old committed.old)) result (λ t _. put_all own.new committed.new ≡ map_of (create_outcome name.now (bare_element element.now) t).1) }
-    ensures own { IfOk result (λ reply. own.new ≡ put_all (entries_of_reply name.now element.now reply) own.old) }
+    ensures reply { OnTree (Some (put_all overlay.old committed.old)) result (λ t reply. reply ≡ (create_outcome name.now (bare_element element.now) t).0) }
+    ensures seen { OnTree (Some (put_all overlay.old committed.old)) result (λ t _. put_all overlay.new committed.new ≡ map_of (create_outcome name.now (bare_element element.now) t).1) }
+    ensures overlay { IfOk result (λ reply. overlay.new ≡ put_all (entries_of_reply name.now element.now reply) overlay.old) }
     ensures committed { committed.new ≡ committed.old }
 {
     let mut entries = Vec::new(alloc);
-    let reply = created(alloc, name, element, committed, own, &mut entries)?;
-    put_entries(alloc, own, entries)?;
+    let reply = created(alloc, name, element, committed, overlay, &mut entries)?;
+    put_entries(alloc, overlay, entries)?;
     Ok(reply)
 }
 
@@ -369,20 +373,20 @@ fn created(
     name: &Text,
     element: &Text,
     committed: &mut SortedSeq,
-    own: &mut SortedSeq,
+    overlay: &mut SortedSeq,
     entries: &mut Vec<(Key, Record)>,
 ) -> Result<Reply, NoMemory>
     requires element { IsTrue (is_name element.now) }
     requires empty { entries.old.items ≡ [] }
-    ensures reply { OnTree (Some (put_all own.old committed.old)) result (λ t reply. reply ≡ (create_outcome name.now (bare_element element.now) t).0) }
-    ensures entries { OnTree (Some (put_all own.old committed.old)) result (λ t _. put_all entries.new.items (map_of t) ≡ map_of (create_outcome name.now (bare_element element.now) t).1) }
+    ensures reply { OnTree (Some (put_all overlay.old committed.old)) result (λ t reply. reply ≡ (create_outcome name.now (bare_element element.now) t).0) }
+    ensures entries { OnTree (Some (put_all overlay.old committed.old)) result (λ t _. put_all entries.new.items (map_of t) ≡ map_of (create_outcome name.now (bare_element element.now) t).1) }
     ensures puts { IfOk result (λ reply. entries.new.items ≡ entries_of_reply name.now element.now reply) }
     ensures committed { committed.new ≡ committed.old }
-    ensures own { own.new ≡ own.old }
+    ensures overlay { overlay.new ≡ overlay.old }
 {
-    let mut seen = OwnView {
+    let mut seen = OverlayView {
         base: committed,
-        own,
+        overlay,
     };
     create_over(alloc, name, element, &mut seen, entries)
 }
@@ -391,18 +395,18 @@ fn create_over(
     alloc: Global,
     name: &Text,
     element: &Text,
-    seen: &mut OwnView<'_>,
+    seen: &mut OverlayView<'_>,
     entries: &mut Vec<(Key, Record)>,
 ) -> Result<Reply, NoMemory>
     requires element { IsTrue (is_name element.now) }
     requires empty { entries.old.items ≡ [] }
-    ensures reply { OnTree (Some (put_all seen.old.own.now seen.old.base.now)) result (λ t reply. reply ≡ (create_outcome name.now (bare_element element.now) t).0) }
-    ensures entries { OnTree (Some (put_all seen.old.own.now seen.old.base.now)) result (λ t _. put_all entries.new.items (map_of t) ≡ map_of (create_outcome name.now (bare_element element.now) t).1) }
+    ensures reply { OnTree (Some (put_all seen.old.overlay.now seen.old.base.now)) result (λ t reply. reply ≡ (create_outcome name.now (bare_element element.now) t).0) }
+    ensures entries { OnTree (Some (put_all seen.old.overlay.now seen.old.base.now)) result (λ t _. put_all entries.new.items (map_of t) ≡ map_of (create_outcome name.now (bare_element element.now) t).1) }
     ensures puts { IfOk result (λ reply. entries.new.items ≡ entries_of_reply name.now element.now reply) }
     ensures base { seen.new.base.now ≡ seen.old.base.now }
-    ensures own { seen.new.own.now ≡ seen.old.own.now }
+    ensures overlay { seen.new.overlay.now ≡ seen.old.overlay.now }
     ensures same_base { seen.new.base.ghost_name ≡ seen.old.base.ghost_name }
-    ensures same_own { seen.new.own.ghost_name ≡ seen.old.own.ghost_name }
+    ensures same_overlay { seen.new.overlay.ghost_name ≡ seen.old.overlay.ghost_name }
 {
     match create(alloc, name, element, seen, entries) {
         Ok(reply) => Ok(reply),

@@ -1,7 +1,8 @@
 ghost use Rattle.std.specs.Prelude.{◌≡◌};
-ghost use Rattle.xtc.specs.Statuses.{status_number, status_of};
+ghost use Rattle.xtc.specs.Statuses.{status_number, status_of, status_of_end};
 
 use node_records::{File, OpenError, Place};
+use script_runs::{End, Halt};
 use std::fmt;
 use std::fmt::{Display, Formatter, Write};
 
@@ -53,6 +54,22 @@ impl From<OpenError> for Status {
             OpenError::Damaged(place) => Status::Damaged(place),
             OpenError::DiskFault => Status::DiskFault,
             OpenError::NoMemory => Status::NoMemory,
+        }
+    }
+}
+
+/// A script that ran.
+impl From<End> for Status {
+    ghost from_gives = { λ end status. status ≡ status_of_end end };
+
+    fn from(end: End) -> Status {
+        match end {
+            End::Done => Status::Done,
+            End::LineTooLong { line } => Status::LineTooLong { line },
+            End::ReadFault => Status::ReadFault,
+            End::WriteFault => Status::WriteFault,
+            End::Halted(Halt::DiskFault) => Status::DiskFault,
+            End::Halted(Halt::NoMemory) => Status::NoMemory,
         }
     }
 }

@@ -1,7 +1,7 @@
 use Rattle.std.proofs.Common.{◌≡◌, true, false, cond, Some, None, sym, ap, ◌∙◌}
 use Rattle.dewey_labels.specs.Sides.{side, is_under}
 use Rattle.dewey_labels.proofs.Sides.{ancestor_under}
-use Rattle.tree_model.specs.Seeks.{if_under}
+use Rattle.tree_model.specs.inside.Seeks.{if_under}
 use Rattle.xtc.proofs.calls.label_under.Goals as goal
 
 pub returns-then-is_ancestor_of : goal.returns-then-is_ancestor_of

@@ -5,7 +5,7 @@ use Rattle.xtc.proofs.session.Session.ask.Goals as goal
 use Rattle.xtc.proofs.session.Session.ask.Goals.{in-Begin, in-Create+in_ok-answer-in-Create, in-First+in_ok-answer-in-First}
 
 pub returns-in_err-reply-clause-any_moment : goal.returns-in_err-reply-clause-any_moment
-returns-in_err-reply-clause-any_moment g c = λ tells settled s stands.
+returns-in_err-reply-clause-any_moment g c = λ is_known settled s stands.
     let made = elim c.match-what.branch as (λ _. Asked c.args.self.now c.match-what.self c.args.what) [
       | in-Begin w ↦ asked _ _ _ _ _ w.in-Begin.is w.self-is w.begin-answer.ensures.state w.begin-answer.ensures.journal w.begin-answer.ensures.committed
       | in-Create+in_ok-answer-in-Create w ↦ asked _ _ _ _ _ w.in-Create.is w.self-is w.in_ok-answer-in-Create.ensures.state w.create.ensures.journal w.in_ok-answer-in-Create.ensures.committed
@@ -32,7 +32,7 @@ returns-clause-ready g c =
     asked_ready _ _ c.args.what made c.requires.ready
 
 pub returns-clause-any_moment : goal.returns-clause-any_moment
-returns-clause-any_moment g c = λ tells settled s stands.
+returns-clause-any_moment g c = λ is_known settled s stands.
     let made = elim c.match-what.branch as (λ _. Asked c.args.self.now c.match-what.self c.args.what) [
       | in-Begin w ↦ asked _ _ _ _ _ w.in-Begin.is w.self-is w.begin-answer.ensures.state w.begin-answer.ensures.journal w.begin-answer.ensures.committed
       | in-Create+in_ok-answer-in-Create w ↦ asked _ _ _ _ _ w.in-Create.is w.self-is w.in_ok-answer-in-Create.ensures.state w.create.ensures.journal w.in_ok-answer-in-Create.ensures.committed

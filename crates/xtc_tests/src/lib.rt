@@ -1,0 +1,8 @@
+//! Runs of the whole program over memory: what no clause of `xtc` says by itself, as its status, text and bytes for one script or store after the other.
+//! Each expected value is from docs/MANUAL.md, "Replies" and "Statuses", or docs/FILE_FORMAT.md.
+#![tactic(auto)]
+
+#[cfg(test)]
+mod in_pieces;
+#[cfg(test)]
+mod tests;
