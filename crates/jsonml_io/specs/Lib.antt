@@ -1,0 +1,4 @@
+pub mod JsonMl
+pub mod Pointers
+pub mod Written
+pub mod inside
