@@ -1,0 +1,12 @@
+pub mod Appends
+pub mod BookLaws
+pub mod Deadlock
+pub mod Held
+pub mod HeldCalls
+pub mod Lists
+pub mod NoCycles
+pub mod Replay
+pub mod Rising
+pub mod SerialRun
+pub mod Sound
+pub mod Steps

@@ -1,0 +1,58 @@
+//! The trait of calls, with the laws that each implementation proves.
+ghost use Rattle.std.specs.Prelude.{◌≡◌, ◌++◌, [], IfOk, OnErr};
+ghost use Rattle.std.specs.List.{AllByRecursion};
+ghost use Rattle.tree_model.specs.Tree.{Tree};
+ghost use Rattle.lock_resources.specs.Resources.{Fits};
+ghost use Rattle.outside_traits.specs.Faults.{HasCause};
+ghost use Rattle.node_seq.specs.declared.node_read.SeqError.TheVariants.{DiskFault};
+ghost use Rattle.call_contract.specs.Calls.{CallMeaning, CallLaws, StandsFor, changes_of};
+ghost use Rattle.call_contract.specs.ChangeLists.{IsChangeList};
+
+use dewey_labels::List;
+use lock_resources::Request;
+use node_seq::{NodeRead, SeqError};
+use std::alloc::Global;
+use tree_model::{Changes, Reply};
+
+/// A call on the store's tree, over any sequence that stands for it.
+///
+/// `meaning` is what each call asks for on a tree, its reply, and the tree after it.
+/// `is_valid` holds of every call of the type; each method tells it of its own.
+/// `laws` are the form of the requests and the four laws, which each implementation proves: by them every legal book of such calls is serial.
+pub trait TreeCall {
+    ghost meaning: { CallMeaning Self };
+
+    ghost is_valid: { Self → Type 0 };
+
+    /// Adds what the call asks for on the tree, each request with its intentions before it.
+    fn requests<S: NodeRead>(
+        &self,
+        alloc: Global,
+        seq: &mut S,
+        out: &mut List<Request>,
+    ) -> Result<(), SeqError>
+        ensures value { IfOk result (λ _. (t : Tree) → StandsFor (S.contents seq.old) t → out.new ≡ out.old ++ meaning.requests self.now t) }
+        ensures fits { AllByRecursion Fits out.old → AllByRecursion Fits out.new }
+        ensures err { OnErr result (out.new ≡ out.old) }
+        ensures valid { is_valid self.now }
+        ensures unchanged { S.unchanged seq.old seq.new }
+        ensures cause { HasCause DiskFault (S.count seq.old) (S.count seq.new) result };
+
+    /// The call's reply, with a change in `out` for each key whose record differs after it, by rising keys, and no other.
+    fn apply<S: NodeRead>(
+        &self,
+        alloc: Global,
+        seq: &mut S,
+        out: &mut Changes,
+    ) -> Result<Reply, SeqError>
+        requires { out.old ≡ [] }
+        ensures reply { IfOk result (λ reply. (t : Tree) → StandsFor (S.contents seq.old) t → reply ≡ meaning.reply self.now t) }
+        ensures changes { IfOk result (λ _. (t : Tree) → StandsFor (S.contents seq.old) t → out.new ≡ changes_of meaning self.now t) }
+        ensures rise { IsChangeList out.new }
+        ensures err { OnErr result (out.new ≡ out.old) }
+        ensures valid { is_valid self.now }
+        ensures unchanged { S.unchanged seq.old seq.new }
+        ensures cause { HasCause DiskFault (S.count seq.old) (S.count seq.new) result };
+
+    ghost laws: { CallLaws Self is_valid meaning };
+}
