@@ -1,0 +1,5 @@
+pub mod BookRows
+pub mod ClearLaws
+pub mod LookLaws
+pub mod WrongBooks
+pub mod WrongCalls

@@ -1,0 +1,4 @@
+-- The toys, worked books, and definitions that are wrong.
+pub mod Toys
+pub mod Rows
+pub mod Wrong
