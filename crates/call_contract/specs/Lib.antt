@@ -1,6 +1,5 @@
 -- What contracts say: a call and its laws, then the lock machine from its states to its books, in the order in which one builds on the other.
 pub mod Calls
-pub mod ChangeLists
 pub mod States
 pub mod Attempts
 pub mod Waits

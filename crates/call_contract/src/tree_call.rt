@@ -1,12 +1,12 @@
 //! The trait of calls, with the laws that each implementation proves.
-ghost use Rattle.std.specs.Prelude.{◌≡◌, ◌++◌, [], IfOk, OnErr};
+ghost use Rattle.std.specs.Prelude.{◌≡◌, ◌++◌, [], OnErr};
 ghost use Rattle.std.specs.List.{AllByRecursion};
-ghost use Rattle.tree_model.specs.Tree.{Tree};
 ghost use Rattle.lock_resources.specs.Resources.{Fits};
 ghost use Rattle.outside_traits.specs.Faults.{HasCause};
 ghost use Rattle.node_seq.specs.declared.node_read.SeqError.TheVariants.{DiskFault};
-ghost use Rattle.call_contract.specs.Calls.{CallMeaning, CallLaws, StandsFor, changes_of};
-ghost use Rattle.call_contract.specs.ChangeLists.{IsChangeList};
+ghost use Rattle.node_seq.specs.ChangeLists.{IsChangeList};
+ghost use Rattle.node_seq.specs.Trees.{OnTree};
+ghost use Rattle.call_contract.specs.Calls.{CallMeaning, CallLaws, changes_of};
 
 use dewey_labels::List;
 use lock_resources::Request;
@@ -31,7 +31,7 @@ pub trait TreeCall {
         seq: &mut S,
         out: &mut List<Request>,
     ) -> Result<(), SeqError>
-        ensures value { IfOk result (λ _. (t : Tree) → StandsFor (S.contents seq.old) t → out.new ≡ out.old ++ meaning.requests self.now t) }
+        ensures value { OnTree (S.contents seq.old) result (λ t _. out.new ≡ out.old ++ meaning.requests self.now t) }
         ensures fits { AllByRecursion Fits out.old → AllByRecursion Fits out.new }
         ensures err { OnErr result (out.new ≡ out.old) }
         ensures valid { is_valid self.now }
@@ -46,8 +46,8 @@ pub trait TreeCall {
         out: &mut Changes,
     ) -> Result<Reply, SeqError>
         requires { out.old ≡ [] }
-        ensures reply { IfOk result (λ reply. (t : Tree) → StandsFor (S.contents seq.old) t → reply ≡ meaning.reply self.now t) }
-        ensures changes { IfOk result (λ _. (t : Tree) → StandsFor (S.contents seq.old) t → out.new ≡ changes_of meaning self.now t) }
+        ensures reply { OnTree (S.contents seq.old) result (λ t reply. reply ≡ meaning.reply self.now t) }
+        ensures changes { OnTree (S.contents seq.old) result (λ t _. out.new ≡ changes_of meaning self.now t) }
         ensures rise { IsChangeList out.new }
         ensures err { OnErr result (out.new ≡ out.old) }
         ensures valid { is_valid self.now }

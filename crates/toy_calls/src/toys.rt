@@ -14,7 +14,7 @@ ghost use Rattle.tree_model.specs.declared.record.Record.TheVariants as record_o
 ghost use Rattle.tree_model.specs.declared.reply.Reply.TheVariants.{Nothing};
 ghost use Rattle.outside_traits.specs.Faults.{HasCause};
 ghost use Rattle.node_seq.specs.declared.node_read.SeqError.TheVariants.{DiskFault};
-ghost use Rattle.call_contract.specs.Calls.{StandsFor};
+ghost use Rattle.node_seq.specs.Trees.{StandsFor};
 ghost use Rattle.call_rows.specs.Toys.{cleared_reply, cleared_changes};
 
 use call_contract::TreeCall;
@@ -82,7 +82,7 @@ impl TreeCall for Look {
     ghost use Rattle.dewey_labels.specs.Labels.{IsLabel};
     ghost use Rattle.call_contract.specs.Calls.{held_meaning};
     ghost use Rattle.call_contract.proofs.HeldCalls.{held_laws};
-    ghost use Rattle.call_contract.specs.Calls.{StandsFor};
+    ghost use Rattle.node_seq.specs.Trees.{StandsFor};
     ghost use Rattle.call_rows.specs.Toys.{look};
     ghost use Rattle.call_rows.proofs.LookLaws.{look_laws};
 
@@ -123,7 +123,7 @@ impl TreeCall for Clear {
     ghost use Rattle.dewey_labels.specs.Labels.{IsLabel};
     ghost use Rattle.call_contract.specs.Calls.{held_meaning};
     ghost use Rattle.call_contract.proofs.HeldCalls.{held_laws};
-    ghost use Rattle.call_contract.specs.Calls.{StandsFor};
+    ghost use Rattle.node_seq.specs.Trees.{StandsFor};
     ghost use Rattle.call_rows.specs.Toys.{clear};
     ghost use Rattle.call_rows.proofs.ClearLaws.{clear_laws};
 
@@ -212,7 +212,7 @@ impl TreeCall for Never {
     ghost use Rattle.dewey_labels.specs.Labels.{IsLabel};
     ghost use Rattle.call_contract.specs.Calls.{held_meaning};
     ghost use Rattle.call_contract.proofs.HeldCalls.{held_laws};
-    ghost use Rattle.call_contract.specs.Calls.{StandsFor};
+    ghost use Rattle.node_seq.specs.Trees.{StandsFor};
     ghost use Rattle.call_rows.specs.Toys.{never};
     ghost use Rattle.call_rows.proofs.LookLaws.{never_laws};
 
