@@ -1,5 +1,5 @@
 -- What a crash leaves in each step of an append.
-use Rattle.std.proofs.Common.{◌≡◌, inl, inr, ℕ, ◌+◌, ◌≤◌, List, [], ◌∷◌, ◌++◌, length, get_or, take, drop, Option, Some, None, Ok, refl, sym, ◌∙◌, ap, subst, arith, append_assoc, length-append, take-append-drop}
+use Rattle.std.proofs.Common.{◌≡◌, inl, inr, ℕ, ◌+◌, ◌≤◌, List, [], ◌∷◌, ◌++◌, length, get_or, take, drop, Option, Some, None, Result, Ok, refl, sym, ◌∙◌, ap, subst, arith, append_assoc, length-append, take-append-drop}
 use Rattle.std.proofs.lemmas.List.{take_at, drop_at, drop_more}
 use Rattle.std.proofs.lemmas.Bool.{cases_eq}
 use Rattle.outside_traits.specs.Disks.{DiskState, OpensRange, Wrote, Synced, Unsynced, all_synced, put_at}
@@ -7,10 +7,12 @@ use Rattle.outside_traits.specs.CrashImages.{IsImage}
 use Rattle.outside_traits.specs.Moments.{History, TakesStep, Fails, LeavesOnly}
 use Rattle.outside_traits.proofs.ImageLaws.{image-all_synced, image-before, image-after, image-unsynced}
 use Rattle.outside_traits.proofs.MomentLaws.{started, goes_on, goes_wrong}
+use Rattle.journal.specs.Groups.{only_commits, with_commit}
 use Rattle.journal.specs.Journals.{header, read}
 use Rattle.journal.specs.Appends.{last_number, IsBeforeOrAfter, groups_read, groups_in}
 use Rattle.journal.specs.Settled.{Piece, IsGroup, AreGroups, bytes_of, groups_of, Stands, IsSettled}
 use Rattle.journal.specs.declared.group.Group.{Group}
+use Rattle.journal.specs.declared.group.Groups.{Groups}
 use Rattle.journal.proofs.ReadLaws.{read-closed, bytes_of-push, groups_of-push, are_groups-push, last_number-push}
 
 module _ (bytes : List ℕ) (at : ℕ) (gs : List Group) (stands : Stands bytes at gs) where
@@ -27,13 +29,13 @@ module _ (bytes : List ℕ) (at : ℕ) (gs : List Group) (stands : Stands bytes 
   within = omega (arith, ap length stands.split, length-append prefix (stands.gate ∷ stands.tail), place)
 
   -- whatever stands behind the closed gate
-  pub closed_before : (image : List ℕ) → take (at + 1) image ≡ take (at + 1) bytes → read image ≡ Ok gs
+  pub closed_before : (image : List ℕ) → take (at + 1) image ≡ take (at + 1) bytes → read image ≡ Ok (only_commits gs)
   closed_before image same =
       let whole : image ≡ prefix ++ stands.gate ∷ drop (at + 1) image =
       sym (take-append-drop (at + 1) image) ∙ ap (λ (l : List ℕ). l ++ drop (at + 1) image) (same ∙ before) ∙ append_assoc prefix (stands.gate ∷ []) (drop (at + 1) image) in
-      ap read whole ∙ read-closed stands.pieces stands.are_groups stands.gate (drop (at + 1) image) stands.closed ∙ ap Ok stands.all
+      ap read whole ∙ read-closed stands.pieces stands.are_groups stands.gate (drop (at + 1) image) stands.closed ∙ ap (λ (l : List Group). Ok (only_commits l)) stands.all
 
-  pub reads_groups : read bytes ≡ Ok gs
+  pub reads_groups : read bytes ≡ Ok (only_commits gs)
   reads_groups = closed_before bytes refl
 
   module _ (p : Piece) (is : IsGroup (last_number None gs) p) where
@@ -78,11 +80,11 @@ module _ (bytes : List ℕ) (at : ℕ) (gs : List Group) (stands : Stands bytes 
     all : groups_of more ≡ gs ++ p.group ∷ []
     all = groups_of-push stands.pieces p ∙ ap (λ (l : List Group). l ++ p.group ∷ []) stands.all
 
-    opened_reads : read (prefix ++ 1 ∷ (framed ++ left)) ≡ Ok (gs ++ p.group ∷ [])
-    opened_reads = ap read opened ∙ read-closed more are_groups 0 left (omega arith) ∙ ap Ok all
+    opened_reads : read (prefix ++ 1 ∷ (framed ++ left)) ≡ Ok (only_commits (gs ++ p.group ∷ []))
+    opened_reads = ap read opened ∙ read-closed more are_groups 0 left (omega arith) ∙ ap (λ (l : List Group). Ok (only_commits l)) all
 
     -- whatever the gate is
-    pub at_gate : (image : List ℕ) → at + 1 ≤ length image → take at image ≡ take at staged → drop (at + 1) image ≡ drop (at + 1) staged → IsBeforeOrAfter gs p.group image
+    pub at_gate : (image : List ℕ) → at + 1 ≤ length image → take at image ≡ take at staged → drop (at + 1) image ≡ drop (at + 1) staged → IsBeforeOrAfter (only_commits gs) p.group image
     at_gate image long same_prefix same_back =
         let gate = get_or image at 0 in
         let whole : image ≡ prefix ++ gate ∷ (framed ++ left) =
@@ -90,7 +92,7 @@ module _ (bytes : List ℕ) (at : ℕ) (gs : List Group) (stands : Stands bytes 
         ∙ ap (λ (l : List ℕ). prefix ++ l) (drop_more image at 0 (omega (arith, long)) ∙ ap (λ (l : List ℕ). gate ∷ l) (same_back ∙ staged_back)) in
         elim (cases_eq gate 1) [
           | inl is_open ↦ inr (ap read (whole ∙ ap (λ (b : ℕ). prefix ++ b ∷ (framed ++ left)) is_open) ∙ opened_reads)
-          | inr shut ↦ inl (ap read whole ∙ read-closed stands.pieces stands.are_groups gate (framed ++ left) shut ∙ ap Ok stands.all)
+          | inr shut ↦ inl (ap read whole ∙ read-closed stands.pieces stands.are_groups gate (framed ++ left) shut ∙ ap (λ (l : List Group). Ok (only_commits l)) stands.all)
         ]
 
     done-is : done ≡ (header ++ bytes_of more) ++ 0 ∷ left
@@ -114,10 +116,10 @@ module _ (t : History) (at : ℕ) (last : Option ℕ) (p : Piece) (sent : List �
   bytes = t.now.reads
 
   abbrev gs : List Group
-  gs = groups_in t
+  gs = (groups_in t).commits
 
   abbrev P : List ℕ → Type 0
-  P = IsBeforeOrAfter gs p.group
+  P = IsBeforeOrAfter (groups_in t) p.group
 
   abbrev stretch : List ℕ
   stretch = p.bytes ++ 0 ∷ []
@@ -187,13 +189,13 @@ module _ (t : History) (at : ℕ) (last : Option ℕ) (p : Piece) (sent : List �
           stands : (n : ℕ) → n ≡ at + length stretch → Stands after_second n (gs ++ p.group ∷ [])
           stands n is_place = done_stands bytes at gs settled.stands p is n is_place
 
-          pub one_more : read x.now.reads ≡ Ok (gs ++ p.group ∷ [])
+          pub one_more : read x.now.reads ≡ Ok (with_commit (groups_in t) p.group)
           one_more = ap (λ (s : DiskState). read s.reads) all_done ∙ reads_groups after_second (at + length stretch) (gs ++ p.group ∷ []) (stands _ refl)
 
           pub now_rests : x.now ≡ all_synced x.now.reads
           now_rests = all_done ∙ ap all_synced (sym (ap (λ (s : DiskState). s.reads) all_done))
 
-          pub each_image : (image : List ℕ) → IsImage x.now image → read image ≡ Ok (gs ++ p.group ∷ [])
+          pub each_image : (image : List ℕ) → IsImage x.now image → read image ≡ Ok (with_commit (groups_in t) p.group)
           each_image image image_is = ap read (image-all_synced x.now.reads image (subst (λ (s : DiskState). IsImage s image) now_rests image_is)) ∙ one_more
 
           pub second_synced : LeavesOnly P t x
@@ -202,8 +204,8 @@ module _ (t : History) (at : ℕ) (last : Option ℕ) (p : Piece) (sent : List �
           pub four_calls : length x.past ≡ 4 + length t.past
           four_calls = omega (arith, ap length kept.past, ap length gate.past, ap length synced.past, ap length wrote_sent.past)
 
-          groups_now : groups_in x ≡ gs ++ p.group ∷ []
-          groups_now = ap groups_read one_more
+          groups_now : (groups_in x).commits ≡ gs ++ p.group ∷ []
+          groups_now = ap (λ (r : Result Groups ℕ). (groups_read r).commits) one_more
 
           pub settled_again : (n : ℕ) → n ≡ at + length stretch → IsSettled x n (Some p.group.number)
           settled_again n is_place = record {

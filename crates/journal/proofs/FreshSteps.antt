@@ -1,5 +1,5 @@
 -- What a crash leaves while a journal is made in a fresh file.
-use Rattle.std.proofs.Common.{◌≡◌, ◌≢◌, inl, inr, ℕ, ◌<◌, ◌≤◌, true, IsTrue, ◌==◌, List, [], ◌∷◌, ◌++◌, length, get_or, take, None, Ok, max, refl, sym, ◌∙◌, ap, subst, arith}
+use Rattle.std.proofs.Common.{◌≡◌, ◌≢◌, inl, inr, ℕ, ◌<◌, ◌≤◌, true, IsTrue, ◌==◌, List, [], ◌∷◌, ◌++◌, length, get_or, take, None, Result, Ok, max, refl, sym, ◌∙◌, ap, subst, arith}
 use Rattle.std.proofs.lemmas.List.{drop_all, drop_more}
 use Rattle.std.proofs.lemmas.Bool.{cases_eq, cond-true, cond-false, le-leb, leb-true, ne_eqb, eq-eqb, false≢true}
 use Rattle.outside_traits.specs.Disks.{DiskState, OpensRange, Wrote, Synced, Unsynced, all_synced, put_at}
@@ -7,13 +7,15 @@ use Rattle.outside_traits.specs.CrashImages.{IsImage}
 use Rattle.outside_traits.specs.Moments.{History, TakesStep, Fails, LeavesOnly}
 use Rattle.outside_traits.proofs.ImageLaws.{image-all_synced, image-before, image-after, image-unsynced}
 use Rattle.outside_traits.proofs.MomentLaws.{started, goes_on, goes_wrong, weaker}
+use Rattle.journal.specs.Groups.{only_commits}
 use Rattle.journal.specs.Journals.{magic, is_fresh, read}
 use Rattle.journal.specs.Appends.{last_number, groups_read, groups_in}
 use Rattle.journal.specs.Settled.{Stands, IsSettled, IsBarred}
 use Rattle.journal.specs.declared.group.Group.{Group}
+use Rattle.journal.specs.declared.group.Groups.{Groups}
 use Rattle.journal.proofs.ReadLaws.{read-closed}
 
-pub fresh_reads : (bytes : List ℕ) → IsTrue (is_fresh bytes) → read bytes ≡ Ok []
+pub fresh_reads : (bytes : List ℕ) → IsTrue (is_fresh bytes) → read bytes ≡ Ok (only_commits [])
 unfolding read
 fresh_reads bytes fresh = cond-true (is_fresh bytes) _ _ fresh
 
@@ -41,13 +43,13 @@ barred t synced fresh more = let both = more_is_closed t.now.reads fresh more in
 
 -- a journal that is made in a fresh file stands for no commits at each moment, as that file did
 pub fresh_moments : (bytes : List ℕ) (old mid new : History) → bytes ≡ old.now.reads → true ≡ is_fresh bytes → mid ≡ old
-    → LeavesOnly (λ image. read image ≡ Ok []) mid new → LeavesOnly (λ image. read image ≡ read old.now.reads) old new
+    → LeavesOnly (λ image. read image ≡ Ok (only_commits [])) mid new → LeavesOnly (λ image. read image ≡ read old.now.reads) old new
 fresh_moments bytes old mid new is fresh same run =
     weaker _ _ old new (λ image e. e ∙ sym (fresh_reads old.now.reads (sym (fresh ∙ ap is_fresh is))))
-    (subst (λ (t : History). LeavesOnly (λ image. read image ≡ Ok []) t new) same run)
+    (subst (λ (t : History). LeavesOnly (λ image. read image ≡ Ok (only_commits [])) t new) same run)
 
 abbrev P : List ℕ → Type 0
-P image = read image ≡ Ok []
+P image = read image ≡ Ok (only_commits [])
 
 nothing_behind : (bytes : List ℕ) → length bytes ≤ 1 → put_at 0 (0 ∷ []) bytes ≡ 0 ∷ []
 nothing_behind bytes short = ap (λ (l : List ℕ). 0 ∷ l) (drop_all 1 bytes short)
@@ -168,13 +170,13 @@ module _ (t : History) (is_barred : IsBarred t) where
           pub now_bytes : x.now.reads ≡ 1 ∷ words
           now_bytes = ap (λ (s : DiskState). s.reads) header_there
 
-          pub now_reads : read x.now.reads ≡ Ok []
+          pub now_reads : read x.now.reads ≡ Ok (only_commits [])
           now_reads = ap (λ (s : DiskState). read s.reads) header_there ∙ any_gate 1
 
           pub now_settled : IsSettled x 8 None
           now_settled =
               let reads : x.now.reads ≡ 1 ∷ words = ap (λ (s : DiskState). s.reads) header_there in
-              let none : groups_in x ≡ [] = ap groups_read (ap read reads ∙ any_gate 1) in
+              let none : (groups_in x).commits ≡ [] = ap (λ (b : List ℕ). (groups_read (read b)).commits) reads ∙ ap (λ (r : Result Groups ℕ). (groups_read r).commits) (any_gate 1) in
               record {
                 synced = header_there ∙ ap all_synced (sym reads);
                 stands = subst (λ (l : List Group). Stands x.now.reads 8 l) (sym none) (record { pieces = []; are_groups = tt; all = refl; gate = 0; tail = []; split = reads; closed = omega arith; place = refl });

@@ -2,19 +2,20 @@
 use Rattle.std.proofs.Common.{◌≡◌, ◌≢◌, ℕ, suc, ◌+◌, ◌<◌, ◌≤◌, true, ◌==◌, nat_lt, List, [], ◌∷◌, ◌++◌, length, drop, Option, Some, None, Result, Ok, Err, refl, sym, ◌∙◌, ap, arith, append_assoc, length-append, ◌-◌}
 use Rattle.std.proofs.lemmas.List.{drop_at, append-nil}
 use Rattle.std.proofs.lemmas.Bool.{cond-true, cond-false, lt-ltb, ne_eqb}
-use Rattle.journal.specs.Groups.{behind_gate, commit, group_at, AreCommits, open_groups, commits_of}
+use Rattle.journal.specs.Groups.{behind_gate, commit, group_at, AreCommits, only_commits, open_groups, commits_of}
 use Rattle.journal.specs.Journals.{header, with_first, groups_from, read}
 use Rattle.journal.specs.Appends.{last_number}
 use Rattle.journal.specs.Settled.{Piece, IsGroup, AreGroups, bytes_of, groups_of}
 use Rattle.journal.specs.declared.group.Group.{Group}
+use Rattle.journal.specs.declared.group.Groups.{Groups}
 use Rattle.journal.proofs.GroupLaws.{group_at-commit}
 
 -- these groups before what is found
-abbrev pub with_prefix : List Group → Result (List Group) ℕ → Result (List Group) ℕ
+abbrev pub with_prefix : List Group → Result Groups ℕ → Result Groups ℕ
 with_prefix [] found = found
 with_prefix (group ∷ groups) found = with_first group (with_prefix groups found)
 
-pub with_prefix-ok : (gs more : List Group) → with_prefix gs (Ok more) ≡ Ok (gs ++ more)
+pub with_prefix-ok : (gs more : List Group) → with_prefix gs (Ok (only_commits more)) ≡ Ok (only_commits (gs ++ more))
 with_prefix-ok [] more = refl
 with_prefix-ok (g ∷ gs) more = ap (with_first g) (with_prefix-ok gs more)
 
@@ -32,7 +33,7 @@ groups_from-group n at last piece rest is more =
     ]) (is rest more)
     ∙ ap (λ (l : List ℕ). with_first piece.group (groups_from n (at + 1 + length piece.bytes) (Some piece.group.number) l)) (drop_at piece.bytes rest (length piece.bytes) refl)
 
-groups_from-closed : (n at : ℕ) (last : Option ℕ) (gate : ℕ) (tail : List ℕ) → gate ≢ 1 → groups_from (suc n) at last (gate ∷ tail) ≡ Ok []
+groups_from-closed : (n at : ℕ) (last : Option ℕ) (gate : ℕ) (tail : List ℕ) → gate ≢ 1 → groups_from (suc n) at last (gate ∷ tail) ≡ Ok (only_commits [])
 unfolding groups_from
 groups_from-closed n at last gate tail shut = cond-false (gate == 1) _ _ (ne_eqb gate 1 shut)
 
@@ -82,13 +83,13 @@ fuel ps gate tail = (
 )
 
 -- whatever stands behind a closed gate
-pub read-closed : (ps : List Piece) → AreGroups None ps → (gate : ℕ) (tail : List ℕ) → gate ≢ 1 → read ((header ++ bytes_of ps) ++ gate ∷ tail) ≡ Ok (groups_of ps)
+pub read-closed : (ps : List Piece) → AreGroups None ps → (gate : ℕ) (tail : List ℕ) → gate ≢ 1 → read ((header ++ bytes_of ps) ++ gate ∷ tail) ≡ Ok (only_commits (groups_of ps))
 read-closed ps are gate tail shut =
     let f = fuel ps gate tail in
     read-prefix ps are gate tail (suc f.0) f.1
     ∙ ap (with_prefix (groups_of ps)) (groups_from-closed f.0 _ _ gate tail shut)
     ∙ with_prefix-ok (groups_of ps) []
-    ∙ ap Ok (append-nil (groups_of ps))
+    ∙ ap (λ (l : List Group). Ok (only_commits l)) (append-nil (groups_of ps))
 
 -- an open group that breaks a rule
 pub read-broken : (ps : List Piece) → AreGroups None ps → (tail : List ℕ) → group_at (last_number None (groups_of ps)) tail ≡ None
@@ -124,7 +125,7 @@ are_pieces : (last : Option ℕ) (commits : List (ℕ × List ℕ)) → AreCommi
 unfolding pieces_of
 are_pieces last [] are = tt
 are_pieces last (c ∷ commits) are =
-    ((λ rest more. group_at-commit c.0 c.1 are.1 are.3 last rest are.0 are.2 more), are_pieces (Some c.0) commits are.4)
+    ((λ rest more. group_at-commit c.0 c.1 are.1 are.0.short last rest are.0.next are.0.is_body more), are_pieces (Some c.0) commits are.2)
 
 bytes_of-pieces : (commits : List (ℕ × List ℕ)) → bytes_of (pieces_of commits) ≡ open_groups commits
 unfolding pieces_of
@@ -137,8 +138,8 @@ groups_of-pieces [] = refl
 groups_of-pieces (c ∷ commits) = ap (λ (l : List Group). commit c.0 c.1 ∷ l) (groups_of-pieces commits)
 
 -- commits that were written are read again, whatever stands behind the closed gate
-pub commits_again : (commits : List (ℕ × List ℕ)) (gate : ℕ) (tail : List ℕ) → AreCommits None commits → gate ≢ 1 → read ((header ++ open_groups commits) ++ gate ∷ tail) ≡ Ok (commits_of commits)
+pub commits_again : (commits : List (ℕ × List ℕ)) (gate : ℕ) (tail : List ℕ) → AreCommits None commits → gate ≢ 1 → read ((header ++ open_groups commits) ++ gate ∷ tail) ≡ Ok (only_commits (commits_of commits))
 commits_again commits gate tail are shut =
     ap (λ (l : List ℕ). read ((header ++ l) ++ gate ∷ tail)) (sym (bytes_of-pieces commits))
     ∙ read-closed (pieces_of commits) (are_pieces None commits are) gate tail shut
-    ∙ ap Ok (groups_of-pieces commits)
+    ∙ ap (λ (l : List Group). Ok (only_commits l)) (groups_of-pieces commits)

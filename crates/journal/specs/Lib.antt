@@ -2,7 +2,9 @@ pub mod DiskFaults
 pub mod Appends
 pub mod Bodies
 pub mod Groups
+pub mod Heads
 pub mod Journals
+pub mod Openings
 pub mod Refusals
 pub mod Settled
 pub mod Steps

@@ -1,26 +1,24 @@
 // The groups of a journal's bytes.
-ghost use Rattle.std.specs.Prelude.{◌≡◌, ◌<◌, ◌+◌, ◌^◌, false, IsTrue, None, Ok, IfOk, IfErr};
+ghost use Rattle.std.specs.Prelude.{◌≡◌, ◌<◌, ◌+◌, ◌^◌, true, false, IsTrue, None, Ok, IfOk, IfErr};
 ghost use Rattle.std.specs.List.{AllByRecursion};
 ghost use Rattle.tree_model.specs.Changes.{keys_rise};
-ghost use Rattle.journal.specs.Groups.{group_at, is_next};
+ghost use Rattle.journal.specs.Groups.{group_at, is_next, only_commits};
 ghost use Rattle.journal.specs.Journals.{is_fresh, read};
 ghost use Rattle.journal.specs.Appends.{last_number};
 ghost use Rattle.journal.specs.Settled.{Stands};
-ghost use Rattle.journal.specs.Refusals.{IsDamage};
+ghost use Rattle.journal.specs.Refusals.{BreaksJournal, HasReason};
 
 use crate::body::read_body;
 use crate::file::OPEN;
 use crate::group::Group;
+use crate::head::COMMIT;
 use byteorder::{BigEndian, ByteOrder};
 use dewey_labels::{List, NoMemory};
-use node_records::{File, OpenError, Place};
+use node_records::{File, OpenError};
 use std::alloc::Global;
 
 /// The header, its gate open.
 pub const HEADER: &[u8] = b"\x01XTCJRN1";
-
-/// The kind of a group that is a commit.
-const COMMIT: u8 = 0;
 
 /// The groups of a file, the place of the closed gate behind them, and the number of the last one.
 #[derive(Drop)]
@@ -35,13 +33,13 @@ pub fn read_groups(alloc: Global, bytes: &[u8]) -> Result<Found, OpenError>
     requires made { is_fresh bytes.now ≡ false }
     ensures stands { IfOk result (λ found. Stands bytes.now found.gate found.groups) }
     ensures fits { IfOk result (λ found. found.gate + 1 < 2 ^ 64) }
-    ensures reads { IfOk result (λ found. read bytes.now ≡ Ok found.groups) }
+    ensures reads { IfOk result (λ found. read bytes.now ≡ Ok (only_commits found.groups)) }
     ensures last { IfOk result (λ found. found.last ≡ last_number None found.groups) }
     ensures rising { IfOk result (λ found. AllByRecursion (λ group. IsTrue (keys_rise group.changes)) found.groups) }
-    ensures damage { IfErr result (λ fault. IsDamage (read bytes.now) fault) }
+    ensures damage { IfErr result (HasReason (BreaksJournal true (read bytes.now)) ⊥) }
 {
     if !bytes.starts_with(HEADER) || bytes.len() == HEADER.len() {
-        return Err(damaged(0));
+        return Err(OpenError::at(File::Journal, 0));
     }
     let mut found = Found {
         groups: List::new(alloc),
@@ -51,7 +49,7 @@ pub fn read_groups(alloc: Global, bytes: &[u8]) -> Result<Found, OpenError>
     while bytes[found.gate] == OPEN {
         let (_, rest) = bytes.split_at(found.gate + 1);
         let Some((group, size)) = read_group(alloc, found.last, rest)? else {
-            return Err(damaged(found.gate));
+            return Err(OpenError::at(File::Journal, found.gate as u64));
         };
         found.last = Some(group.number);
         found.groups.push(group)?;
@@ -91,14 +89,4 @@ fn follows(last: Option<u32>, number: u32) -> bool
         Some(last) => last.checked_add(1) == Some(number),
         None => true,
     }
-}
-
-/// A rule of the journal is broken at this byte.
-fn damaged(at: usize) -> OpenError
-    ensures { result ≡ OpenError.Damaged (record { file = File.Journal; at = at }) }
-{
-    OpenError::Damaged(Place {
-        file: File::Journal,
-        at: at as u64,
-    })
 }

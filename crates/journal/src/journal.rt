@@ -1,17 +1,14 @@
-ghost use Rattle.std.specs.Prelude.{◌≡◌, ◌≤◌, ◌<◌, ◌+◌, ◌^◌, ◌++◌, [], ◌∷◌, ℕ, List, Ok, Err, Some, None, true, false, IfOk, IfErr, MatchResult, IsSome, IsTrue, OnOk, OnErr, length};
-ghost use Rattle.outside_traits.specs.CrashImages.{IsImage};
-ghost use Rattle.outside_traits.specs.Disks.{all_synced};
+// A store's journal: it is opened on a disk, takes commits until a call of the disk fails, and hands the disk out.
+ghost use Rattle.std.specs.Prelude.{◌≡◌, ◌≤◌, false, true, not, Ok, IfOk, IfErr, MatchResult, IsTrue, OnOk, OnErr, length};
 ghost use Rattle.outside_traits.specs.Faults.{HasCause, FaultCounted};
-ghost use Rattle.outside_traits.specs.Moments.{LeavesOnly};
-ghost use Rattle.std.specs.List.{AllByRecursion};
-ghost use Rattle.tree_model.specs.Changes.{keys_rise};
-ghost use Rattle.node_records.specs.declared.open_error.Place.{Place};
+ghost use Rattle.outside_traits.specs.Moments.{IsAllSynced};
 ghost use Rattle.journal.specs.DiskFaults.{disk_fault};
-ghost use Rattle.journal.specs.Bodies.{changes_in};
-ghost use Rattle.journal.specs.Groups.{commit, is_next};
-ghost use Rattle.journal.specs.Journals.{header, is_fresh, read};
-ghost use Rattle.journal.specs.Steps.{Does, StopsIn, append_steps, fresh_steps};
-ghost use Rattle.journal.specs.Appends.{IsBeforeOrAfter, groups_in, last_number};
+ghost use Rattle.journal.specs.Groups.{IsCommit};
+ghost use Rattle.journal.specs.Journals.{is_fresh, read};
+ghost use Rattle.journal.specs.Openings.{LeavesSameGroups, Opens, TakesCommits};
+ghost use Rattle.journal.specs.Refusals.{BreaksJournal, HasReason, UnlessFault};
+ghost use Rattle.journal.specs.Steps.{StopsIn, append_steps};
+ghost use Rattle.journal.specs.Appends.{AddsCommit, HasAdded, LeavesWithOrWithout, groups_in};
 
 use crate::decoding::Found;
 use crate::disk_fault::DiskFault;
@@ -25,8 +22,9 @@ use outside_traits::Disk;
 use std::alloc::Global;
 use std::marker::Model;
 
-/// A journal on a disk, seen as its disk's states and count of faults, the place of its closed gate, the number of its last group, whether a call has failed, and how long a body it has room for.
-/// Until a call fails, a crash between two calls leaves what a read gives (clause `settled` of `faults`).
+/// A journal on a disk, seen as its disk's states and count of faults, the place of its closed gate, the number of its last group,
+/// whether a call has failed, and how long a body it has room for.
+/// Until a call fails, a crash between two calls leaves what a read gives (clause `settled` of `is_usable`).
 #[derive(Drop)]
 pub struct Journal<J: Disk> {
     file: JournalFile<J>,
@@ -41,7 +39,14 @@ impl<J: Disk> Model for Journal<J> {
 
     ghost Value = { JournalView };
 
-    ghost view = { λ j. record { history = J.history j.file.disk; faults = J.faults j.file.disk; gate = j.file.gate; last = j.file.last; failed = j.failed; room = vec_capacity j.buffer - 10 } };
+    ghost view = { λ j. record {
+      history = J.history j.file.disk;
+      faults = J.faults j.file.disk;
+      gate = j.file.gate;
+      last = j.file.last;
+      failed = j.failed;
+      room = vec_capacity j.buffer - 10;
+    } };
 
     ghost invariant = { λ j. IsUsable J.is_known (J.history j.file.disk) j.file.gate j.file.last j.failed (vec_capacity j.buffer) };
 }
@@ -57,39 +62,27 @@ impl<J: Disk> Journal<J> {
     /// Opens the journal on a disk, and answers its commits. It reads the whole file once, and makes a journal in a fresh file.
     /// All memory is taken before the first write. The disk is handed back with a fault.
     pub fn open(alloc: Global, disk: J) -> Result<(Journal<J>, Groups), OpenFault<J>>
-        requires synced { IsTrue J.is_known → (J.history disk).now ≡ all_synced (J.history disk).now.reads }
+        requires synced { IsTrue J.is_known → IsAllSynced (J.history disk) }
 
-        // The groups are those that the bytes stood for, and stand for now.
-        ensures groups { IfOk result (λ opened. IsTrue J.is_known → read (J.history disk).now.reads ≡ Ok opened.1.commits) }
-        ensures reads { IfOk result (λ opened. IsTrue J.is_known → read opened.0.history.now.reads ≡ Ok opened.1.commits) }
-        ensures synced { IfOk result (λ opened. IsTrue J.is_known → opened.0.history.now ≡ all_synced opened.0.history.now.reads) }
-        ensures last { IfOk result (λ opened. opened.0.last ≡ last_number None opened.1.commits) }
-        ensures rising { IfOk result (λ opened. AllByRecursion (λ group. IsTrue (keys_rise group.changes)) opened.1.commits) }
-        ensures ok { IfOk result (λ opened. opened.0.failed ≡ false) }
-
-        // A fresh file has these nine bytes then; any other file is as it was, after an error too.
-        ensures fresh { IfOk result (λ opened. IsTrue J.is_known → IsTrue (is_fresh (J.history disk).now.reads) → opened.0.history.now.reads ≡ header ++ 0 ∷ []) }
-        ensures same { IsTrue J.is_known → is_fresh (J.history disk).now.reads ≡ false → MatchResult result (λ opened. opened.0.history ≡ J.history disk) (λ refused. J.history refused.disk ≡ J.history disk) }
-
-        // It was made there by these calls, with these bytes.
-        ensures made { IfOk result (λ opened. IsTrue J.is_known → IsTrue (is_fresh (J.history disk).now.reads)
-            → Does (fresh_steps (J.history disk).now.reads) (J.history disk) opened.0.history) }
+        // The groups are those that the bytes stood for, and stand for now; the journal takes the commit that follows.
+        ensures opens { IfOk result (λ opened. IsTrue J.is_known → Opens (J.history disk) opened.0.history opened.1) }
+        ensures ready { IfOk result (λ opened. TakesCommits (J.faults disk) opened.1 opened.0) }
 
         // A crash at any moment of the call leaves what stands for the same groups.
         ensures any_moment { IsTrue J.is_known → MatchResult result
-            (λ opened. LeavesOnly (λ image. read image ≡ read (J.history disk).now.reads) (J.history disk) opened.0.history)
-            (λ refused. LeavesOnly (λ image. read image ≡ read (J.history disk).now.reads) (J.history disk) (J.history refused.disk)) }
+            (λ opened. LeavesSameGroups (J.history disk) opened.0.history)
+            (λ refused. LeavesSameGroups (J.history disk) (J.history refused.disk)) }
 
         // Why it isn't opened.
-        ensures damaged { IfErr result (λ refused. (place : Place) → refused.fault ≡ OpenError.Damaged place
-            → (place.file ≡ File.Journal) × (IsTrue J.is_known → read (J.history disk).now.reads ≡ Err place.at)) }
-        ensures fault { IfErr result (λ refused. refused.fault ≡ OpenError.DiskFault → FaultCounted (J.faults disk) (J.faults refused.disk)) }
-        ensures exact { IfOk result (λ opened. opened.0.faults ≡ J.faults disk) }
-        ensures uncounted { IfErr result (λ refused. (refused.fault ≡ OpenError.DiskFault → ⊥) → J.faults refused.disk ≡ J.faults disk) }
-        ensures later { MatchResult result (λ opened. J.faults disk ≤ opened.0.faults) (λ refused. J.faults disk ≤ J.faults refused.disk) }
+        ensures reason { IfErr result (λ refused. HasReason (BreaksJournal J.is_known (read (J.history disk).now.reads))
+            (FaultCounted (J.faults disk) (J.faults refused.disk)) refused.fault) }
 
-        // Nothing is written but after a fault of the disk.
-        ensures untouched { IfErr result (λ refused. (refused.fault ≡ OpenError.DiskFault → ⊥) → IsTrue J.is_known → J.history refused.disk ≡ J.history disk) }
+        // Nothing is written then but where the disk fails while a journal is made in a fresh file, and no other fault is counted.
+        ensures untouched { IfErr result (λ refused. UnlessFault refused.fault (IsTrue J.is_known → J.history refused.disk ≡ J.history disk)) }
+        ensures uncounted { IfErr result (λ refused. UnlessFault refused.fault (J.faults refused.disk ≡ J.faults disk)) }
+        ensures made_before { IfErr result (λ refused. IsTrue J.is_known → is_fresh (J.history disk).now.reads ≡ false
+            → J.history refused.disk ≡ J.history disk) }
+        ensures later { IfErr result (λ refused. J.faults disk ≤ J.faults refused.disk) }
     {
         let mut disk = disk;
         let Ok(buffer) = Vec::with_capacity(alloc, FRAME) else {
@@ -119,26 +112,18 @@ impl<J: Disk> Journal<J> {
     /// After an error the journal isn't used again; the disk is opened anew.
     pub fn append_group(&mut self, number: u32, body: &[u8]) -> Result<(), DiskFault>
         requires usable { self.old.failed ≡ false }
-        requires next { IsTrue (is_next self.old.last number) }
-        requires body { IsSome (changes_in body.now) }
-        requires length { length body.now < 2 ^ 32 }
+        requires commit { IsCommit self.old.last number body.now }
         requires room { length body.now ≤ self.old.room }
 
-        ensures ok { OnOk result (self.new.failed ≡ false) }
+        // After Ok every crash leaves the new commit; after an error the journal isn't to be used.
+        ensures durable { OnOk result (IsTrue J.is_known → AddsCommit self.old.gate number body.now self.old.history self.new.history) }
+        ensures ok { OnOk result (HasAdded number body.now self.old self.new) }
         ensures err { OnErr result (self.new.failed ≡ true) }
-        ensures last { OnOk result (self.new.last ≡ Some number) }
-        ensures gate { OnOk result (self.new.gate ≡ self.old.gate + 10 + length body.now) }
-        ensures groups { OnOk result (IsTrue J.is_known → read self.new.history.now.reads ≡ Ok (groups_in self.old.history ++ commit number body.now ∷ [])) }
-        ensures synced { OnOk result (IsTrue J.is_known → self.new.history.now ≡ all_synced self.new.history.now.reads) }
-
-        // After Ok every crash leaves the new commit.
-        ensures durable { OnOk result (IsTrue J.is_known → (image : List ℕ) → IsImage self.new.history.now image → read image ≡ Ok (groups_in self.old.history ++ commit number body.now ∷ [])) }
 
         // A crash at any moment of the call leaves the groups from before it, with the new one or without.
-        ensures any_moment { IsTrue J.is_known → LeavesOnly (IsBeforeOrAfter (groups_in self.old.history) (commit number body.now)) self.old.history self.new.history }
-        ensures calls { OnOk result (IsTrue J.is_known → length self.new.history.past ≡ 4 + length self.old.history.past) }
-        // The four calls with their bytes, or the first of them up to one that failed: what stands behind the next gate stays.
-        ensures steps { OnOk result (IsTrue J.is_known → Does (append_steps self.old.gate number body.now) self.old.history self.new.history) }
+        ensures any_moment { IsTrue J.is_known → LeavesWithOrWithout number body.now self.old.history self.new.history }
+
+        // After an error the first of the four calls were made, up to one that failed: what stands behind the next gate stays.
         ensures stops { OnErr result (IsTrue J.is_known → StopsIn (append_steps self.old.gate number body.now) self.old.history self.new.history) }
         ensures room { self.old.room ≤ self.new.room }
         ensures cause { HasCause disk_fault self.old.faults self.new.faults result }
@@ -174,13 +159,18 @@ impl<J: Disk> Journal<J> {
         disk
     }
 
+    /// Whether it takes commits: no append has failed. Then all is synced, and the bytes are read as groups.
+    pub fn is_usable(&self) -> bool
+        ensures answer { result ≡ not self.now.failed }
+        ensures settled { IsTrue J.is_known → self.now.failed ≡ false → IsAllSynced self.now.history }
+        ensures groups { IsTrue J.is_known → self.now.failed ≡ false → read self.now.history.now.reads ≡ Ok (groups_in self.now.history) }
+    {
+        !self.failed
+    }
+
     /// How many calls of the disk have failed.
     pub fn faults(&self) -> u64
-        ensures faults { result ≡ self.now.faults }
-
-        // Until a call has failed, all is synced, and the bytes are read as groups.
-        ensures settled { IsTrue J.is_known → self.now.failed ≡ false → self.now.history.now ≡ all_synced self.now.history.now.reads }
-        ensures groups { IsTrue J.is_known → self.now.failed ≡ false → read self.now.history.now.reads ≡ Ok (groups_in self.now.history) }
+        ensures { result ≡ self.now.faults }
     {
         self.file.disk.faults()
     }

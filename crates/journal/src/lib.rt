@@ -1,5 +1,6 @@
 //! The journal: the commits of a store, a group each, in a file that only grows until it is reset.
-//! Once `append_group` answers Ok every crash leaves that group and all before it (clause `durable`); a crash in mid-call leaves it whole or not at all (`any_moment`).
+//! Once `append_group` answers Ok every crash leaves that group and all before it (clause `durable`);
+//! a crash in mid-call leaves it whole or not at all (`any_moment`).
 //! What the changes do to a tree, and what the page file holds, is left to the crates above.
 #![tactic(auto)]
 
@@ -9,6 +10,7 @@ mod disk_fault;
 mod file;
 mod frame;
 mod group;
+mod head;
 mod journal;
 mod laws;
 mod new_journal;
@@ -19,5 +21,6 @@ mod tests;
 
 pub use disk_fault::DiskFault;
 pub use group::{Group, Groups};
+pub use head::{FIRST_GATE, IMAGES, first_number, is_fresh, kind_at};
 pub use journal::{Journal, OpenFault};
 pub use laws::{a_body_is_read_again, commits_are_read_again};

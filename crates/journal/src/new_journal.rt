@@ -3,6 +3,7 @@ ghost use Rattle.std.specs.Prelude.{◌≡◌, ◌≤◌, ◌++◌, [], ◌∷�
 ghost use Rattle.outside_traits.specs.Disks.{all_synced};
 ghost use Rattle.outside_traits.specs.Faults.{HasCause, failed};
 ghost use Rattle.outside_traits.specs.Moments.{LeavesOnly};
+ghost use Rattle.journal.specs.Groups.{only_commits};
 ghost use Rattle.journal.specs.Journals.{header, is_fresh, read};
 ghost use Rattle.journal.specs.Settled.{IsBarred, IsSettled};
 ghost use Rattle.journal.specs.Steps.{Does, fresh_steps, header_steps};
@@ -19,9 +20,9 @@ pub fn make_journal<J: Disk>(disk: &mut J, count: u64) -> Result<(), Failed>
 
     ensures settled { OnOk result (IsTrue J.is_known → IsSettled (J.history disk.new) 8 None) }
     ensures bytes { OnOk result (IsTrue J.is_known → (J.history disk.new).now.reads ≡ header ++ 0 ∷ []) }
-    ensures reads { OnOk result (IsTrue J.is_known → read (J.history disk.new).now.reads ≡ Ok []) }
+    ensures reads { OnOk result (IsTrue J.is_known → read (J.history disk.new).now.reads ≡ Ok (only_commits [])) }
     ensures made { OnOk result (IsTrue J.is_known → Does (fresh_steps (J.history disk.old).now.reads) (J.history disk.old) (J.history disk.new)) }
-    ensures any_moment { IsTrue J.is_known → LeavesOnly (λ image. read image ≡ Ok []) (J.history disk.old) (J.history disk.new) }
+    ensures any_moment { IsTrue J.is_known → LeavesOnly (λ image. read image ≡ Ok (only_commits [])) (J.history disk.old) (J.history disk.new) }
     ensures cause { HasCause failed (J.faults disk.old) (J.faults disk.new) result }
 {
     // A single byte may be an open gate; behind it nothing may come to stand.
@@ -39,7 +40,7 @@ fn close_gate<J: Disk>(disk: &mut J) -> Result<(), Failed>
 
     ensures barred { OnOk result (IsTrue J.is_known → IsBarred (J.history disk.new)) }
     ensures made { OnOk result (IsTrue J.is_known → Does (write 0 (0 ∷ []) ∷ sync ∷ []) (J.history disk.old) (J.history disk.new)) }
-    ensures any_moment { IsTrue J.is_known → LeavesOnly (λ image. read image ≡ Ok []) (J.history disk.old) (J.history disk.new) }
+    ensures any_moment { IsTrue J.is_known → LeavesOnly (λ image. read image ≡ Ok (only_commits [])) (J.history disk.old) (J.history disk.new) }
     ensures cause { HasCause failed (J.faults disk.old) (J.faults disk.new) result }
 {
     disk.write_at(0, &[0])?;
@@ -53,9 +54,9 @@ fn write_header<J: Disk>(disk: &mut J) -> Result<(), Failed>
 
     ensures settled { OnOk result (IsTrue J.is_known → IsSettled (J.history disk.new) 8 None) }
     ensures bytes { OnOk result (IsTrue J.is_known → (J.history disk.new).now.reads ≡ header ++ 0 ∷ []) }
-    ensures reads { OnOk result (IsTrue J.is_known → read (J.history disk.new).now.reads ≡ Ok []) }
+    ensures reads { OnOk result (IsTrue J.is_known → read (J.history disk.new).now.reads ≡ Ok (only_commits [])) }
     ensures made { OnOk result (IsTrue J.is_known → Does header_steps (J.history disk.old) (J.history disk.new)) }
-    ensures any_moment { IsTrue J.is_known → LeavesOnly (λ image. read image ≡ Ok []) (J.history disk.old) (J.history disk.new) }
+    ensures any_moment { IsTrue J.is_known → LeavesOnly (λ image. read image ≡ Ok (only_commits [])) (J.history disk.old) (J.history disk.new) }
     ensures cause { HasCause failed (J.faults disk.old) (J.faults disk.new) result }
 {
     disk.write_at(1, b"XTCJRN1\0")?;

@@ -1,14 +1,17 @@
 -- What files stand for, when a commit is added and when other bytes are read as the same commits.
 use Rattle.std.proofs.Common.{◌≡◌, ◌+◌, ℕ, Bool, true, false, List, [], ◌∷◌, ◌++◌, Option, Some, None, Result, Ok, Err, if◌then◌else◌, refl, sym, ◌∙◌, ap}
-use Rattle.std.proofs.lemmas.Bool.{eq-eqb}
+use Rattle.std.proofs.lemmas.Bool.{eq-eqb, false≢true}
 use Rattle.dewey_labels.specs.Lists.{is_empty}
 use Rattle.tree_model.specs.Entries.{Entries, changed}
 use Rattle.tree_model.specs.StoredTree.{broken_at}
 use Rattle.node_records.specs.declared.open_error.Place.{Place}
 use Rattle.node_records.specs.declared.open_error.File.TheVariants.{Journal, Tree}
 use Rattle.journal.specs.Journals.{read}
+use Rattle.journal.specs.Groups.{with_commit}
+use Rattle.journal.specs.Heads.{first_gate}
 use Rattle.journal.specs.declared.group.Group.{Group}
-use Rattle.recovery.specs.Opened.{Contents, place_in, after_commits, last_of, first_is_one, contents_of, checked, opened_from, opened}
+use Rattle.journal.specs.declared.group.Groups.{Groups}
+use Rattle.recovery.specs.Opened.{Contents, place_in, after_commits, last_of, first_is_one, contents_of, checked, contents_from, contents_of_files}
 use Rattle.recovery.proofs.OpenedLaws.{by_groups, by_damage, both_fresh, contents_are}
 
 -- ---- a commit more
@@ -22,8 +25,8 @@ last_more [] group number = refl
 last_more (g ∷ groups) group number = last_more groups group g.number
 
 -- what stands for a map begins with the number 1
-begins : (groups : List Group) (contents : Contents) → opened_from true groups ≡ Ok contents → first_is_one groups ≡ true
-begins groups contents h = elim (first_is_one groups) as (λ (b : Bool). (if b then checked (contents_of groups) else Err (place_in Journal 8)) ≡ Ok contents → b ≡ true) [
+begins : (groups : Groups) (contents : Contents) → contents_from true groups ≡ Ok contents → first_is_one groups.commits ≡ true
+begins groups contents h = elim (first_is_one groups.commits) as (λ (b : Bool). (if b then checked (contents_of groups.commits) else Err (place_in Journal first_gate)) ≡ Ok contents → b ≡ true) [
   | true ↦ λ _. refl
   | false ↦ λ g. cc
 ] h
@@ -40,31 +43,35 @@ contents_more groups group = λ i. record { entries = after_more groups group []
 unbroken : (contents : Contents) → broken_at contents.entries ≡ None → checked contents ≡ Ok contents
 unbroken contents h = ap (λ (o : Option ℕ). elim o as (λ _. Result Contents Place) [ None ↦ Ok contents | Some at ↦ Err (place_in Tree at) ]) h
 
-pub one_more : (journal longer : List ℕ) (groups : List Group) (group : Group) (contents : Contents) → read journal ≡ Ok groups → read longer ≡ Ok (groups ++ group ∷ []) → opened journal [] ≡ Ok contents
+-- beside pages nothing stands for a map
+no_pages : (groups : Groups) (contents : Contents) → contents_from false groups ≡ Ok contents → true ≡ false
+no_pages groups contents h = cc
+
+pub one_more : (journal longer pages : List ℕ) (groups : Groups) (group : Group) (contents : Contents)
+    → read journal ≡ Ok groups → read longer ≡ Ok (with_commit groups group) → contents_of_files journal pages ≡ Ok contents
     → group.number ≡ contents.number + 1 → broken_at (changed group.changes contents.entries) ≡ None
-    → opened longer [] ≡ Ok (record { entries = changed group.changes contents.entries; number = group.number })
-one_more journal longer groups group contents before after opens next keeps =
-    let from : opened_from true groups ≡ Ok contents = sym (by_groups true journal groups before) ∙ opens in
-    let is : contents ≡ contents_of groups = contents_are true groups contents from in
-    let first : first_is_one (groups ++ group ∷ []) ≡ true = begins_more groups group (begins groups contents from) (next ∙ ap (λ (c : Contents). c.number + 1) is) in
-    by_groups true longer (groups ++ group ∷ []) after
-    ∙ ap (λ (b : Bool). if b then checked (contents_of (groups ++ group ∷ [])) else Err (place_in Journal 8)) first
-    ∙ ap checked (contents_more groups group ∙ ap (λ (c : Contents). record { entries = changed group.changes c.entries; number = group.number }) (sym is))
+    → contents_of_files longer pages ≡ Ok (record { entries = changed group.changes contents.entries; number = group.number })
+one_more journal longer (byte ∷ bytes) groups group contents before after opens next keeps = absurd (false≢true (sym (no_pages groups contents (sym (by_groups false journal groups before) ∙ opens))))
+one_more journal longer [] groups group contents before after opens next keeps =
+    let from : contents_from true groups ≡ Ok contents = sym (by_groups true journal groups before) ∙ opens in
+    let commits = groups.commits in
+    let is : contents ≡ contents_of commits = contents_are true groups contents from in
+    let first : first_is_one (commits ++ group ∷ []) ≡ true = begins_more commits group (begins groups contents from) (next ∙ ap (λ (c : Contents). c.number + 1) is) in
+    by_groups true longer (with_commit groups group) after
+    ∙ ap (λ (b : Bool). if b then checked (contents_of (commits ++ group ∷ [])) else Err (place_in Journal first_gate)) first
+    ∙ ap checked (contents_more commits group ∙ ap (λ (c : Contents). record { entries = changed group.changes c.entries; number = group.number }) (sym is))
     ∙ unbroken (record { entries = changed group.changes contents.entries; number = group.number }) keeps
 
 -- ---- the same commits
 
-pub same_groups : (journal other : List ℕ) (groups : List Group) → read journal ≡ Ok groups → read other ≡ Ok groups → (pages : List ℕ) → opened other pages ≡ opened journal pages
-same_groups journal other groups before after pages = both_fresh (is_empty pages) other journal groups after before
+pub same_groups : (journal other pages : List ℕ) (groups : Groups) → read journal ≡ Ok groups → read other ≡ Ok groups → contents_of_files other pages ≡ contents_of_files journal pages
+same_groups journal other pages groups before after = both_fresh (is_empty pages) other journal groups after before
 
 -- ---- the page file
 
-no_pages : (groups : List Group) (contents : Contents) → opened_from false groups ≡ Ok contents → true ≡ false
-no_pages groups contents h = cc
-
-pub pages_empty : (journal pages : List ℕ) (contents : Contents) → opened journal pages ≡ Ok contents → pages ≡ []
+pub pages_empty : (journal pages : List ℕ) (contents : Contents) → contents_of_files journal pages ≡ Ok contents → pages ≡ []
 pages_empty journal [] contents opens = refl
-pages_empty journal (byte ∷ bytes) contents opens = elim (read journal) as (λ (r : Result (List Group) ℕ). read journal ≡ r → byte ∷ bytes ≡ []) [
+pages_empty journal (byte ∷ bytes) contents opens = elim (read journal) as (λ (r : Result Groups ℕ). read journal ≡ r → byte ∷ bytes ≡ []) [
   | Ok groups ↦ λ h. cc (sym (by_groups false journal groups h) ∙ opens)
   | Err at ↦ λ h. cc (sym (by_damage false journal at h) ∙ opens)
 ] refl

@@ -19,11 +19,13 @@ use Rattle.node_records.specs.declared.open_error.Place.{Place}
 use Rattle.node_records.specs.declared.open_error.File.TheVariants.{Journal, Tree}
 use Rattle.node_records.proofs.BodyLaws.{changes_written}
 use Rattle.journal.specs.Bodies.{changes_in}
-use Rattle.journal.specs.Groups.{group_at, is_framed, body_at, number_at, size_at, word_of}
+use Rattle.journal.specs.Groups.{group_at, is_framed, body_at, number_at, size_at, word_of, only_commits}
 use Rattle.journal.specs.Journals.{header, is_fresh, with_first, groups_from, read}
 use Rattle.journal.specs.Appends.{groups_read}
+use Rattle.journal.specs.Heads.{first_gate}
 use Rattle.journal.specs.declared.group.Group.{Group}
-use Rattle.recovery.specs.Opened.{Contents, after_commits, contents_of, checked, first_is_one, first_broken, opened, opened_beside, opened_from, place_in}
+use Rattle.journal.specs.declared.group.Groups.{Groups}
+use Rattle.recovery.specs.Opened.{Contents, after_commits, contents_of, checked, first_is_one, first_broken, contents_of_files, contents_beside, contents_from, place_in}
 use Rattle.recovery.specs.Trees.{StandForOne}
 use Rattle.recovery.proofs.GatherLaws.{sorted_after}
 use Rattle.recovery.proofs.OpenedLaws.{contents_are, stand_for_one}
@@ -66,28 +68,28 @@ group_labelled last rest found bytes h = elim (is_framed last rest) as (λ (b : 
   | false ↦ λ g. cc
 ] h
 
-groups_labelled : (n at : ℕ) (last : Option ℕ) (bytes : List ℕ) (groups : List Group) → IsBytes bytes → groups_from n at last bytes ≡ Ok groups → AllLabelled groups
+groups_labelled : (n at : ℕ) (last : Option ℕ) (bytes : List ℕ) (groups : Groups) → IsBytes bytes → groups_from n at last bytes ≡ Ok groups → AllLabelled groups.commits
 unfolding groups_from
 groups_labelled zero at last bytes groups b h = cc
 groups_labelled (suc n) at last [] groups b h = cc
 groups_labelled (suc n) at last (gate ∷ rest) groups b h =
-    elim (gate == 1) as (λ (t : Bool). (if t then elim (group_at last rest) as (λ _. Result (List Group) ℕ) [ None ↦ Err at | Some found ↦ with_first found.0 (groups_from n (at + 1 + found.1) (Some found.0.number) (drop found.1 rest)) ] else Ok []) ≡ Ok groups → AllLabelled groups) [
-      | true ↦ λ g. elim (group_at last rest) as (λ (o : Option (Group × ℕ)). group_at last rest ≡ o → elim o as (λ _. Result (List Group) ℕ) [ None ↦ Err at | Some found ↦ with_first found.0 (groups_from n (at + 1 + found.1) (Some found.0.number) (drop found.1 rest)) ] ≡ Ok groups → AllLabelled groups) [
+    elim (gate == 1) as (λ (t : Bool). (if t then elim (group_at last rest) as (λ _. Result Groups ℕ) [ None ↦ Err at | Some found ↦ with_first found.0 (groups_from n (at + 1 + found.1) (Some found.0.number) (drop found.1 rest)) ] else Ok (only_commits [])) ≡ Ok groups → AllLabelled groups.commits) [
+      | true ↦ λ g. elim (group_at last rest) as (λ (o : Option (Group × ℕ)). group_at last rest ≡ o → elim o as (λ _. Result Groups ℕ) [ None ↦ Err at | Some found ↦ with_first found.0 (groups_from n (at + 1 + found.1) (Some found.0.number) (drop found.1 rest)) ] ≡ Ok groups → AllLabelled groups.commits) [
         | None ↦ λ _ e. cc
-        | Some found ↦ λ is e. elim (groups_from n (at + 1 + found.1) (Some found.0.number) (drop found.1 rest)) as (λ (r : Result (List Group) ℕ). groups_from n (at + 1 + found.1) (Some found.0.number) (drop found.1 rest) ≡ r → with_first found.0 r ≡ Ok groups → AllLabelled groups) [
-          | Ok more ↦ λ more_is k. subst AllLabelled (ap groups_read k) (group_labelled last rest found b.1 is, groups_labelled n (at + 1 + found.1) (Some found.0.number) (drop found.1 rest) more (bytes-drop found.1 rest b.1) more_is)
+        | Some found ↦ λ is e. elim (groups_from n (at + 1 + found.1) (Some found.0.number) (drop found.1 rest)) as (λ (r : Result Groups ℕ). groups_from n (at + 1 + found.1) (Some found.0.number) (drop found.1 rest) ≡ r → with_first found.0 r ≡ Ok groups → AllLabelled groups.commits) [
+          | Ok more ↦ λ more_is k. subst (λ (gs : Groups). AllLabelled gs.commits) (ap groups_read k) (group_labelled last rest found b.1 is, groups_labelled n (at + 1 + found.1) (Some found.0.number) (drop found.1 rest) more (bytes-drop found.1 rest b.1) more_is)
           | Err p ↦ λ _ k. cc
         ] refl e
       ] refl g
-      | false ↦ λ g. subst AllLabelled (ap groups_read g) tt
+      | false ↦ λ g. subst (λ (gs : Groups). AllLabelled gs.commits) (ap groups_read g) tt
     ] h
 
-read_labelled : (journal : List ℕ) (groups : List Group) → IsBytes journal → read journal ≡ Ok groups → AllLabelled groups
+read_labelled : (journal : List ℕ) (groups : Groups) → IsBytes journal → read journal ≡ Ok groups → AllLabelled groups.commits
 unfolding read
 read_labelled journal groups bytes h =
-    elim (is_fresh journal) as (λ (t : Bool). (if t then Ok [] else if starts_with nat_eq journal header && nat_lt 8 (length journal) then groups_from (length journal) 8 None (drop 8 journal) else Err 0) ≡ Ok groups → AllLabelled groups) [
-      | true ↦ λ g. subst AllLabelled (ap groups_read g) tt
-      | false ↦ λ g. elim (starts_with nat_eq journal header && nat_lt 8 (length journal)) as (λ (t : Bool). (if t then groups_from (length journal) 8 None (drop 8 journal) else Err 0) ≡ Ok groups → AllLabelled groups) [
+    elim (is_fresh journal) as (λ (t : Bool). (if t then Ok (only_commits []) else if starts_with nat_eq journal header && nat_lt 8 (length journal) then groups_from (length journal) 8 None (drop 8 journal) else Err 0) ≡ Ok groups → AllLabelled groups.commits) [
+      | true ↦ λ g. subst (λ (gs : Groups). AllLabelled gs.commits) (ap groups_read g) tt
+      | false ↦ λ g. elim (starts_with nat_eq journal header && nat_lt 8 (length journal)) as (λ (t : Bool). (if t then groups_from (length journal) 8 None (drop 8 journal) else Err 0) ≡ Ok groups → AllLabelled groups.commits) [
         | true ↦ λ e. groups_labelled (length journal) 8 None (drop 8 journal) groups (bytes-drop 8 journal bytes) e
         | false ↦ λ e. cc
       ] g
@@ -110,28 +112,28 @@ after_labelled (g ∷ groups) es l h = after_labelled groups (changed g.changes 
 -- ---- what files stand for
 
 -- commits that stand for a map break no rule of the tree
-unbroken : (empty : Bool) (groups : List Group) (c : Contents) → opened_from empty groups ≡ Ok c → broken_at (after_commits groups []) ≡ None
+unbroken : (empty : Bool) (groups : Groups) (c : Contents) → contents_from empty groups ≡ Ok c → broken_at (after_commits groups.commits []) ≡ None
 unbroken false groups c h = cc
-unbroken true groups c h = elim (first_is_one groups) as (λ (b : Bool). (if b then checked (contents_of groups) else Err (place_in Journal 8)) ≡ Ok c → broken_at (after_commits groups []) ≡ None) [
-  | true ↦ λ g. elim (broken_at (after_commits groups [])) as (λ (o : Option ℕ). elim o as (λ _. Result Contents Place) [ None ↦ Ok (contents_of groups) | Some at ↦ Err (place_in Tree at) ] ≡ Ok c → o ≡ None) [
+unbroken true groups c h = elim (first_is_one groups.commits) as (λ (b : Bool). (if b then checked (contents_of groups.commits) else Err (place_in Journal first_gate)) ≡ Ok c → broken_at (after_commits groups.commits []) ≡ None) [
+  | true ↦ λ g. elim (broken_at (after_commits groups.commits [])) as (λ (o : Option ℕ). elim o as (λ _. Result Contents Place) [ None ↦ Ok (contents_of groups.commits) | Some at ↦ Err (place_in Tree at) ] ≡ Ok c → o ≡ None) [
     | None ↦ λ e. refl
     | Some at ↦ λ e. cc
   ] g
   | false ↦ λ g. cc
 ] h
 
-tree_of_groups : (empty : Bool) (groups : List Group) (c : Contents) → AllLabelled groups → opened_from empty groups ≡ Ok c → IsStoredTree c.entries
+tree_of_groups : (empty : Bool) (groups : Groups) (c : Contents) → AllLabelled groups.commits → contents_from empty groups ≡ Ok c → IsStoredTree c.entries
 tree_of_groups empty groups c labelled h =
     subst (λ (d : Contents). IsStoredTree d.entries) (sym (contents_are empty groups c h))
-    (stored_tree (after_commits groups []) (sorted_after groups [] tt) (after_labelled groups [] labelled tt) (unbroken empty groups c h))
+    (stored_tree (after_commits groups.commits []) (sorted_after groups.commits [] tt) (after_labelled groups.commits [] labelled tt) (unbroken empty groups c h))
 
-tree_beside : (empty : Bool) (journal : List ℕ) (c : Contents) → IsBytes journal → opened_beside empty journal ≡ Ok c → IsStoredTree c.entries
-unfolding opened_beside
+tree_beside : (empty : Bool) (journal : List ℕ) (c : Contents) → IsBytes journal → contents_beside empty journal ≡ Ok c → IsStoredTree c.entries
+unfolding contents_beside
 tree_beside empty journal c bytes h =
-    elim (read journal) as (λ (r : Result (List Group) ℕ). read journal ≡ r → elim r as (λ _. Result Contents Place) [ Ok groups ↦ opened_from empty groups | Err at ↦ Err (place_in Journal (first_broken empty journal at)) ] ≡ Ok c → IsStoredTree c.entries) [
+    elim (read journal) as (λ (r : Result Groups ℕ). read journal ≡ r → elim r as (λ _. Result Contents Place) [ Ok groups ↦ contents_from empty groups | Err at ↦ Err (place_in Journal (first_broken empty journal at)) ] ≡ Ok c → IsStoredTree c.entries) [
       | Ok groups ↦ λ is g. tree_of_groups empty groups c (read_labelled journal groups bytes is) g
       | Err at ↦ λ _ g. cc
     ] refl h
 
-pub files_are_trees : (journal pages : List ℕ) (c : Contents) → IsBytes journal → opened journal pages ≡ Ok c → StandForOne journal pages c.number
+pub files_are_trees : (journal pages : List ℕ) (c : Contents) → IsBytes journal → contents_of_files journal pages ≡ Ok c → StandForOne journal pages c.number
 files_are_trees journal pages c bytes h = stand_for_one journal pages c.entries c.number h (tree_beside (is_empty pages) journal c bytes h)

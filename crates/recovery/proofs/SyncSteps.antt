@@ -8,7 +8,7 @@ use Rattle.outside_traits.specs.Moments.{History, LeavesOnly, TakesStep, Fails}
 use Rattle.outside_traits.proofs.ImageLaws.{image-all_synced, image-unsynced}
 use Rattle.outside_traits.proofs.MomentLaws.{started, goes_on, goes_wrong, weaker}
 use Rattle.outside_traits.proofs.PairLaws.{journal_phase, pages_phase, pairs_joined, pairs_now}
-use Rattle.recovery.specs.Opened.{opened_beside}
+use Rattle.recovery.specs.Opened.{contents_beside}
 use Rattle.recovery.specs.Trees.{StoodFor, LeaveWhatStood}
 
 synced : (t u : History) → IsImage t.now t.now.reads → TakesStep Synced t u → (image : List ℕ) → IsImage u.now image → IsImage t.now image
@@ -45,7 +45,7 @@ module _ (j j2 p : History) where
 
 -- of two disks that were synced the journal is opened, and each image stands for what it stood for beside these pages
 pub then_journal : (j p j1 p1 j2 : History) (empty : Bool) → IsImage j.now j.now.reads → IsImage p.now p.now.reads → j1.now ≡ all_synced j.now.reads → p1.now ≡ all_synced p.now.reads → empty ≡ is_empty p.now.reads
-    → LeavesOnly (λ image. opened_beside empty image ≡ opened_beside empty j1.now.reads) j1 j2 → LeaveWhatStood (pair_of j p) (pair_of j1 p1) → LeaveWhatStood (pair_of j p) (pair_of j2 p1)
+    → LeavesOnly (λ image. contents_beside empty image ≡ contents_beside empty j1.now.reads) j1 j2 → LeaveWhatStood (pair_of j p) (pair_of j1 p1) → LeaveWhatStood (pair_of j p) (pair_of j2 p1)
 then_journal j p j1 p1 j2 empty journal_reads pages_read journal_rests pages_rest is_it run before =
     pairs_joined _ (pair_of j p) (pair_of j1 p1) (pair_of j2 p1) before (journal_phase _ (pair_of j1 p1) (pair_of j2 p1) (record {
       leaves = weaker _ _ j1 j2 (λ image same pages of_pages.
@@ -56,8 +56,8 @@ then_journal j p j1 p1 j2 empty journal_reads pages_read journal_rests pages_res
             of_journal = journal_reads;
             of_pages = pages_read;
             same =
-                ap (λ (b : Bool). opened_beside b image) (ap is_empty these ∙ sym is_it) ∙ same
-                ∙ (λ i. opened_beside (is_it i) (journal_rests i).reads);
+                ap (λ (b : Bool). contents_beside b image) (ap is_empty these ∙ sym is_it) ∙ same
+                ∙ (λ i. contents_beside (is_it i) (journal_rests i).reads);
           }) run;
       still = refl;
     }))

@@ -1,4 +1,5 @@
 pub mod Causes
 pub mod Named
 pub mod Opened
+pub mod Openings
 pub mod Trees

@@ -1,14 +1,17 @@
 -- What the two files of a store stand for, as long as the page file is empty (docs/FILE_FORMAT.md, "Opening").
-use Rattle.std.specs.Prelude.{◌≡◌, ◌⊎◌, ℕ, ◌+◌, Bool, true, false, ◌&&◌, not, ◌==◌, nat_lt, List, [], ◌∷◌, ◌++◌, take, drop, get_or, Option, Some, None, Result, Ok, Err, if◌then◌else◌}
+use Rattle.std.specs.Prelude.{◌≡◌, ◌⊎◌, ℕ, Bool, true, false, ◌&&◌, not, ◌==◌, nat_lt, if◌then◌else◌}
+use Rattle.std.specs.Prelude.{List, [], ◌∷◌, ◌++◌, Option, Some, None, Result, Ok, Err}
 use Rattle.dewey_labels.specs.Lists.{is_empty, is_one}
+use Rattle.outside_traits.specs.Moments.{History, LeavesOnly}
 use Rattle.tree_model.specs.Entries.{Entries, changed}
 use Rattle.tree_model.specs.StoredTree.{broken_at}
-use Rattle.node_records.specs.Reads.{number_in}
 use Rattle.node_records.specs.declared.open_error.Place.{Place}
 use Rattle.node_records.specs.declared.open_error.File.{File}
 use Rattle.node_records.specs.declared.open_error.File.TheVariants.{Journal, Pages, Tree}
+use Rattle.journal.specs.Heads.{first_gate, first_number, images_kind, kind_at}
 use Rattle.journal.specs.Journals.{header, is_fresh, read}
 use Rattle.journal.specs.declared.group.Group.{Group}
+use Rattle.journal.specs.declared.group.Groups.{Groups}
 
 -- the map of a tree, and the number of the last commit
 pub record Contents : Type 0 where
@@ -46,39 +49,40 @@ checked contents = elim (broken_at contents.entries) [
   | Some at ↦ Err (place_in Tree at)
 ]
 
--- what commits stand for beside a page file that is empty or isn't
-abbrev pub opened_from : Bool → List Group → Result Contents Place
-opened_from is_empty groups =
+-- what a journal's groups stand for beside a page file that is empty or isn't
+abbrev pub contents_from : Bool → Groups → Result Contents Place
+contents_from is_empty groups =
     if not is_empty then Err (place_in Pages 0)
-    else if first_is_one groups then checked (contents_of groups)
-    else Err (place_in Journal 8)
+    else if first_is_one groups.commits then checked (contents_of groups.commits)
+    else Err (place_in Journal first_gate)
 
 -- ---- a journal that breaks a rule
 
--- the number of the first group, whose gate is byte 8
-abbrev pub first_number : List ℕ → Option ℕ
-first_number journal = number_in 4 (take 4 (drop 10 journal))
-
 -- the group at a later gate breaks a rule and isn't one of images, and the first commit's number isn't 1
 abbrev pub starts_wrong : List ℕ → ℕ → Bool
-starts_wrong journal at = nat_lt 8 at && (not (get_or journal (at + 1) 0 == 1) && not (is_one (first_number journal)))
+starts_wrong journal at = nat_lt first_gate at && (not (kind_at journal at == images_kind) && not (is_one (first_number journal)))
 
 -- the first broken rule, the journal's groups being read up to this gate
 abbrev pub first_broken : Bool → List ℕ → ℕ → ℕ
-first_broken is_empty journal at = if is_empty && starts_wrong journal at then 8 else at
+first_broken is_empty journal at = if is_empty && starts_wrong journal at then first_gate else at
 
 -- ---- both files
 
--- the map and the number that a journal stands for beside a page file that is empty or isn't, or the place of the first rule that they break
-unfoldable pub opened_beside : Bool → List ℕ → Result Contents Place
-opened_beside is_empty journal = elim (read journal) [
-  | Ok groups ↦ opened_from is_empty groups
+-- the map and the number that a journal stands for beside a page file that is empty or isn't,
+-- or the place of the first rule that they break
+unfoldable pub contents_beside : Bool → List ℕ → Result Contents Place
+contents_beside is_empty journal = elim (read journal) [
+  | Ok groups ↦ contents_from is_empty groups
   | Err at ↦ Err (place_in Journal (first_broken is_empty journal at))
 ]
 
 -- the same of two files
-abbrev pub opened : List ℕ → List ℕ → Result Contents Place
-opened journal pages = opened_beside (is_empty pages) journal
+abbrev pub contents_of_files : List ℕ → List ℕ → Result Contents Place
+contents_of_files journal pages = contents_beside (is_empty pages) journal
+
+-- after each call of the journal's disk a crash leaves what stands for the same beside the page file
+abbrev pub LeavesSameContents : Bool → History → History → Type 0
+LeavesSameContents is_empty old new = LeavesOnly (λ journal. contents_beside is_empty journal ≡ contents_beside is_empty old.now.reads) old new
 
 -- ---- the bytes that an opening leaves
 

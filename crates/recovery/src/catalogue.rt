@@ -41,7 +41,8 @@ fn name_document(
     named: &mut BTreeMap<Label, bool>,
     value: &Record,
 ) -> Result<(), NoMemory>
-    ensures { OnOk result ((name : Name) (catalogue : Catalogue) → Names named.old catalogue → Names named.new (catalogue ++ with_label name (label_in value.now) [])) }
+    ensures { OnOk result ((name : Name) (catalogue : Catalogue) → Names named.old catalogue
+        → Names named.new (catalogue ++ with_label name (label_in value.now) [])) }
 {
     if let Some(label) = label_in(alloc, value)? {
         let is_first = !named.contains_key(&label);

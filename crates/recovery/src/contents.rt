@@ -4,33 +4,32 @@ ghost use Rattle.std.specs.List.{AllByRecursion};
 ghost use Rattle.dewey_labels.specs.Labels.{IsLabel};
 ghost use Rattle.tree_model.specs.Entries.{Sorted};
 ghost use Rattle.tree_model.specs.StoredTree.{IsStoredTree};
-ghost use Rattle.recovery.specs.Causes.{IsDamage};
-ghost use Rattle.recovery.specs.Opened.{first_is_one, opened_from};
+ghost use Rattle.journal.specs.Refusals.{HasReason};
+ghost use Rattle.recovery.specs.Causes.{IsPlaceOf};
+ghost use Rattle.recovery.specs.Opened.{first_is_one, contents_from};
 
-use crate::damage::damaged;
 use crate::gathering::{Gathered, gather};
 use crate::rules::broken_at;
-use dewey_labels::List;
-use journal::Group;
+use journal::{FIRST_GATE, Group, Groups};
 use node_records::{File, OpenError};
 use std::alloc::Global;
 
 /// The map that the commits give beside a page file that is empty, and the number of the last of them.
-pub fn contents(alloc: Global, is_empty: bool, commits: List<Group>) -> Result<Gathered, OpenError>
-    ensures opens { IfOk result (λ found. opened_from is_empty commits ≡ Ok (record { entries = found.base; number = found.number })) }
+pub fn contents(alloc: Global, is_empty: bool, groups: Groups) -> Result<Gathered, OpenError>
+    ensures opens { IfOk result (λ found. contents_from is_empty groups ≡ Ok (record { entries = found.base; number = found.number })) }
     ensures tree { IfOk result (λ found. IsStoredTree found.base) }
-    ensures damage { IfErr result (IsDamage (opened_from is_empty commits)) }
+    ensures damage { IfErr result (HasReason (IsPlaceOf (contents_from is_empty groups)) ⊥) }
 {
     if !is_empty {
-        return Err(damaged(File::Pages, 0));
+        return Err(OpenError::at(File::Pages, 0));
     }
-    if !starts_at_one(commits.as_slice()) {
-        return Err(damaged(File::Journal, 8));
+    if !starts_at_one(groups.commits.as_slice()) {
+        return Err(OpenError::at(File::Journal, FIRST_GATE));
     }
-    let gathered = gather(alloc, commits)?;
+    let gathered = gather(alloc, groups.commits)?;
     match broken_at(alloc, &gathered.base)? {
         None => Ok(gathered),
-        Some(at) => Err(damaged(File::Tree, at as u64)),
+        Some(at) => Err(OpenError::at(File::Tree, at as u64)),
     }
 }
 

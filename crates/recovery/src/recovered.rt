@@ -1,13 +1,12 @@
 // The journal is opened and its commits are followed.
-ghost use Rattle.std.specs.Prelude.{◌≡◌, ◌≤◌, ◌+◌, ◌^◌, ◌<◌, Ok, false, IsTrue, IfOk, IfErr, MatchResult};
-ghost use Rattle.outside_traits.specs.Disks.{all_synced};
+ghost use Rattle.std.specs.Prelude.{◌≡◌, ◌≤◌, ◌+◌, Ok, Err, false, IsTrue, IfOk, IfErr, MatchResult};
 ghost use Rattle.outside_traits.specs.Faults.{FaultCounted};
-ghost use Rattle.outside_traits.specs.Moments.{LeavesOnly};
+ghost use Rattle.outside_traits.specs.Moments.{IsAllSynced};
 ghost use Rattle.tree_model.specs.StoredTree.{IsStoredTree};
 ghost use Rattle.journal.specs.Groups.{is_next};
 ghost use Rattle.journal.specs.Journals.{is_fresh};
-ghost use Rattle.recovery.specs.Causes.{HasReason, IfDamaged, UnlessFault};
-ghost use Rattle.recovery.specs.Opened.{KeepsJournal, journal_made, opened_beside};
+ghost use Rattle.journal.specs.Refusals.{HasReason, UnlessFault};
+ghost use Rattle.recovery.specs.Opened.{KeepsJournal, LeavesSameContents, journal_made, contents_beside};
 
 use crate::contents::contents;
 use crate::damage::first_fault;
@@ -29,28 +28,34 @@ pub fn recover<J: Disk>(
     journal: J,
     is_empty: bool,
 ) -> Result<Recovered<J>, OpenFault<J>>
-    requires synced { IsTrue J.is_known → (J.history journal).now ≡ all_synced (J.history journal).now.reads }
+    requires synced { IsTrue J.is_known → IsAllSynced (J.history journal) }
     requires made { IsTrue J.is_known → is_empty ≡ false → is_fresh (J.history journal).now.reads ≡ false }
 
-    ensures opens { IfOk result (λ found. IsTrue J.is_known → opened_beside is_empty (J.history journal).now.reads ≡ Ok (record { entries = found.gathered.base; number = found.gathered.number })) }
-    ensures opens_now { IfOk result (λ found. IsTrue J.is_known → opened_beside is_empty found.journal.history.now.reads ≡ Ok (record { entries = found.gathered.base; number = found.gathered.number })) }
+    ensures opens { IfOk result (λ found. IsTrue J.is_known
+        → contents_beside is_empty (J.history journal).now.reads ≡ Ok (record { entries = found.gathered.base; number = found.gathered.number })) }
+    ensures opens_now { IfOk result (λ found. IsTrue J.is_known
+        → contents_beside is_empty found.journal.history.now.reads ≡ Ok (record { entries = found.gathered.base; number = found.gathered.number })) }
     ensures tree { IfOk result (λ found. IsStoredTree found.gathered.base) }
     ensures ok { IfOk result (λ found. found.journal.failed ≡ false) }
     ensures next { IfOk result (λ found. IsTrue (is_next found.journal.last (found.gathered.number + 1))) }
-    ensures synced { IfOk result (λ found. IsTrue J.is_known → found.journal.history.now ≡ all_synced found.journal.history.now.reads) }
+    ensures synced { IfOk result (λ found. IsTrue J.is_known → IsAllSynced found.journal.history) }
     ensures bytes { IfOk result (λ found. IsTrue J.is_known → found.journal.history.now.reads ≡ journal_made (J.history journal).now.reads) }
-    ensures kept { IfErr result (λ refused. UnlessFault refused.fault (IsTrue J.is_known → KeepsJournal (J.history journal).now.reads (J.history refused.disk).now.reads)) }
+    ensures kept { IfErr result (λ refused. UnlessFault refused.fault (IsTrue J.is_known
+        → KeepsJournal (J.history journal).now.reads (J.history refused.disk).now.reads)) }
     ensures exact { IfOk result (λ found. found.journal.faults ≡ J.faults journal) }
     ensures uncounted { IfErr result (λ refused. UnlessFault refused.fault (J.faults refused.disk ≡ J.faults journal)) }
     ensures any_moment { IsTrue J.is_known → MatchResult result
-        (λ found. LeavesOnly (λ image. opened_beside is_empty image ≡ opened_beside is_empty (J.history journal).now.reads) (J.history journal) found.journal.history)
-        (λ refused. LeavesOnly (λ image. opened_beside is_empty image ≡ opened_beside is_empty (J.history journal).now.reads) (J.history journal) (J.history refused.disk)) }
-    ensures reason { IfErr result (λ refused. HasReason (IsTrue J.is_known) (opened_beside is_empty (J.history journal).now.reads) (FaultCounted (J.faults journal) (J.faults refused.disk)) refused.fault) }
-    ensures untouched { IfErr result (λ refused. IfDamaged refused.fault (IsTrue J.is_known → J.history refused.disk ≡ J.history journal)) }
+        (λ found. LeavesSameContents is_empty (J.history journal) found.journal.history)
+        (λ refused. LeavesSameContents is_empty (J.history journal) (J.history refused.disk)) }
+    ensures reason { IfErr result (λ refused. HasReason
+        (λ place. IsTrue J.is_known → contents_beside is_empty (J.history journal).now.reads ≡ Err place)
+        (FaultCounted (J.faults journal) (J.faults refused.disk)) refused.fault) }
+    ensures untouched { IfErr result (λ refused. HasReason
+        (λ _. IsTrue J.is_known → J.history refused.disk ≡ J.history journal) (Unit {0}) refused.fault) }
     ensures later { MatchResult result (λ found. J.faults journal ≤ found.journal.faults) (λ refused. J.faults journal ≤ J.faults refused.disk) }
 {
     match Journal::open(alloc, journal) {
-        Ok((journal, groups)) => match contents(alloc, is_empty, groups.commits) {
+        Ok((journal, groups)) => match contents(alloc, is_empty, groups) {
             Ok(gathered) => Ok(Recovered { journal, gathered }),
             Err(fault) => Err(OpenFault {
                 fault,

@@ -22,12 +22,12 @@ use Rattle.node_records.specs.Changes.{Fits, IsWritableChange}
 use Rattle.tree_model.specs.Changes.{rise_above, keys_rise}
 use Rattle.node_records.proofs.KeyLaws.{valid_writable}
 use Rattle.journal.specs.Bodies.{changes_in}
-use Rattle.journal.specs.Groups.{commit, is_next}
+use Rattle.journal.specs.Groups.{commit, is_next, with_commit}
 use Rattle.journal.specs.Journals.{read}
-use Rattle.journal.specs.Appends.{IsBeforeOrAfter, groups_in, groups_read}
+use Rattle.journal.specs.Appends.{IsBeforeOrAfter, LeavesWithOrWithout, groups_in, groups_read}
 use Rattle.journal.specs.declared.group.Group.{Group}
 use Rattle.journal.proofs.BodyLaws.{body_again}
-use Rattle.recovery.specs.Opened.{Contents, opened, opened_beside}
+use Rattle.recovery.specs.Opened.{Contents, contents_of_files, contents_beside}
 use Rattle.recovery.proofs.CommitLaws.{one_more, same_groups}
 use Rattle.xtc.specs.declared.line.What.TheVariants.{Commit}
 use Rattle.xtc.specs.Session.{State, put_change, commit_body, body_limit, after_commit, after}
@@ -118,8 +118,8 @@ has_body k s bytes stands commits is = some_of (changes_in bytes) (map put_chang
 -- ---- what the journal holds
 
 -- a journal that stands for a map is read as groups
-settled_groups : (history : History) (contents : Contents) → opened history.now.reads [] ≡ Ok contents → read history.now.reads ≡ Ok (groups_in history)
-unfolding opened_beside
+settled_groups : (history : History) (contents : Contents) → contents_of_files history.now.reads [] ≡ Ok contents → read history.now.reads ≡ Ok (groups_in history)
+unfolding contents_beside
 settled_groups history contents holds = elim (read history.now.reads) as (λ r. read history.now.reads ≡ r → read history.now.reads ≡ Ok (groups_read r)) [
   | Ok groups ↦ λ is. is
   | Err at ↦ λ is. cc (is, holds)
@@ -127,15 +127,15 @@ settled_groups history contents holds = elim (read history.now.reads) as (λ r. 
 
 -- with the commit it stands for the whole
 pub commit_holds : (k : Kept) (s : State) (history : History) (image : List ℕ) → Stands k s → Commits k → HoldsAll history k.committed k.number
-    → read image ≡ Ok (groups_in history ++ commit (k.number + 1) (commit_body k.overlay) ∷ [])
-    → opened image [] ≡ Ok (record { entries = put_all k.overlay k.committed; number = k.number + 1 })
+    → read image ≡ Ok (with_commit (groups_in history) (commit (k.number + 1) (commit_body k.overlay)))
+    → contents_of_files image [] ≡ Ok (record { entries = put_all k.overlay k.committed; number = k.number + 1 })
 commit_holds k s history image stands commits settled after =
     let tree = seen_tree k s commits.live s.view stands.view in
     let map_is : put_all k.overlay k.committed ≡ map_of tree.0 = sym commits.seen ∙ tree.2.map in
     let group : Group = commit (k.number + 1) (commit_body k.overlay) in
     let changes_are : changed group.changes k.committed ≡ put_all k.overlay k.committed =
     ap (λ o. changed (unwrap_or o []) k.committed) (commits_body k s stands commits) ∙ changed_puts k.overlay k.committed in
-    one_more history.now.reads image (groups_in history) group (record { entries = k.committed; number = k.number }) (settled_groups history _ settled.holds) after settled.holds refl
+    one_more history.now.reads image [] (groups_in history) group (record { entries = k.committed; number = k.number }) (settled_groups history _ settled.holds) after settled.holds refl
     (ap broken_at (changes_are ∙ map_is) ∙ unbroken tree.0 tree.2.formed)
     ∙ ap (λ es. Ok (record { entries = es; number = k.number + 1 })) changes_are
 
@@ -143,7 +143,7 @@ commit_holds k s history image stands commits settled after =
 pub commit_either : (k : Kept) (s : State) (history : History) → Stands k s → Commits k → HoldsAll history k.committed k.number
     → (image : List ℕ) → IsBeforeOrAfter (groups_in history) (commit (k.number + 1) (commit_body k.overlay)) image → HoldsEither s (after s Commit) image
 commit_either k s history stands commits settled image (inl before) =
-    inl (same_groups history.now.reads image (groups_in history) (settled_groups history _ settled.holds) before [] ∙ settled.holds
+    inl (same_groups history.now.reads image [] (groups_in history) (settled_groups history _ settled.holds) before ∙ settled.holds
     ∙ (λ i. Ok (record { entries = stands.committed.map i; number = stands.number i })))
 commit_either k s history stands commits settled image (inr with_it) =
     let tree = seen_tree k s commits.live s.view stands.view in
@@ -153,19 +153,19 @@ commit_either k s history stands commits settled image (inr with_it) =
 
 -- so does a crash at any moment of the append
 pub commit_moments : (k : Kept) (s : State) (old new : History) (number : ℕ) (body : List ℕ) → Stands k s → Commits k → IsSettled k → old ≡ k.journal.history → number ≡ k.number + 1 → body ≡ commit_body k.overlay
-    → LeavesOnly (IsBeforeOrAfter (groups_in old) (commit number body)) old new → LeavesOnly (HoldsEither s (after s Commit)) k.journal.history new
+    → LeavesWithOrWithout number body old new → LeavesOnly (HoldsEither s (after s Commit)) k.journal.history new
 commit_moments k s old new number body stands commits settled old_is number_is body_is run =
     weaker (IsBeforeOrAfter (groups_in k.journal.history) (commit (k.number + 1) (commit_body k.overlay))) (HoldsEither s (after s Commit)) k.journal.history new
     (commit_either k s k.journal.history stands commits settled)
-    (subst (λ (x : History × ℕ × List ℕ). LeavesOnly (IsBeforeOrAfter (groups_in x.0) (commit x.1 x.2)) x.0 new) (λ i. (old_is i, number_is i, body_is i)) run)
+    (subst (λ (x : History × ℕ × List ℕ). LeavesWithOrWithout x.1 x.2 x.0 new) (λ i. (old_is i, number_is i, body_is i)) run)
 
 -- and after it the whole
 pub commit_settles : (k : Kept) (s : State) (old new : History) (entries : Entries) (number : ℕ) (body : List ℕ) → Stands k s → Commits k → IsSettled k → old ≡ k.journal.history → number ≡ k.number + 1 → body ≡ commit_body k.overlay
-    → entries ≡ put_all k.overlay k.committed → new.now ≡ all_synced new.now.reads → read new.now.reads ≡ Ok (groups_in old ++ commit number body ∷ []) → HoldsAll new entries number
+    → entries ≡ put_all k.overlay k.committed → new.now ≡ all_synced new.now.reads → read new.now.reads ≡ Ok (with_commit (groups_in old) (commit number body)) → HoldsAll new entries number
 commit_settles k s old new entries number body stands commits settled old_is number_is body_is entries_are synced after = record {
   synced = synced;
   holds =
-      commit_holds k s k.journal.history new.now.reads stands commits settled (after ∙ (λ i. Ok (groups_in (old_is i) ++ commit (number_is i) (body_is i) ∷ [])))
+      commit_holds k s k.journal.history new.now.reads stands commits settled (after ∙ (λ i. Ok (with_commit (groups_in (old_is i)) (commit (number_is i) (body_is i)))))
       ∙ sym (λ i. Ok (record { entries = entries_are i; number = number_is i }));
 }
 
@@ -188,3 +188,7 @@ commit_stands k m s stands commits live committed overlay begun number opened li
 -- and the next commit follows
 pub follows : (last : Option ℕ) (number : ℕ) → last ≡ Some number → IsTrue (is_next last (number + 1))
 follows last number is = ap (λ (l : Option ℕ). is_next l (number + 1)) is ∙ eq-eqb (number + 1) (number + 1) refl
+
+-- the same number is the next one behind the same last one
+pub next_of : (last other : Option ℕ) (number same : ℕ) → last ≡ other → number ≡ same → IsTrue (is_next other same) → IsTrue (is_next last number)
+next_of last other number same of_last of_number is = (λ i. is_next (of_last i) (of_number i)) ∙ is

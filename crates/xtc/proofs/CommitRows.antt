@@ -17,7 +17,7 @@ use Rattle.journal.specs.Bodies.{changes_in}
 use Rattle.journal.specs.Groups.{word_of, group_at}
 use Rattle.journal.specs.Journals.{read, groups_from}
 use Rattle.journal.proofs.JournalRows.{new_journal, first_body, one_commit}
-use Rattle.recovery.specs.Opened.{opened_beside}
+use Rattle.recovery.specs.Opened.{contents_beside}
 use Rattle.xtc.specs.declared.line.What.TheVariants.{Begin, Commit, Create}
 use Rattle.xtc.specs.declared.session.SessionError.TheVariants.{NoTransaction, TxLimit}
 use Rattle.xtc.specs.Calls.{new_entries, entries_of_reply}
@@ -80,13 +80,13 @@ goes_on = refl
 
 -- the nine bytes; the sixty bytes; and these with the gate closed, which hold nothing yet
 held_before : HoldsCommitted empty new_journal
-unfolding opened_beside read groups_from
+unfolding contents_beside read groups_from
 held_before = refl
 
 held : HoldsCommitted committed one_commit
-unfolding opened_beside read groups_from group_at changes_in word_of is_utf8 chars encode is_name is_start_char is_name_char digits
+unfolding contents_beside read groups_from group_at changes_in word_of is_utf8 chars encode is_name is_start_char is_name_char digits
 held = refl
 
 held_until_the_gate : HoldsCommitted live (slice_set one_commit 8 77)
-unfolding opened_beside read groups_from
+unfolding contents_beside read groups_from
 held_until_the_gate = refl

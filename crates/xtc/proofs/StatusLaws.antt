@@ -3,8 +3,8 @@ use Rattle.std.proofs.Common.{◌≡◌, refl, inl, inr, List, ℕ, [], Ok, ap, 
 use Rattle.node_records.specs.declared.open_error.OpenError.{OpenError}
 use Rattle.node_records.specs.declared.open_error.OpenError.TheVariants as error
 use Rattle.node_records.specs.declared.open_error.Place.{Place}
-use Rattle.recovery.specs.Causes.{UnlessFault}
-use Rattle.recovery.specs.Opened.{Contents, opened}
+use Rattle.journal.specs.Refusals.{HasReason, UnlessFault}
+use Rattle.recovery.specs.Opened.{Contents, contents_of_files}
 use Rattle.recovery.proofs.CommitLaws.{pages_empty}
 use Rattle.script_runs.specs.declared.halt.Halt.TheVariants as halt
 use Rattle.script_runs.specs.declared.running.End.{End}
@@ -64,16 +64,26 @@ run_not_damaged Usage place is e = absurd is
 run_not_damaged (Damaged at) place is e = absurd is
 
 -- beside an empty page file the same is opened
-pub beside_none : (journal pages : List ℕ) (contents : Contents) → opened journal pages ≡ Ok contents → opened journal [] ≡ Ok contents
-beside_none journal pages contents opens = subst (λ p. opened journal p ≡ Ok contents) (pages_empty journal pages contents opens) opens
+pub beside_none : (journal pages : List ℕ) (contents : Contents) → contents_of_files journal pages ≡ Ok contents → contents_of_files journal [] ≡ Ok contents
+beside_none journal pages contents opens = subst (λ p. contents_of_files journal p ≡ Ok contents) (pages_empty journal pages contents opens) opens
 
 -- ---- the counts of faults
 
--- only a fault of a disk has this status
-pub disk_fault : (fault : OpenError) → status_of fault ≡ DiskFault → fault ≡ error.DiskFault
-disk_fault (error.Damaged place) e = cc
-disk_fault error.DiskFault e = refl
-disk_fault error.NoMemory e = cc
+-- where damage is the status, this holds of its place
+pub damaged_of : (D : Place → Type 0) (cause : Type 0) (fault : OpenError) (place : Place) → HasReason D cause fault → status_of fault ≡ Damaged place → D place
+damaged_of D cause (error.Damaged at) place h e = subst D (ap place_of e) h
+  where
+    place_of : Status → Place
+    place_of (Damaged found) = found
+    place_of status = at
+damaged_of D cause error.DiskFault place h e = cc
+damaged_of D cause error.NoMemory place h e = cc
+
+-- only a fault of a disk has this status; then it has its cause
+pub cause_of : (D : Place → Type 0) (cause : Type 0) (fault : OpenError) → HasReason D cause fault → status_of fault ≡ DiskFault → cause
+cause_of D cause (error.Damaged place) h e = cc
+cause_of D cause error.DiskFault h e = h
+cause_of D cause error.NoMemory h e = cc
 
 -- at any other status this holds of a store that wasn't opened
 pub no_fault : (fault : OpenError) (P : Type 0) → (status_of fault ≡ DiskFault → ⊥) → UnlessFault fault P → P

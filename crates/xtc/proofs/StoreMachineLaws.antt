@@ -13,7 +13,7 @@ use Rattle.tree_model.specs.Entries.{Entries}
 use Rattle.tree_model.specs.Tree.{Tree}
 use Rattle.journal.specs.Groups.{is_next}
 use Rattle.journal.specs.Views.{JournalView}
-use Rattle.recovery.specs.Opened.{opened}
+use Rattle.recovery.specs.Opened.{contents_of_files}
 use Rattle.script_runs.specs.Counts.{CountedWhere, DisksCountedWhere}
 use Rattle.script_runs.specs.Machine.{IsReady as MayBeAsked, IsSettled as IsSettledIn, HoldsEither as EitherHolds}
 use Rattle.xtc.specs.Durable.{HoldsCommitted, HoldsEither}
@@ -27,7 +27,7 @@ use Rattle.xtc.specs.StoreMachine.{KeptStore, HoldState, IsSettledStore, store_m
 -- a crash of a settled journal leaves what is committed
 settled_image : (k : Kept) (s : State) → Stands k s → IsSettled k → (image : List ℕ) → IsImage k.journal.history.now image → HoldsCommitted s image
 settled_image k s stands settled image is =
-    ap (λ b. opened b []) (image-all_synced k.journal.history.now.reads image (subst (λ (d : DiskState). IsImage d image) settled.synced is))
+    ap (λ b. contents_of_files b []) (image-all_synced k.journal.history.now.reads image (subst (λ (d : DiskState). IsImage d image) settled.synced is))
     ∙ settled.holds
     ∙ (λ i. Ok (record { entries = stands.committed.map i; number = stands.number i }))
 
@@ -60,7 +60,7 @@ ready_new k t n limit journal stands same usable next = record {
 pub settled_new : (k : Kept) (t : Tree) (n limit : ℕ) (journal : History) (base : Entries) → IsMapOf t base → Stands k (fresh t n limit) → k.journal.history ≡ journal → HoldsAll journal base n → IsSettled k
 settled_new k t n limit journal base is stands same holds = record {
   synced = subst (λ (h : History). h.now ≡ all_synced h.now.reads) (sym same) holds.synced;
-  holds = ap (λ (h : History). opened h.now.reads []) same ∙ holds.holds ∙ (λ i. Ok (record { entries = (is.map ∙ sym stands.committed.map) i; number = sym stands.number i }));
+  holds = ap (λ (h : History). contents_of_files h.now.reads []) same ∙ holds.holds ∙ (λ i. Ok (record { entries = (is.map ∙ sym stands.committed.map) i; number = sym stands.number i }));
 }
 
 -- the moments of a line are those of the session's answer to it

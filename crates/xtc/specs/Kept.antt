@@ -7,7 +7,7 @@ use Rattle.tree_model.specs.Tree.{Tree, map_of}
 use Rattle.tree_model.specs.ValidTrees.{IsValidTree}
 use Rattle.journal.specs.Groups.{is_next}
 use Rattle.journal.specs.Views.{JournalView}
-use Rattle.recovery.specs.Opened.{opened}
+use Rattle.recovery.specs.Opened.{contents_of_files}
 use Rattle.xtc.specs.Session.{State}
 
 -- the committed map, what the live transaction has put, what it sees, and whether one is live; the numbers are those of the state
@@ -45,7 +45,7 @@ pub record Stands (k : Kept) (s : State) : Type 0 where
 -- a crash leaves of the journal what a read gives, which stands for this map and this number
 pub record HoldsAll (journal : History) (entries : Entries) (number : ℕ) : Type 0 where
   pub synced : journal.now ≡ all_synced journal.now.reads
-  pub holds : opened journal.now.reads [] ≡ Ok (record { entries = entries; number = number })
+  pub holds : contents_of_files journal.now.reads [] ≡ Ok (record { entries = entries; number = number })
 
 -- the journal holds what is committed
 abbrev pub IsSettled : Kept → Type 0

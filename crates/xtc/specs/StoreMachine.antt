@@ -5,7 +5,7 @@ use Rattle.outside_traits.specs.DiskPairs.{pair_of}
 use Rattle.outside_traits.specs.Moments.{History}
 use Rattle.tree_model.specs.Tree.{map_of}
 use Rattle.journal.specs.Groups.{is_next}
-use Rattle.recovery.specs.Opened.{opened}
+use Rattle.recovery.specs.Opened.{contents_of_files}
 use Rattle.script_runs.specs.Machine.{Machine}
 use Rattle.xtc.specs.Book.{after_line, entry_of, entry_text}
 use Rattle.xtc.specs.Kept.{Kept, Stands, IsSettled}
@@ -24,7 +24,7 @@ pub record IsUsable (k : Kept) : Type 0 where
 
 -- two files stand for what is committed in this state
 abbrev pub HoldState : SessionState → List ℕ → List ℕ → Type 0
-HoldState s journal pages = opened journal pages ≡ Ok (record { entries = map_of s.committed; number = s.number })
+HoldState s journal pages = contents_of_files journal pages ≡ Ok (record { entries = map_of s.committed; number = s.number })
 
 -- the journal holds what is committed, and the pages are empty
 pub record IsSettledStore (session : Kept) (history : History) : Type 0 where

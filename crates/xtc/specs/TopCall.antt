@@ -54,8 +54,10 @@ IsExact (LineTooLong n) read lines done all_written = (n ≡ done + 1) × (first
 IsExact ReadFault read lines done all_written = (done ≡ length lines) × (lines ≡ ended [] read) × all_written × AllShort line_limit (lines_of read)
 IsExact status read lines done all_written = Unit {0}
 
--- A script over a store that was opened as a tree and a number. Of the lines that it was to do it did so many, none too long; the book is that of these, and of the next one where it stopped within it.
--- The sink took a prefix of the book's text; the book's commits, run one after the other by one thread, give the replies in it and the trees that the files stand for.
+-- A script over a store that was opened as a tree and a number. Of the lines that it was to do it did so many, none too long;
+-- the book is that of these, and of the next one where it stopped within it.
+-- The sink took a prefix of the book's text; the book's commits, run one after the other by one thread, give the replies in it
+-- and the trees that the files stand for.
 pub record ScriptRan (t : Tree) (n limit : ℕ) (status : Status) (opening : Pair) (o : Outcome) : Type 0 where
   pub lines : List (List ℕ)
   pub asked_for : AskedLines o.left o.read lines

@@ -1,3 +1,4 @@
+// The calls that a line can ask, over any map.
 ghost use Rattle.std.specs.Prelude.{◌≡◌, [], ◌∷◌, ◌++◌, Some, None, Err, IfOk, IfSome, OnOk, IsTrue, is_some, option_map};
 ghost use Rattle.tree_model.specs.Keys.{key_at, node_key, top_name};
 ghost use Rattle.tree_model.specs.Entries.{get, first_above, last_below, put_all};
@@ -93,7 +94,8 @@ pub fn create<S: NodeRead>(
     requires empty { out.old.items ≡ [] }
     requires element { IsTrue (is_name element.now) }
     ensures reply { OnTree (S.contents seq.old) result (λ t reply. reply ≡ (create_outcome name.now (bare_element element.now) t).0) }
-    ensures entries { OnTree (S.contents seq.old) result (λ t _. put_all out.new.items (map_of t) ≡ map_of (create_outcome name.now (bare_element element.now) t).1) }
+    ensures entries { OnTree (S.contents seq.old) result
+        (λ t _. put_all out.new.items (map_of t) ≡ map_of (create_outcome name.now (bare_element element.now) t).1) }
     ensures puts { IfOk result (λ reply. out.new.items ≡ entries_of_reply name.now element.now reply) }
     ensures unchanged { S.unchanged seq.old seq.new }
     ensures cause { HasCause SeqError.DiskFault (S.count seq.old) (S.count seq.new) result }
@@ -174,7 +176,8 @@ fn place_document(
 /// The labels of a new document behind the last one, and of its element.
 fn new_labels(alloc: Global, last: Option<&Label>) -> Result<(Label, Label), LabelError>
     requires last { IfSome last (λ l. IsTrue (is_child root l.now)) }
-    ensures ok { IfOk result (λ labels. (new_label root (option_map (λ l. l.now) last.entry) None ≡ Some labels.0) × (new_label labels.0 None None ≡ Some labels.1)) }
+    ensures ok { IfOk result (λ labels. (new_label root (option_map (λ l. l.now) last.entry) None ≡ Some labels.0)
+        × (new_label labels.0 None None ≡ Some labels.1)) }
     ensures limit { result ≡ Err LabelError.LabelLimit → IsPastLimit (new_label root (option_map (λ l. l.now) last.entry) None) }
 {
     let document = document_label(alloc, last)?;

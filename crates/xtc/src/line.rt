@@ -1,3 +1,4 @@
+// What a script line asks: blank, a request, or nothing that this program does yet.
 ghost use Rattle.std.specs.Prelude.{◌≡◌, ◌==◌, Some, IfOk, IfSome, IsTrue, option_map};
 ghost use Rattle.std.specs.List.{list_all};
 ghost use Rattle.serde_json.specs.Events.{members_len};

@@ -1,3 +1,4 @@
+// What the live transaction sees: the committed map with what it has put laid over it.
 ghost use Rattle.std.specs.Prelude.{◌≡◌, OnErr, OnOk, option_copied};
 ghost use Rattle.tree_model.specs.Entries.{Entries, Sorted, get, first_above, last_below, put, put_all};
 ghost use Rattle.node_seq.specs.Reads.{LiesAbove, LiesBelow};
@@ -85,7 +86,8 @@ impl NodeRead for OverlayView<'_> {
 
     ghost count = { λ _. 0 };
 
-    ghost unchanged = { λ v w. (v.base.now ≡ w.base.now) × (v.overlay.now ≡ w.overlay.now) × (v.base.ghost_name ≡ w.base.ghost_name) × (v.overlay.ghost_name ≡ w.overlay.ghost_name) };
+    ghost unchanged = { λ v w. (v.base.now ≡ w.base.now) × (v.overlay.now ≡ w.overlay.now)
+        × (v.base.ghost_name ≡ w.base.ghost_name) × (v.overlay.ghost_name ≡ w.overlay.ghost_name) };
 
     fn get(&mut self, alloc: Global, key: &Key) -> Result<Option<Record>, SeqError> {
         match self.record_at(key) {

@@ -1,3 +1,4 @@
+// The replies as compact JSON.
 ghost use Rattle.std.specs.Prelude.{◌≡◌, ◌++◌, false, Ok, Err, IfOk, OnOk, option_map};
 ghost use Rattle.serde_json.specs.View.{view};
 ghost use Rattle.serde_json.specs.Written.{has_float};

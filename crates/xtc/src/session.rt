@@ -1,3 +1,4 @@
+// The session over a store: it begins, does calls on what it sees, and commits to the journal.
 ghost use Rattle.std.specs.Prelude.{◌≡◌, ◌≤◌, ℕ, true, [], ◌++◌, Some, IsTrue, IfOk, OnOk, vec_capacity, Ok, Err, length, ◌+◌};
 ghost use Rattle.std.specs.List.{AllByRecursion};
 ghost use Rattle.outside_traits.specs.Moments.{LeavesOnly};
@@ -88,9 +89,20 @@ impl<J: Disk> Model for Session<J> {
 
     ghost Value = { Kept };
 
-    ghost view = { λ s. record { committed = s.committed; overlay = s.overlay; seen = put_all s.overlay s.committed; live = s.live; begun = s.begun; number = s.number; opened = s.opened; limit = s.limit; journal = s.journal } };
+    ghost view = { λ s. record {
+      committed = s.committed;
+      overlay = s.overlay;
+      seen = put_all s.overlay s.committed;
+      live = s.live;
+      begun = s.begun;
+      number = s.number;
+      opened = s.opened;
+      limit = s.limit;
+      journal = s.journal;
+    } };
 
-    ghost invariant = { λ s. (s.opened + s.begun ≤ s.limit) × (s.number + (if s.live then 1 else 0) ≤ s.opened + s.begun) × (s.live ≡ false → s.overlay ≡ []) };
+    ghost invariant = { λ s. (s.opened + s.begun ≤ s.limit) × (s.number + (if s.live then 1 else 0) ≤ s.opened + s.begun)
+        × (s.live ≡ false → s.overlay ≡ []) };
 }
 
 impl<J: Disk> Session<J> {
@@ -221,7 +233,8 @@ impl<J: Disk> Session<J> {
         Ok(())
     }
 
-    /// Takes all memory of a commit with a body of so many bytes: it answers the reply, for which `out` and the journal have room, and the committed map has what the transaction has put.
+    /// Takes all memory of a commit with a body of so many bytes: it answers the reply, for which `out` and the journal have room,
+    /// and the committed map has what the transaction has put.
     fn prepare(
         &mut self,
         alloc: Global,
@@ -232,7 +245,12 @@ impl<J: Disk> Session<J> {
         ensures reply { IfOk result (λ reply. reply.items ≡ answer_text (Ok (Number (self.old.number + 1)))) }
         ensures out { OnOk result (out.new.items ≡ out.old.items) }
         ensures room { IfOk result (λ reply. length out.new.items + length reply.items ≤ vec_capacity out.new) }
-        ensures kept { OnOk result (self.new ≡ record self.old { committed = put_all self.old.overlay self.old.committed; overlay = []; seen = put_all self.old.overlay self.old.committed; journal = self.new.journal }) }
+        ensures kept { OnOk result (self.new ≡ record self.old {
+          committed = put_all self.old.overlay self.old.committed;
+          overlay = [];
+          seen = put_all self.old.overlay self.old.committed;
+          journal = self.new.journal;
+        }) }
         ensures journal { OnOk result (self.new.journal ≡ record self.old.journal { room = self.new.journal.room }) }
         ensures fits { OnOk result (body ≤ self.new.journal.room) }
         ensures untouched { (self.new.journal.history ≡ self.old.journal.history) × (self.new.journal.faults ≡ self.old.journal.faults) }
@@ -335,7 +353,8 @@ fn first_seen(
 }
 
 fn first_over(alloc: Global, at: &Label, seen: &mut OverlayView<'_>) -> Result<Reply, NoMemory>
-    ensures reply { OnTree (Some (put_all seen.old.overlay.now seen.old.base.now)) result (λ t reply. reply ≡ first_reply at.now t) }
+    ensures reply { OnTree (Some (put_all seen.old.overlay.now seen.old.base.now)) result
+        (λ t reply. reply ≡ first_reply at.now t) }
     ensures base { seen.new.base.now ≡ seen.old.base.now }
     ensures overlay { seen.new.overlay.now ≡ seen.old.overlay.now }
     ensures same_base { seen.new.base.ghost_name ≡ seen.old.base.ghost_name }
@@ -358,7 +377,8 @@ fn create_seen(
 ) -> Result<Reply, NoMemory>
     requires { IsTrue (is_name element.now) }
     ensures reply { OnTree (Some (put_all overlay.old committed.old)) result (λ t reply. reply ≡ (create_outcome name.now (bare_element element.now) t).0) }
-    ensures seen { OnTree (Some (put_all overlay.old committed.old)) result (λ t _. put_all overlay.new committed.new ≡ map_of (create_outcome name.now (bare_element element.now) t).1) }
+    ensures seen { OnTree (Some (put_all overlay.old committed.old)) result
+        (λ t _. put_all overlay.new committed.new ≡ map_of (create_outcome name.now (bare_element element.now) t).1) }
     ensures overlay { IfOk result (λ reply. overlay.new ≡ put_all (entries_of_reply name.now element.now reply) overlay.old) }
     ensures committed { committed.new ≡ committed.old }
 {
@@ -379,7 +399,8 @@ fn created(
     requires element { IsTrue (is_name element.now) }
     requires empty { entries.old.items ≡ [] }
     ensures reply { OnTree (Some (put_all overlay.old committed.old)) result (λ t reply. reply ≡ (create_outcome name.now (bare_element element.now) t).0) }
-    ensures entries { OnTree (Some (put_all overlay.old committed.old)) result (λ t _. put_all entries.new.items (map_of t) ≡ map_of (create_outcome name.now (bare_element element.now) t).1) }
+    ensures entries { OnTree (Some (put_all overlay.old committed.old)) result
+        (λ t _. put_all entries.new.items (map_of t) ≡ map_of (create_outcome name.now (bare_element element.now) t).1) }
     ensures puts { IfOk result (λ reply. entries.new.items ≡ entries_of_reply name.now element.now reply) }
     ensures committed { committed.new ≡ committed.old }
     ensures overlay { overlay.new ≡ overlay.old }
@@ -400,8 +421,10 @@ fn create_over(
 ) -> Result<Reply, NoMemory>
     requires element { IsTrue (is_name element.now) }
     requires empty { entries.old.items ≡ [] }
-    ensures reply { OnTree (Some (put_all seen.old.overlay.now seen.old.base.now)) result (λ t reply. reply ≡ (create_outcome name.now (bare_element element.now) t).0) }
-    ensures entries { OnTree (Some (put_all seen.old.overlay.now seen.old.base.now)) result (λ t _. put_all entries.new.items (map_of t) ≡ map_of (create_outcome name.now (bare_element element.now) t).1) }
+    ensures reply { OnTree (Some (put_all seen.old.overlay.now seen.old.base.now)) result
+        (λ t reply. reply ≡ (create_outcome name.now (bare_element element.now) t).0) }
+    ensures entries { OnTree (Some (put_all seen.old.overlay.now seen.old.base.now)) result
+        (λ t _. put_all entries.new.items (map_of t) ≡ map_of (create_outcome name.now (bare_element element.now) t).1) }
     ensures puts { IfOk result (λ reply. entries.new.items ≡ entries_of_reply name.now element.now reply) }
     ensures base { seen.new.base.now ≡ seen.old.base.now }
     ensures overlay { seen.new.overlay.now ≡ seen.old.overlay.now }

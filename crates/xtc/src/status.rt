@@ -1,3 +1,4 @@
+// The statuses that the program ends with, with their numbers and texts.
 ghost use Rattle.std.specs.Prelude.{◌≡◌};
 ghost use Rattle.xtc.specs.Statuses.{status_number, status_of, status_of_end};
 

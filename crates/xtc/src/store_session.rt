@@ -1,3 +1,4 @@
+// A session over a store's two disks as a machine that does the lines of a script.
 ghost use Rattle.std.specs.Prelude.{◌≡◌};
 
 use crate::halt::Halt;

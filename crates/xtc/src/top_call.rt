@@ -1,4 +1,5 @@
-ghost use Rattle.std.specs.Prelude.{◌≡◌, ◌↔◌, ◌+◌, ℕ, List, [], ◌-◌, length, IsTrue, false, Err, IfSome};
+// The program's one call: it tests the words, opens the store, and runs the script of the source over it.
+ghost use Rattle.std.specs.Prelude.{◌≡◌, ◌↔◌, ◌+◌, ℕ, List, [], ◌-◌, length, IsTrue, false, IfSome};
 ghost use Rattle.outside_traits.specs.Bytes.{Gave};
 ghost use Rattle.outside_traits.specs.DiskPairs.{Pair, pair_of};
 ghost use Rattle.outside_traits.specs.Disks.{all_synced};
@@ -6,7 +7,7 @@ ghost use Rattle.tree_model.specs.StoredTree.{IsStoredTree};
 ghost use Rattle.tree_model.specs.Tree.{Tree};
 ghost use Rattle.node_records.specs.declared.open_error.Place.{Place};
 ghost use Rattle.journal.specs.Groups.{is_next};
-ghost use Rattle.recovery.specs.Opened.{opened};
+ghost use Rattle.recovery.specs.Openings.{FoundDamaged};
 ghost use Rattle.script_runs.specs.Counts.{CountedWhere, DisksCountedWhere, ReadCountedWhere};
 ghost use Rattle.outside_kinds.specs.Bounds.{input_limit};
 ghost use Rattle.xtc.specs.Words.{are_run};
@@ -54,17 +55,22 @@ pub fn xtc<S: Source, K: Sink, J: Disk + Send, P: Disk + Send>(
           new = pair_of (J.history result.journal) (P.history result.pages);
         })) }
     ensures whole { result.status ≡ Status.Done → IfSome (S.left source.new) (λ rest. rest ≡ []) }
-    ensures silent { IsSilent result.status ((K.held sink.new ≡ K.held sink.old) × (S.left source.new ≡ S.left source.old) × (S.given source.new ≡ S.given source.old)) }
+    ensures silent { IsSilent result.status
+        ((K.held sink.new ≡ K.held sink.old) × (S.left source.new ≡ S.left source.old) × (S.given source.new ≡ S.given source.old)) }
 
     // Damaged files are synced, and as they were.
-    ensures damaged { (place : Place) → result.status ≡ Status.Damaged place → IsTrue J.is_known → IsTrue P.is_known → (opened (J.history journal).now.reads (P.history pages).now.reads ≡ Err place)
-        × ((J.history result.journal).now ≡ all_synced (J.history journal).now.reads) × ((P.history result.pages).now ≡ all_synced (P.history pages).now.reads) }
+    ensures damaged { (place : Place) → result.status ≡ Status.Damaged place → IsTrue J.is_known → IsTrue P.is_known
+        → FoundDamaged (pair_of (J.history journal) (P.history pages)) (pair_of (J.history result.journal) (P.history result.pages)) place }
 
     // The cause of each status, and no fault that was counted at any other.
-    ensures usage { ((result.status ≡ Status.Usage) ↔ (are_run words.now.items ≡ false)) × (result.status ≡ Status.Usage → (result.journal ≡ journal) × (result.pages ≡ pages)) }
-    ensures read { ReadCountedWhere (result.status ≡ Status.ReadFault) input_limit (S.faults source.old) (S.faults source.new) (S.given source.old) (S.given source.new) }
+    ensures usage { ((result.status ≡ Status.Usage) ↔ (are_run words.now.items ≡ false))
+        × (result.status ≡ Status.Usage → (result.journal ≡ journal) × (result.pages ≡ pages)) }
+    ensures read { ReadCountedWhere (result.status ≡ Status.ReadFault) input_limit
+        (S.faults source.old) (S.faults source.new) (S.given source.old) (S.given source.new) }
     ensures write { CountedWhere (result.status ≡ Status.WriteFault) (K.faults sink.old) (K.faults sink.new) }
-    ensures disk { DisksCountedWhere (result.status ≡ Status.DiskFault) (record { journal = J.faults journal; pages = P.faults pages }) (record { journal = J.faults result.journal; pages = P.faults result.pages }) }
+    ensures disk { DisksCountedWhere (result.status ≡ Status.DiskFault)
+        (record { journal = J.faults journal; pages = P.faults pages })
+        (record { journal = J.faults result.journal; pages = P.faults result.pages }) }
 {
     if !are_run(words) {
         return Finish {
@@ -100,7 +106,8 @@ fn run_store<S: Source, K: Sink, J: Disk, P: Disk>(
     requires usable { store.journal.failed ≡ false }
     requires next { IsTrue (is_next store.journal.last (store.number + 1)) }
     ensures ran { (read : List ℕ) × Gave (S.left source.old) (S.left source.new) read × (S.given source.new ≡ S.given source.old + length read)
-        × (IsTrue J.is_known → IsTrue P.is_known → HoldsAll store.journal.history store.base store.number → (P.history store.pages).now ≡ all_synced [] → (t : Tree) → IsMapOf t store.base → (old : Pair)
+        × (IsTrue J.is_known → IsTrue P.is_known → HoldsAll store.journal.history store.base store.number → (P.history store.pages).now ≡ all_synced []
+        → (t : Tree) → IsMapOf t store.base → (old : Pair)
         → ScriptRan t store.number tx_limit result.status (pair_of store.journal.history (P.history store.pages)) (record {
           read = read;
           asked = S.asked source.new - S.given source.old;
@@ -112,9 +119,12 @@ fn run_store<S: Source, K: Sink, J: Disk, P: Disk>(
         })) }
     ensures whole { result.status ≡ Status.Done → IfSome (S.left source.new) (λ rest. rest ≡ []) }
     ensures status { IsOfRun result.status }
-    ensures read { ReadCountedWhere (result.status ≡ Status.ReadFault) input_limit (S.faults source.old) (S.faults source.new) (S.given source.old) (S.given source.new) }
+    ensures read { ReadCountedWhere (result.status ≡ Status.ReadFault) input_limit
+        (S.faults source.old) (S.faults source.new) (S.given source.old) (S.given source.new) }
     ensures write { CountedWhere (result.status ≡ Status.WriteFault) (K.faults sink.old) (K.faults sink.new) }
-    ensures disk { DisksCountedWhere (result.status ≡ Status.DiskFault) (record { journal = store.journal.faults; pages = P.faults store.pages }) (record { journal = J.faults result.journal; pages = P.faults result.pages }) }
+    ensures disk { DisksCountedWhere (result.status ≡ Status.DiskFault)
+        (record { journal = store.journal.faults; pages = P.faults store.pages })
+        (record { journal = J.faults result.journal; pages = P.faults result.pages }) }
 {
     let Opened {
         journal,

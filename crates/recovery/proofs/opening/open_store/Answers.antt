@@ -1,9 +1,12 @@
-use Rattle.std.proofs.Common.{◌∙◌, Bool, inl, sym, ap, subst}
+use Rattle.std.proofs.Common.{◌∙◌, ℕ, Bool, IsTrue, inl, sym, ap, subst}
 use Rattle.dewey_labels.specs.Lists.{is_empty}
 use Rattle.outside_traits.specs.Disks.{DiskState}
 use Rattle.outside_traits.specs.DiskPairs.{pair_of}
-use Rattle.recovery.specs.Opened.{KeepsJournal, journal_made, opened_beside}
-use Rattle.recovery.proofs.OpenedLaws.{stand_for_one, unless_of, unless_then}
+use Rattle.outside_traits.specs.Faults.{FaultCounted}
+use Rattle.outside_traits.specs.Moments.{History}
+use Rattle.recovery.specs.Opened.{KeepsJournal, journal_made, contents_beside}
+use Rattle.recovery.specs.Openings.{FoundDamaged}
+use Rattle.recovery.proofs.OpenedLaws.{damage_found, reason_then, stand_for_one, unless_of, unless_then}
 use Rattle.recovery.proofs.SyncSteps.{then_journal, still_stand}
 use Rattle.recovery.proofs.opening.open_store.Goals as goal
 
@@ -11,12 +14,24 @@ pub returns-in-Err-clause-left : goal.returns-in-Err-clause-left
 returns-in-Err-clause-left g c tj tp =
     still_stand (pair_of (g.J.Disk.history c.args.journal) (g.P.Disk.history c.args.pages)) (pair_of (g.J.Disk.history c.look.new.journal) (g.P.Disk.history c.look.new.pages)) (c.look.ensures.any_moment tj tp)
 
-pub returns-in-Ok-recover-clause-stands : goal.returns-in-Ok-recover-clause-stands
-returns-in-Ok-recover-clause-stands g c tj tp =
+pub returns-in-Ok-recover-clause-opens : goal.returns-in-Ok-recover-clause-opens
+returns-in-Ok-recover-clause-opens g c tj tp =
     let found = c.in-Ok-recover.field-0 in
-    stand_for_one found.journal.history.now.reads (g.P.Disk.history c.look.new.pages).now.reads found.gathered.base found.gathered.number
-    (ap (λ (b : Bool). opened_beside b found.journal.history.now.reads) (ap (λ (s : DiskState). is_empty s.reads) (c.in-Ok.ensures.pages_synced tp) ∙ sym (c.in-Ok.ensures.empty tp)) ∙ c.in-Ok-recover.ensures.opens_now tj)
-    c.in-Ok-recover.ensures.tree
+    let old = g.J.Disk.history c.args.journal in
+    let now = found.journal.history in
+    let empty = c.in-Ok.ensures.empty tp in
+    let stood =
+    ap (λ (b : Bool). contents_beside b old.now.reads) (sym empty)
+    ∙ ap (λ (s : DiskState). contents_beside c.in-Ok.is_empty s.reads) (sym (c.in-Ok.ensures.journal_synced tj))
+    ∙ c.in-Ok-recover.ensures.opens tj in
+    let stands =
+    ap (λ (b : Bool). contents_beside b now.now.reads) (ap (λ (s : DiskState). is_empty s.reads) (c.in-Ok.ensures.pages_synced tp) ∙ sym empty)
+    ∙ c.in-Ok-recover.ensures.opens_now tj in
+    record {
+      stood = stood;
+      stands = stands;
+      alone = stand_for_one now.now.reads (g.P.Disk.history c.look.new.pages).now.reads found.gathered.base found.gathered.number stands c.in-Ok-recover.ensures.tree;
+    }
 
 pub returns-in-Ok-recover-clause-any_moment : goal.returns-in-Ok-recover-clause-any_moment
 returns-in-Ok-recover-clause-any_moment g c tj tp =
@@ -40,8 +55,35 @@ returns-in-Err-recover-clause-left g c tj tp =
 pub returns-in-Err-clause-kept : goal.returns-in-Err-clause-kept
 returns-in-Err-clause-kept g c = unless_then _ _ c.in-Err.fault (λ synced tj. inl (ap (λ (s : DiskState). s.reads) (synced tj))) c.in-Err.ensures.journal
 
-pub returns-in-Ok-recover-clause-bytes : goal.returns-in-Ok-recover-clause-bytes
-returns-in-Ok-recover-clause-bytes g c tj = c.in-Ok-recover.ensures.bytes tj ∙ ap (λ (s : DiskState). journal_made s.reads) (c.in-Ok.ensures.journal_synced tj)
+pub returns-in-Ok-recover-clause-journal : goal.returns-in-Ok-recover-clause-journal
+returns-in-Ok-recover-clause-journal g c tj = record {
+  synced = c.in-Ok-recover.ensures.synced tj;
+  bytes = c.in-Ok-recover.ensures.bytes tj ∙ ap (λ (s : DiskState). journal_made s.reads) (c.in-Ok.ensures.journal_synced tj);
+}
+
+-- ---- why it isn't opened
+
+pub returns-in-Err-clause-reason : goal.returns-in-Err-clause-reason
+returns-in-Err-clause-reason g c =
+    let old = pair_of (g.J.Disk.history c.args.journal) (g.P.Disk.history c.args.pages) in
+    let new = pair_of (g.J.Disk.history c.look.new.journal) (g.P.Disk.history c.look.new.pages) in
+    damage_found (IsTrue g.J.Disk.is_known) (IsTrue g.P.Disk.is_known) old new _ c.in-Err.fault c.in-Err.ensures.reason c.in-Err.ensures.journal c.in-Err.ensures.pages
+
+pub returns-in-Err-recover-clause-reason : goal.returns-in-Err-recover-clause-reason
+returns-in-Err-recover-clause-reason g c =
+    let refused = c.in-Err-recover.field-0 in
+    let old = pair_of (g.J.Disk.history c.args.journal) (g.P.Disk.history c.args.pages) in
+    let new = pair_of (g.J.Disk.history refused.disk) (g.P.Disk.history c.look.new.pages) in
+    reason_then _ _ (λ place. IsTrue g.J.Disk.is_known → IsTrue g.P.Disk.is_known → FoundDamaged old new place) _ _ refused.fault c.in-Err-recover.ensures.reason c.in-Err-recover.ensures.untouched
+    (λ place is same tj tp. record {
+      broken =
+          ap (λ (b : Bool). contents_beside b old.journal.now.reads) (sym (c.in-Ok.ensures.empty tp))
+          ∙ ap (λ (s : DiskState). contents_beside c.in-Ok.is_empty s.reads) (sym (c.in-Ok.ensures.journal_synced tj))
+          ∙ is tj;
+      journal = ap (λ (t : History). t.now) (same tj) ∙ c.in-Ok.ensures.journal_synced tj;
+      pages = c.in-Ok.ensures.pages_synced tp;
+    })
+    (λ rose. inl (subst (λ (n : ℕ). FaultCounted n (g.J.Disk.faults refused.disk)) c.in-Ok.ensures.exact.0 rose))
 
 pub returns-in-Err-recover-clause-kept : goal.returns-in-Err-recover-clause-kept
 returns-in-Err-recover-clause-kept g c =

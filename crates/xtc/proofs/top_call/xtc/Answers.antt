@@ -8,7 +8,7 @@ use Rattle.script_runs.specs.Counts.{Counts, DisksCountedWhere}
 use Rattle.xtc.specs.declared.status.Status.TheVariants.{DiskFault}
 use Rattle.xtc.specs.Kept.{IsMapOf, HoldsAll}
 use Rattle.xtc.specs.TopCall.{Outcome, Leaves, tx_limit}
-use Rattle.xtc.proofs.StatusLaws.{beside_none, unopened_leaves, run_not_silent, run_leaves, run_not_damaged, disk_fault, no_fault}
+use Rattle.xtc.proofs.StatusLaws.{beside_none, unopened_leaves, run_not_silent, run_leaves, run_not_damaged, damaged_of, cause_of, no_fault}
 use Rattle.xtc.proofs.top_call.xtc.Goals as goal
 
 -- ---- the store wasn't opened
@@ -33,6 +33,9 @@ returns-in-Err-clause-leaves g c = (
       subst (λ status. Leaves tx_limit status o) (sym c.from.ensures) (unopened_leaves tx_limit o refused.fault (record { read = refl; silent = refl; any_moment = c.in-Err.ensures.any_moment kj kp; left = c.in-Err.ensures.left kj kp })),
 )
 
+pub returns-in-Err-clause-damaged : goal.returns-in-Err-clause-damaged
+returns-in-Err-clause-damaged g c = λ place is. damaged_of _ _ c.in-Err.field-0.fault place c.in-Err.ensures.reason (sym c.from.ensures ∙ is)
+
 -- ---- the script ran
 
 pub returns-in-Ok-clause-leaves : goal.returns-in-Ok-clause-leaves
@@ -48,10 +51,10 @@ returns-in-Ok-clause-leaves g c =
           let old : Pair = pair_of (g.J.Disk.history c.args.journal) (g.P.Disk.history c.args.pages) in
           let opening : Pair = pair_of store.journal.history (g.P.Disk.history store.pages) in
           let opens = c.in-Ok.ensures.opens kj kp in
-          let stand : StandFor old.journal.now.reads old.pages.now.reads t store.number = record { is_valid_tree = stored.is_valid_tree; opens = opens ∙ ap (λ es. Ok (record { entries = es; number = store.number })) (sym stored.map) } in
-          let settled : HoldsAll store.journal.history store.base store.number = record { synced = c.in-Ok.ensures.journal_synced kj; holds = beside_none _ _ _ (c.in-Ok.ensures.opens_now kj kp) } in
+          let stand : StandFor old.journal.now.reads old.pages.now.reads t store.number = record { is_valid_tree = stored.is_valid_tree; opens = opens.stood ∙ ap (λ es. Ok (record { entries = es; number = store.number })) (sym stored.map) } in
+          let settled : HoldsAll store.journal.history store.base store.number = record { synced = (c.in-Ok.ensures.journal kj).synced; holds = beside_none _ _ _ opens.stands } in
           let is : IsMapOf t store.base = record { formed = stored.is_valid_tree; map = sym stored.map } in
-          let none : opening.pages.now ≡ all_synced [] = c.in-Ok.ensures.pages_synced kp ∙ ap all_synced (pages_empty _ _ _ opens) in
+          let none : opening.pages.now ≡ all_synced [] = c.in-Ok.ensures.pages kp ∙ ap all_synced (pages_empty _ _ _ opens.stood) in
           run_leaves tx_limit c.run_store.result.status _ c.run_store.ensures.status
           (record { tree = t; number = store.number; stood = stand; opening = opening; until_open = c.in-Ok.ensures.any_moment kj kp; ran = run.3 kj kp settled none t is old }),
     )
@@ -69,7 +72,7 @@ returns-in-Err-clause-disk g c =
     let later = c.in-Err.ensures.later in
     let fault = c.in-Err.field-0.fault in
     record {
-      counted = λ is. record { one = c.in-Err.ensures.fault (disk_fault fault (sym c.from.ensures ∙ is)); journal = later.0; pages = later.1 };
+      counted = λ is. record { one = cause_of _ _ fault c.in-Err.ensures.reason (sym c.from.ensures ∙ is); journal = later.0; pages = later.1 };
       exact = λ no. let same = no_fault fault _ (λ e. no (c.from.ensures ∙ e)) c.in-Err.ensures.uncounted in λ i. record { journal = same.0 i; pages = same.1 i };
     }
 
