@@ -1,3 +1,4 @@
+// The bytes of a script put together to lines, each done by the machine as it ends.
 ghost use Rattle.std.specs.Prelude.{◌≡◌, ◌==◌, position, ◌≢◌, ℕ, ◌+◌, ◌<◌, ◌≤◌, ◌^◌, List, [], ◌∷◌, ◌++◌, length, Option, Err, OnOk, OnErr};
 ghost use Rattle.outside_traits.specs.DiskPairs.{PairsLeave};
 ghost use Rattle.script_runs.specs.Counts.{CountedWhere, DisksCountedWhere};
@@ -189,9 +190,11 @@ impl<M: LineMachine> Script<M> {
     fn do_line(&mut self, alloc: Global) -> Result<(), Halt>
         requires room { self.old.lines + 1 < 2 ^ 64 }
         requires ready { IsReady M.machine self.old.machine }
-        ensures fed { OnOk result ((held : Option (List ℕ)) (s : M.machine.State) → M.machine.stands self.old.machine s → FedFrom M.machine line_limit s self.old self.new held held (10 ∷ [])) }
+        ensures fed { OnOk result ((held : Option (List ℕ)) (s : M.machine.State) → M.machine.stands self.old.machine s
+            → FedFrom M.machine line_limit s self.old self.new held held (10 ∷ [])) }
         ensures ready { OnOk result (IsReady M.machine self.new.machine) }
-        ensures settled { OnOk result ((s : M.machine.State) → M.machine.stands self.old.machine s → IsSettled M.machine self.old.machine s → IsSettled M.machine self.new.machine (M.machine.next s self.old.unended)) }
+        ensures settled { OnOk result ((s : M.machine.State) → M.machine.stands self.old.machine s → IsSettled M.machine self.old.machine s
+            → IsSettled M.machine self.new.machine (M.machine.next s self.old.unended)) }
         ensures any_moment { (s : M.machine.State) → M.machine.stands self.old.machine s → IsSettled M.machine self.old.machine s
             → PairsLeave (HoldsEither M.machine s (M.machine.next s self.old.unended)) (M.machine.disks self.old.machine) (M.machine.disks self.new.machine) }
         ensures fixed { M.machine.fixed self.new.machine ≡ M.machine.fixed self.old.machine }

@@ -22,7 +22,8 @@ pub trait LineMachine {
         ensures state { OnOk result ((s : machine.State) → machine.stands self.old s → machine.stands self.new (machine.next s line.now)) }
         ensures text { OnOk result ((s : machine.State) → machine.stands self.old s → out.new.items ≡ out.old.items ++ machine.text s number line.now) }
         ensures ready { OnOk result (IsReady machine self.new) }
-        ensures settled { OnOk result ((s : machine.State) → machine.stands self.old s → IsSettled machine self.old s → IsSettled machine self.new (machine.next s line.now)) }
+        ensures settled { OnOk result ((s : machine.State) → machine.stands self.old s → IsSettled machine self.old s
+            → IsSettled machine self.new (machine.next s line.now)) }
 
         // A crash at any moment of it leaves what was committed before the line or what is after it.
         ensures any_moment { (s : machine.State) → machine.stands self.old s → IsSettled machine self.old s

@@ -1,3 +1,4 @@
+// The loop over a script: pieces of the source are read, their lines done, and the answers written before the next read.
 ghost use Rattle.std.specs.Prelude.{◌≡◌, ◌≢◌, ◌+◌, ◌-◌, ◌<◌, ◌≤◌, ℕ, List, [], length, OnOk, Ok, Err, IfSome, IfOk};
 ghost use Rattle.outside_kinds.specs.Bounds.{input_limit};
 ghost use Rattle.outside_traits.specs.Bytes.{Gave};
@@ -52,9 +53,11 @@ pub fn run<S: Source, K: Sink, M: LineMachine>(
     requires ready { IsReady M.machine machine }
     ensures ran { (read : List ℕ) × Gave (S.left source.old) (S.left source.new) read × (S.given source.new ≡ S.given source.old + length read)
         × ((s : M.machine.State) → M.machine.stands machine s
-        → Ran M.machine line_limit s result.end read (S.asked source.new - S.given source.old) (S.left source.new) (K.held sink.old) (K.held sink.new) machine result.machine) }
+        → Ran M.machine line_limit s result.end read (S.asked source.new - S.given source.old) (S.left source.new)
+        (K.held sink.old) (K.held sink.new) machine result.machine) }
     ensures whole { result.end ≡ End.Done → IfSome (S.left source.new) (λ rest. rest ≡ []) }
-    ensures read { ReadCountedWhere (result.end ≡ End.ReadFault) input_limit (S.faults source.old) (S.faults source.new) (S.given source.old) (S.given source.new) }
+    ensures read { ReadCountedWhere (result.end ≡ End.ReadFault) input_limit
+        (S.faults source.old) (S.faults source.new) (S.given source.old) (S.given source.new) }
     ensures write { CountedWhere (result.end ≡ End.WriteFault) (K.faults sink.old) (K.faults sink.new) }
     ensures disk { DisksCountedWhere (result.end ≡ End.Halted Halt.DiskFault) (M.machine.faults machine) (M.machine.faults result.machine) }
 {
@@ -89,9 +92,11 @@ fn run_script<S: Source, K: Sink, M: LineMachine>(
     requires some { 0 < length buffer.old }
     ensures ran { (read : List ℕ) × Gave (S.left source.old) (S.left source.new) read × (S.given source.new ≡ S.given source.old + length read)
         × ((s : M.machine.State) → M.machine.stands script.old.machine s
-        → Ran M.machine line_limit s result read (S.asked source.new - S.given source.old) (S.left source.new) (K.held sink.old) (K.held sink.new) script.old.machine script.new.machine) }
+        → Ran M.machine line_limit s result read (S.asked source.new - S.given source.old) (S.left source.new)
+        (K.held sink.old) (K.held sink.new) script.old.machine script.new.machine) }
     ensures whole { result ≡ End.Done → IfSome (S.left source.new) (λ rest. rest ≡ []) }
-    ensures read { ReadCountedWhere (result ≡ End.ReadFault) input_limit (S.faults source.old) (S.faults source.new) (S.given source.old) (S.given source.new) }
+    ensures read { ReadCountedWhere (result ≡ End.ReadFault) input_limit
+        (S.faults source.old) (S.faults source.new) (S.given source.old) (S.given source.new) }
     ensures write { CountedWhere (result ≡ End.WriteFault) (K.faults sink.old) (K.faults sink.new) }
     ensures disk { DisksCountedWhere (result ≡ End.Halted Halt.DiskFault) (M.machine.faults script.old.machine) (M.machine.faults script.new.machine) }
 {
@@ -136,12 +141,14 @@ fn take_all<S: Source, K: Sink, M: LineMachine>(
     requires some { 0 < length buffer.old }
     ensures takes { (read : List ℕ) × Gave (S.left source.old) (S.left source.new) read × (S.given source.new ≡ S.given source.old + length read)
         × ((s : M.machine.State) → M.machine.stands script.old.machine s
-        → TakesFrom M.machine line_limit s script.old script.new (K.held sink.old) (K.held sink.new) read (S.asked source.new - S.given source.old) (went result)) }
+        → TakesFrom M.machine line_limit s script.old script.new (K.held sink.old) (K.held sink.new) read
+        (S.asked source.new - S.given source.old) (went result)) }
     ensures ready { IfGoesOn (IsReady M.machine script.new.machine) (went result) }
     ensures lines { script.new.lines ≤ input_limit }
     ensures written { OnOk result ((script.new.pending ≡ []) × (length script.new.unended ≤ line_limit)) }
     ensures ended { result ≡ Ok Input.Ended → IfSome (S.left source.new) (λ rest. rest ≡ []) }
-    ensures read { ReadCountedWhere (result ≡ Ok Input.Fault) input_limit (S.faults source.old) (S.faults source.new) (S.given source.old) (S.given source.new) }
+    ensures read { ReadCountedWhere (result ≡ Ok Input.Fault) input_limit
+        (S.faults source.old) (S.faults source.new) (S.given source.old) (S.given source.new) }
     ensures write { CountedWhere (result ≡ Err Stop.WriteFault) (K.faults sink.old) (K.faults sink.new) }
     ensures disk { DisksCountedWhere (result ≡ Err (Stop.Halted Halt.DiskFault)) (M.machine.faults script.old.machine) (M.machine.faults script.new.machine) }
 {
@@ -161,15 +168,19 @@ fn take_pieces<S: Source, K: Sink, M: LineMachine>(
     requires ready { IsReady M.machine script.old.machine }
     requires room { source.old.room ≡ input_limit }
     requires some { 0 < length buffer.old }
-    ensures takes { (read : List ℕ) × Gave (S.left source.old.inner.now) (S.left source.new.inner.now) read × (S.given source.new.inner.now ≡ S.given source.old.inner.now + length read)
+    ensures takes { (read : List ℕ) × Gave (S.left source.old.inner.now) (S.left source.new.inner.now) read
+        × (S.given source.new.inner.now ≡ S.given source.old.inner.now + length read)
         × ((s : M.machine.State) → M.machine.stands script.old.machine s
-        → TakesFrom M.machine line_limit s script.old script.new (K.held sink.old) (K.held sink.new) read (S.asked source.new.inner.now - S.given source.old.inner.now) (went result)) }
+        → TakesFrom M.machine line_limit s script.old script.new (K.held sink.old) (K.held sink.new) read
+        (S.asked source.new.inner.now - S.given source.old.inner.now) (went result)) }
     ensures ready { IfGoesOn (IsReady M.machine script.new.machine) (went result) }
     ensures same_reference { source.new.inner.ghost_name ≡ source.old.inner.ghost_name }
     ensures lines { script.new.lines ≤ input_limit }
     ensures written { OnOk result ((script.new.pending ≡ []) × (length script.new.unended ≤ line_limit)) }
     ensures ended { result ≡ Ok Input.Ended → IfSome (S.left source.new.inner.now) (λ rest. rest ≡ []) }
-    ensures read { ReadCountedWhere (result ≡ Ok Input.Fault) input_limit (S.faults source.old.inner.now) (S.faults source.new.inner.now) (S.given source.old.inner.now) (S.given source.new.inner.now) }
+    ensures read { ReadCountedWhere (result ≡ Ok Input.Fault) input_limit
+        (S.faults source.old.inner.now) (S.faults source.new.inner.now)
+        (S.given source.old.inner.now) (S.given source.new.inner.now) }
     ensures write { CountedWhere (result ≡ Err Stop.WriteFault) (K.faults sink.old) (K.faults sink.new) }
     ensures disk { DisksCountedWhere (result ≡ Err (Stop.Halted Halt.DiskFault)) (M.machine.faults script.old.machine) (M.machine.faults script.new.machine) }
 {

@@ -41,7 +41,8 @@ impl LineMachine for Echo {
 
 /// Echoes a script.
 fn echo_all<S: Source, K: Sink>(alloc: Global, halts_at: u64, source: &mut S, sink: &mut K) -> End
-    ensures text { result ≡ End.Done → (read : List ℕ) × Gave (S.left source.old) (S.left source.new) read × Took (K.held sink.old) (K.held sink.new) (echoes_of read) }
+    ensures text { result ≡ End.Done → (read : List ℕ) × Gave (S.left source.old) (S.left source.new) read
+        × Took (K.held sink.old) (K.held sink.new) (echoes_of read) }
 {
     let echo = Echo {
         halts_at,
