@@ -1,0 +1,47 @@
+// A caller of `xtc` over memory, and what it knows by the clauses: a script over the two empty files of a new store.
+ghost use Rattle.std.specs.Prelude.{◌≡◌};
+ghost use Rattle.outside_kinds.specs.MemoryDisks.{history_of};
+ghost use Rattle.xtc_callers.specs.NewStores.{ScriptDone};
+
+use dewey_labels::List;
+use outside_kinds::{MemDisk, MemSink, MemSource};
+use recovery::empty_files_stand_for_the_empty_tree;
+use std::alloc::Global;
+use xtc::{Finish, Status, xtc};
+
+/// How a run in memory ended: its status, what it wrote, and the files of its store.
+#[derive(Drop)]
+pub struct MemRun {
+    pub status: Status,
+    pub sink: MemSink,
+    pub journal: MemDisk,
+    pub pages: MemDisk,
+}
+
+/// Runs a script over the two empty files of a new store, where the words are `run`.
+/// At Done one book of the script's lines has the replies that were written; its transactions are serial,
+/// and the files stand for the tree after them, as they read and as a crash leaves them.
+pub fn run_new_store(alloc: Global, words: &Vec<String>, script: List<u8>) -> MemRun
+    ensures done { result.status ≡ Status.Done
+        → ScriptDone script result.sink.held (history_of result.journal) (history_of result.pages) }
+{
+    let mut source = MemSource::new(script, List::new(alloc));
+    let mut sink = MemSink::new(alloc, List::new(alloc));
+    let no_journal = List::new(alloc);
+    let no_pages = List::new(alloc);
+    let journal = MemDisk::new(no_journal, List::new(alloc));
+    let pages = MemDisk::new(no_pages, List::new(alloc));
+    // Called for its contract: what a new store's files stand for.
+    empty_files_stand_for_the_empty_tree();
+    let Finish {
+        status,
+        journal,
+        pages,
+    } = xtc(alloc, words, &mut source, &mut sink, journal, pages);
+    MemRun {
+        status,
+        sink,
+        journal,
+        pages,
+    }
+}
