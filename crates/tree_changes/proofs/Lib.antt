@@ -1,0 +1,17 @@
+pub mod AttributeLaws
+pub mod Cases
+pub mod ChangeLists
+pub mod ContentLaws
+pub mod DataLaws
+pub mod DocumentLaws
+pub mod DocumentRows
+pub mod DomLaws
+pub mod EditedMaps
+pub mod Gaps
+pub mod InPlace
+pub mod NamedLess
+pub mod NormalTexts
+pub mod Placements
+pub mod PlacingLaws
+pub mod SplitLaws
+pub mod Stretches
