@@ -1,0 +1,9 @@
+pub mod DeletionLaws
+pub mod Directions
+pub mod Ends
+pub mod Laying
+pub mod MergeLaws
+pub mod NearestLaws
+pub mod PlaceLaws
+pub mod RebaseLaws
+pub mod SeenLaws
