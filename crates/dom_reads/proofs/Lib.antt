@@ -1,0 +1,10 @@
+pub mod AttributeWalks
+pub mod BuiltFragments
+pub mod CharacterCuts
+pub mod ChildLists
+pub mod FoundLabels
+pub mod GatheredLaws
+pub mod ReplyLaws
+pub mod StepLaws
+pub mod SubtreeEntries
+pub mod SubtreeLabels

@@ -1,0 +1,41 @@
+use Rattle.std.proofs.Common.{◌<◌, IfSome, Some, sym, subst, ◌∙◌}
+use Rattle.dewey_labels.specs.Labels.{IsLabel}
+use Rattle.dom_reads.proofs.ChildLists.{IsChildWalk, walk_begins, walk_goes_on, walk_ends, steps_behind, steps_fall, within_if}
+use Rattle.dom_reads.proofs.ReplyLaws.{later}
+use Rattle.dom_reads.proofs.navigation.child_labels.Goals as goal
+
+pub loop-next-init : goal.loop-next-init
+loop-next-init g c = record {
+  same = c.in_ok-next.ensures.unchanged;
+  counted = c.in_ok-next.ensures.cause.exact;
+  label = c.in_ok-next.ensures.label;
+  walked = λ t stands y.
+      subst (λ ls. IsChildWalk c.args.at.now t ls c.in_ok-next.next) (sym c.new-labels.ensures) (walk_begins c.args.at.now t c.in_ok-next.next stands.valid y (c.in_ok-next.ensures.found t stands));
+}
+
+pub loop-next-smaller : goal.loop-next-smaller
+loop-next-smaller g c =
+    let child = c.in-Some.child in
+    let label : IsLabel child = subst (λ o. IfSome o IsLabel) c.in-Some.is c.loop-next.invariant.label in
+    subst (λ o. steps_behind c.in_ok-next-2.next < steps_behind o) (sym c.in-Some.is)
+    (steps_fall child c.in_ok-next-2.next label.1 (within_if c.in_ok-next-2.next c.in_ok-next-2.ensures.label) c.in_ok-next-2.ensures.behind)
+
+pub loop-next-preserved : goal.loop-next-preserved
+loop-next-preserved g c =
+    let law = g.met.S.NodeRead in
+    let inv = c.loop-next.invariant in
+    let child = c.in-Some.child in
+    let next = c.in_ok-next-2.next in
+    record {
+      same = law.unchanged_onward _ _ _ inv.same c.in_ok-next-2.ensures.unchanged;
+      counted = c.in_ok-next-2.ensures.cause.exact ∙ inv.counted;
+      label = c.in_ok-next-2.ensures.label;
+      walked = λ t stands y.
+          let was : IsChildWalk c.args.at.now t c.loop-next.labels (Some child) = subst (IsChildWalk c.args.at.now t c.loop-next.labels) c.in-Some.is (inv.walked t stands y) in
+          let found = c.in_ok-next-2.ensures.found t (later _ _ t (law.unchanged_contents _ _ inv.same) stands) was.there in
+          subst (λ ls. IsChildWalk c.args.at.now t ls next) (sym c.in_ok-push.ensures.ok) (walk_goes_on c.args.at.now child t c.loop-next.labels next stands.valid was found);
+    }
+
+pub returns-clause-labels : goal.returns-clause-labels
+returns-clause-labels g c = λ t stands y.
+    walk_ends c.args.at.now t c.loop-next.labels (subst (IsChildWalk c.args.at.now t c.loop-next.labels) c.in_default.is (c.loop-next.invariant.walked t stands y))

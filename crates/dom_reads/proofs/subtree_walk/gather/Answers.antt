@@ -1,0 +1,30 @@
+use Rattle.std.proofs.Common.{◌≡◌, ◌++◌, [], ◌∷◌, Option, Some, sym, ap, subst, ◌∙◌, append_assoc}
+use Rattle.tree_model.specs.declared.key.Key.{Key}
+use Rattle.tree_model.specs.declared.record.Record.{Record}
+use Rattle.tree_model.specs.Entries.{Entries}
+use Rattle.dom_reads.specs.SubtreeWalks.{HasStepped, Stand, still_to_come}
+use Rattle.dom_reads.specs.inside.InSubtrees.{RisesTo}
+use Rattle.dom_reads.proofs.SubtreeEntries.{rises_on}
+use Rattle.dom_reads.proofs.subtree_walk.gather.Goals as goal
+
+pub loop-entry-preserved : goal.loop-entry-preserved
+loop-entry-preserved g c =
+    let law = g.met.S.NodeRead in
+    let contents = g.S.NodeRead.contents in
+    let inv = c.loop-entry.invariant in
+    let entries = c.loop-entry.entries in
+    let old : Stand = c.loop-entry.walk in
+    let new : Stand = c.step.new.self in
+    let e : Key × Record = c.in-Some.entry in
+    let known : contents c.loop-entry.seq ≡ contents c.args.seq.now = law.unchanged_contents _ _ inv.same in
+    let stepped : HasStepped (contents c.loop-entry.seq) old new (Some e) =
+    subst (λ (o : Option (Key × Record)). HasStepped (contents c.loop-entry.seq) old new o) c.in-Some.is c.in_ok-entry.ensures.stepped in
+    record {
+      same = law.unchanged_onward _ _ _ inv.same c.in_ok-entry.ensures.unchanged;
+      counted = c.in_ok-entry.ensures.cause.exact ∙ inv.counted;
+      valid = λ unknown. stepped.valid (known ∙ unknown);
+      rise = subst (λ (es : Entries). RisesTo new.next es) (sym c.in_ok-push.ensures.ok) (rises_on e new.next entries (subst (λ (o : Option (Key × Record)). RisesTo o entries) (sym stepped.entry) inv.rise) stepped.above);
+      gathered = λ es t.
+          subst (λ (v : Entries). v ++ still_to_come new es ≡ c.args.entries.now ++ still_to_come c.args.walk.now es) (sym c.in_ok-push.ensures.ok)
+          (append_assoc entries (e ∷ []) (still_to_come new es) ∙ ap (λ v. entries ++ v) (sym (stepped.rest es (known ∙ t))) ∙ inv.gathered es t);
+    }

@@ -1,0 +1,18 @@
+use Rattle.std.proofs.Common.{◌≡◌, Some, None}
+use Rattle.tree_model.specs.Entries.{Entries}
+use Rattle.node_seq.specs.Reads.{IsEntryOfTrees}
+use Rattle.node_seq.specs.WalkSteps.{steps_left}
+use Rattle.dom_reads.specs.SubtreeWalks.{still_to_come}
+use Rattle.dom_reads.specs.inside.FragmentBuilders.{add_all, making_of}
+use Rattle.dom_reads.proofs.subtrees.add_rest.Given as goal
+
+abbrev pub invariant-loop-entry : goal.invariant-loop-entry
+invariant-loop-entry g l = record {
+  same : g.S.NodeRead.unchanged l.fn.seq l.seq;
+  counted : g.S.NodeRead.count l.seq ≡ g.S.NodeRead.count l.fn.seq;
+  valid : g.S.NodeRead.contents l.fn.seq ≡ None → IsEntryOfTrees l.walk.next;
+  added : (es : Entries) → g.S.NodeRead.contents l.fn.seq ≡ Some es → add_all (still_to_come l.walk es) (making_of l.builder) ≡ add_all (still_to_come l.fn.walk es) (making_of l.fn.builder);
+}
+
+abbrev pub decreases-loop-entry : goal.decreases-loop-entry
+decreases-loop-entry g l = steps_left (g.S.NodeRead.contents l.fn.seq) l.walk.next

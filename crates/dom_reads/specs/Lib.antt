@@ -1,0 +1,5 @@
+-- words of public clauses
+pub mod Reading
+pub mod SubtreeWalks
+-- words that only private clauses use
+pub mod inside

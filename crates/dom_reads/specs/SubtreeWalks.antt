@@ -1,0 +1,50 @@
+-- The entries of a subtree, and a walk over those below its node, one after another.
+use Rattle.std.specs.Prelude.{◌≡◌, ◌<◌, Bool, cond, List, [], ◌∷◌, Option, Some, None, IfSome}
+use Rattle.std.specs.List.{cons_option}
+use Rattle.dewey_labels.specs.Labels.{Label}
+use Rattle.dewey_labels.specs.Sides.{side, is_in}
+use Rattle.tree_model.specs.declared.key.Key.{Key}
+use Rattle.tree_model.specs.declared.record.Record.{Record}
+use Rattle.tree_model.specs.Entries.{Entries}
+use Rattle.tree_model.specs.Tree.{Forest, none, node, Tree, entries_of, at}
+use Rattle.node_seq.specs.Reads.{IsEntryOfTrees, LiesAbove}
+use Rattle.node_seq.specs.WalkSteps.{from_entry, steps_left}
+
+-- ---- the subtree in the tree
+
+-- the first tree of a forest, without the trees behind it
+abbrev pub alone : Forest → Forest
+alone none = none
+alone (node l r ats ch nx) = node l r ats ch none
+
+-- the entries of the subtree of a label: the node's own, and those of all that lies under it; none where no node has the label
+abbrev pub subtree_of : Label → Tree → Entries
+subtree_of l t = entries_of (alone (at l t.documents))
+
+-- ---- a walk
+
+-- the entry lies in the subtree of the label
+abbrev pub lies_in : Label → Key × Record → Bool
+lies_in l e = is_in (side l e.0.label)
+
+-- the items from the start as long as they pass
+abbrev pub as_long : {A : Type 0} → (A → Bool) → List A → List A
+as_long q [] = []
+as_long q (x ∷ xs) = cond (q x) (x ∷ as_long q xs) []
+
+-- a walk below the node with a label, and the entry that it stands before; none at its end
+pub record Stand : Type 0 where
+  pub at : Label
+  pub next : Option (Key × Record)
+
+-- the entries that the walk is still to answer
+abbrev pub still_to_come : Stand → Entries → Entries
+still_to_come walk es = as_long (lies_in walk.at) (from_entry walk.next es)
+
+-- a walk has answered the entry that it stood before, and stands before the next one of its subtree
+pub record HasStepped (contents : Option Entries) (old new : Stand) (found : Option (Key × Record)) : Type 0 where
+  pub entry : found ≡ old.next
+  pub rest : (es : Entries) → contents ≡ Some es → still_to_come old es ≡ cons_option found (still_to_come new es)
+  pub above : IfSome found (λ e. LiesAbove e.0 new.next)
+  pub valid : contents ≡ None → IsEntryOfTrees new.next
+  pub shorter : IfSome found (λ e. steps_left contents new.next < steps_left contents old.next)
