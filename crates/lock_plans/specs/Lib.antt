@@ -1,0 +1,3 @@
+-- words of public clauses
+pub mod DomPlans
+pub mod Plans
