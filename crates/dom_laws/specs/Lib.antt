@@ -1,0 +1,2 @@
+-- What DOM calls mean to the machine of locks.
+pub mod Meaning
