@@ -1,0 +1,9 @@
+pub mod Calls
+pub mod KeyValues
+pub mod Lines
+pub mod Reasons
+pub mod Replies
+pub mod ReplyValues
+pub mod Taking
+pub mod ValidCommands
+pub mod Words
