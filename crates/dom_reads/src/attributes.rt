@@ -1,27 +1,20 @@
 //! The calls on attributes (DOM Level 3 Core, interface Element), and all attributes of a place.
-ghost use Rattle.std.specs.Prelude.{◌≡◌, [], if◌then◌else◌, unwrap_or, IfOk, Some, None};
+ghost use Rattle.std.specs.Prelude.{◌≡◌, [], if◌then◌else◌, unwrap_or, IfOk, None};
 ghost use Rattle.tree_model.specs.Attributes as attributes;
 ghost use Rattle.tree_model.specs.Names.{is_name};
 ghost use Rattle.tree_model.specs.Places.{attributes_at};
-ghost use Rattle.tree_model.specs.StoredTree.{is_element_record};
 ghost use Rattle.tree_model.specs.Tree.{beside};
 ghost use Rattle.node_seq.specs.Trees.{OnTree};
 ghost use Rattle.outside_traits.specs.Faults.{HasCause};
 ghost use Rattle.dom_reads.specs.inside.AttributeWalks.{attribute_of};
 
+use crate::kinds::is_element;
 use crate::refusals::{not_found, not_supported};
 use crate::{attribute_at, record_at};
 use dewey_labels::{Label, List, NoMemory, Text};
 use node_seq::{NodeRead, SeqError};
 use std::alloc::Global;
 use tree_model::{Key, Record, Reply, is_name};
-
-/// Whether a node's record is an element's.
-fn is_element(node: &Record) -> bool
-    ensures { result ≡ is_element_record (Some node.now) }
-{
-    matches!(node, Record::Element(_))
-}
 
 /// `getAttribute`: the value, empty where the element has no attribute with the name. Two reads at most.
 pub fn attr<S: NodeRead>(

@@ -1,11 +1,11 @@
 //! What a node is, and the calls that lead from node to node (DOM Level 3 Core, interface Node).
-ghost use Rattle.std.specs.Prelude.{◌≡◌, IfOk, IsTrue, Some};
+ghost use Rattle.std.specs.Prelude.{◌≡◌, IfOk, IsTrue};
 ghost use Rattle.tree_model.specs.Navigation as navigation;
-ghost use Rattle.tree_model.specs.StoredTree.{is_document_record};
 ghost use Rattle.tree_model.specs.Tree.{at as node_at, children_of, found};
 ghost use Rattle.node_seq.specs.Trees.{OnTree};
 ghost use Rattle.outside_traits.specs.Faults.{HasCause};
 
+use crate::kinds::is_document;
 use crate::refusals::not_found;
 use crate::{first_child, last_child, next_sibling, previous_sibling, record_at};
 use dewey_labels::{Label, List, NoMemory, Text};
@@ -36,13 +36,6 @@ fn describe(alloc: Global, node: Record) -> Result<Reply, NoMemory>
         Record::Attr(_) => return Ok(not_found()),
     };
     Ok(Reply::Node { kind, name, value })
-}
-
-/// Whether a node's record is a document's, which has no parent and no neighbours.
-fn is_document(node: &Record) -> bool
-    ensures { result ≡ is_document_record (Some node.now) }
-{
-    matches!(node, Record::Document)
 }
 
 /// `parentNode`: none for a document. One read.

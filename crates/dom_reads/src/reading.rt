@@ -14,6 +14,32 @@ use node_seq::{NodeRead, SeqError};
 use std::alloc::Global;
 use tree_model::{DomCall, Reply};
 
+/// Whether a call reads alone.
+pub fn is_reading(call: &DomCall) -> bool
+    ensures { result ≡ is_reading call.now }
+{
+    matches!(
+        call,
+        DomCall::Docs
+            | DomCall::Doc(_)
+            | DomCall::Node(_)
+            | DomCall::Parent(_)
+            | DomCall::First(_)
+            | DomCall::Last(_)
+            | DomCall::Next(_)
+            | DomCall::Prev(_)
+            | DomCall::Children(_)
+            | DomCall::Attr(..)
+            | DomCall::HasAttr(..)
+            | DomCall::Attrs(_)
+            | DomCall::TextContent(_)
+            | DomCall::Tags(..)
+            | DomCall::Dump(_)
+            | DomCall::Length(_)
+            | DomCall::Substring(..)
+    )
+}
+
 /// Answers a call that reads alone; `is_reading` says which do. A refusal is a reply.
 pub fn dom_read<S: NodeRead>(alloc: Global, call: &DomCall, seq: &mut S) -> Result<Reply, SeqError>
     requires reading { IsTrue (is_reading call.now) }

@@ -1,0 +1,19 @@
+//! The kinds of nodes, told by their records (DOM Level 3 Core, interface Node).
+ghost use Rattle.std.specs.Prelude.{◌≡◌, Some};
+ghost use Rattle.tree_model.specs.StoredTree.{is_document_record, is_element_record};
+
+use tree_model::Record;
+
+/// Whether a node's record is a document's, which has no parent and no neighbours.
+pub fn is_document(node: &Record) -> bool
+    ensures { result ≡ is_document_record (Some node.now) }
+{
+    matches!(node, Record::Document)
+}
+
+/// Whether a node's record is an element's.
+pub fn is_element(node: &Record) -> bool
+    ensures { result ≡ is_element_record (Some node.now) }
+{
+    matches!(node, Record::Element(_))
+}
