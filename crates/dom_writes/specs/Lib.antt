@@ -1,0 +1,2 @@
+-- words that only private clauses use
+pub mod inside

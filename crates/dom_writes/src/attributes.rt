@@ -1,0 +1,112 @@
+//! The calls that change an element's attributes and its name (DOM Level 3 Core, interface Element, and `renameNode`). Each makes two reads at most.
+ghost use Rattle.std.specs.Prelude.{◌≡◌, [], OnErr};
+ghost use Rattle.tree_model.specs.Attributes as attributes;
+ghost use Rattle.tree_model.specs.Changes.{differences};
+ghost use Rattle.tree_model.specs.Tree.{map_of};
+ghost use Rattle.node_seq.specs.ChangeLists.{IsChangeList};
+ghost use Rattle.node_seq.specs.Trees.{OnTree};
+ghost use Rattle.outside_traits.specs.Faults.{HasCause};
+
+use crate::refusals::{invalid_character, text_limit};
+use crate::written::{add_change, change_key, is_too_long, node_at};
+use dewey_labels::{Label, Text};
+use dom_reads::{is_element, not_found, not_supported};
+use node_seq::{NodeRead, SeqError};
+use std::alloc::Global;
+use tree_model::{Changes, Key, Record, Reply, is_name};
+
+/// `setAttribute`.
+pub fn set_attr<S: NodeRead>(
+    alloc: Global,
+    at: &Label,
+    name: &Text,
+    value: &Text,
+    seq: &mut S,
+    out: &mut Changes,
+) -> Result<Reply, SeqError>
+    requires empty { out.old ≡ [] }
+    ensures reply { OnTree (S.contents seq.old) result (λ t reply. reply ≡ (attributes.set_attr at.now name.now value.now t).0) }
+    ensures changes { OnTree (S.contents seq.old) result (λ t _. out.new ≡ differences (map_of t) (map_of (attributes.set_attr at.now name.now value.now t).1)) }
+    ensures rise { IsChangeList out.new }
+    ensures err { OnErr result (out.new ≡ out.old) }
+    ensures unchanged { S.unchanged seq.old seq.new }
+    ensures cause { HasCause SeqError.DiskFault (S.count seq.old) (S.count seq.new) result }
+{
+    let Some(found) = node_at(alloc, at, seq)? else {
+        return Ok(not_found());
+    };
+    if !is_element(&found) {
+        return Ok(not_supported());
+    }
+    if !is_name(name) {
+        return Ok(invalid_character());
+    }
+    if is_too_long(value) {
+        return Ok(text_limit());
+    }
+    let key = Key::of_attribute(alloc, at, name.as_str())?;
+    let now = Record::Attr(value.copy(alloc)?);
+    change_key(alloc, key, Some(now), seq, out)?;
+    Ok(Reply::Nothing)
+}
+
+/// `removeAttribute`: one that is missing is no fault, nor is a name that is no Name.
+pub fn remove_attr<S: NodeRead>(
+    alloc: Global,
+    at: &Label,
+    name: &Text,
+    seq: &mut S,
+    out: &mut Changes,
+) -> Result<Reply, SeqError>
+    requires empty { out.old ≡ [] }
+    ensures reply { OnTree (S.contents seq.old) result (λ t reply. reply ≡ (attributes.remove_attr at.now name.now t).0) }
+    ensures changes { OnTree (S.contents seq.old) result (λ t _. out.new ≡ differences (map_of t) (map_of (attributes.remove_attr at.now name.now t).1)) }
+    ensures rise { IsChangeList out.new }
+    ensures err { OnErr result (out.new ≡ out.old) }
+    ensures unchanged { S.unchanged seq.old seq.new }
+    ensures cause { HasCause SeqError.DiskFault (S.count seq.old) (S.count seq.new) result }
+{
+    let Some(found) = node_at(alloc, at, seq)? else {
+        return Ok(not_found());
+    };
+    if !is_element(&found) {
+        return Ok(not_supported());
+    }
+    if !is_name(name) {
+        return Ok(Reply::Nothing);
+    }
+    let key = Key::of_attribute(alloc, at, name.as_str())?;
+    change_key(alloc, key, None, seq, out)?;
+    Ok(Reply::Nothing)
+}
+
+/// `renameNode`, of an element. One read.
+pub fn rename<S: NodeRead>(
+    alloc: Global,
+    at: &Label,
+    name: &Text,
+    seq: &mut S,
+    out: &mut Changes,
+) -> Result<Reply, SeqError>
+    requires empty { out.old ≡ [] }
+    ensures reply { OnTree (S.contents seq.old) result (λ t reply. reply ≡ (attributes.rename at.now name.now t).0) }
+    ensures changes { OnTree (S.contents seq.old) result (λ t _. out.new ≡ differences (map_of t) (map_of (attributes.rename at.now name.now t).1)) }
+    ensures rise { IsChangeList out.new }
+    ensures err { OnErr result (out.new ≡ out.old) }
+    ensures unchanged { S.unchanged seq.old seq.new }
+    ensures cause { HasCause SeqError.DiskFault (S.count seq.old) (S.count seq.new) result }
+{
+    let Some(found) = node_at(alloc, at, seq)? else {
+        return Ok(not_found());
+    };
+    if !is_element(&found) {
+        return Ok(not_supported());
+    }
+    if !is_name(name) {
+        return Ok(invalid_character());
+    }
+    let key = Key::of_node(alloc, at)?;
+    let now = Record::Element(name.copy(alloc)?);
+    add_change(key, Some(found), Some(now), out)?;
+    Ok(Reply::Nothing)
+}

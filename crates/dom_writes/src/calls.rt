@@ -1,0 +1,70 @@
+//! All changing calls in one.
+ghost use Rattle.std.specs.Prelude.{◌≡◌, [], false, OnErr};
+ghost use Rattle.tree_model.specs.Changes.{differences};
+ghost use Rattle.tree_model.specs.DomCalls.{dom};
+ghost use Rattle.tree_model.specs.Fragments.{IsValid};
+ghost use Rattle.tree_model.specs.Tree.{map_of};
+ghost use Rattle.tree_changes.specs.ValidCalls.{fragment_brought};
+ghost use Rattle.node_seq.specs.ChangeLists.{IsChangeList};
+ghost use Rattle.node_seq.specs.Trees.{OnTree};
+ghost use Rattle.outside_traits.specs.Faults.{HasCause};
+ghost use Rattle.dom_reads.specs.Reading.{is_reading};
+
+use crate::attributes::{remove_attr, rename, set_attr};
+use crate::content::set_text;
+use crate::data::{append_data, delete_data, insert_data, replace_data, set_data};
+use crate::documents::create;
+use crate::drops::drop_document;
+use crate::normalization::normalize;
+use crate::placing::{append, insert};
+use crate::removals::{remove, replace};
+use crate::splits::split_text;
+use node_seq::{NodeRead, SeqError};
+use std::alloc::Global;
+use tree_model::{Changes, DomCall, Reply};
+
+/// Makes a call that may change the tree: its reply, with its changes in `out`, one for each key whose record differs after it, by rising keys.
+/// A refusal is a reply, and a refused call has no changes. What is in `out` after an error is nothing.
+pub fn dom_write<S: NodeRead>(
+    alloc: Global,
+    call: &DomCall,
+    seq: &mut S,
+    out: &mut Changes,
+) -> Result<Reply, SeqError>
+    requires empty { out.old ≡ [] }
+    requires changing { is_reading call.now ≡ false }
+    requires fragment { IsValid (fragment_brought call.now) }
+    ensures reply { OnTree (S.contents seq.old) result (λ t reply. reply ≡ (dom call.now t).0) }
+    ensures changes { OnTree (S.contents seq.old) result (λ t _. out.new ≡ differences (map_of t) (map_of (dom call.now t).1)) }
+    ensures rise { IsChangeList out.new }
+    ensures err { OnErr result (out.new ≡ out.old) }
+    ensures unchanged { S.unchanged seq.old seq.new }
+    ensures cause { HasCause SeqError.DiskFault (S.count seq.old) (S.count seq.new) result }
+{
+    match call {
+        DomCall::Create(name, fragment) => create(alloc, name, fragment.as_ref(), seq, out),
+        DomCall::Drop(name) => drop_document(alloc, name, seq, out),
+        DomCall::Append(at, fragment) => append(alloc, at, fragment, seq, out),
+        DomCall::Insert(at, before, fragment) => {
+            insert(alloc, at, before.as_ref(), fragment, seq, out)
+        }
+        DomCall::Replace(at, old, fragment) => replace(alloc, at, old, fragment, seq, out),
+        DomCall::Remove(at, old) => remove(alloc, at, old, seq, out),
+        DomCall::SetAttr(at, name, value) => set_attr(alloc, at, name, value, seq, out),
+        DomCall::RemoveAttr(at, name) => remove_attr(alloc, at, name, seq, out),
+        DomCall::Rename(at, name) => rename(alloc, at, name, seq, out),
+        DomCall::SetData(at, data) => set_data(alloc, at, data, seq, out),
+        DomCall::AppendData(at, data) => append_data(alloc, at, data, seq, out),
+        DomCall::InsertData(at, offset, data) => insert_data(alloc, at, *offset, data, seq, out),
+        DomCall::DeleteData(at, offset, count) => {
+            delete_data(alloc, at, *offset, *count, seq, out)
+        }
+        DomCall::ReplaceData(at, offset, count, data) => {
+            replace_data(alloc, at, *offset, *count, data, seq, out)
+        }
+        DomCall::SplitText(at, offset) => split_text(alloc, at, *offset, seq, out),
+        DomCall::Normalize(at) => normalize(alloc, at, seq, out),
+        DomCall::SetText(at, data) => set_text(alloc, at, data, seq, out),
+        _ => unreachable!(),
+    }
+}

@@ -1,0 +1,157 @@
+//! The calls that put a fragment below a node (DOM Level 3 Core, interface Node: `appendChild` and `insertBefore`).
+//! Each makes four reads at most, and then a put for each entry of the fragment.
+ghost use Rattle.std.specs.Prelude.{◌≡◌, [], Some, IfOk, IsTrue, OnErr, OnOk, option_map};
+ghost use Rattle.tree_model.specs.Changes.{differences};
+ghost use Rattle.tree_model.specs.Fragments.{IsValid, plain};
+ghost use Rattle.tree_model.specs.Placing as placing;
+ghost use Rattle.tree_model.specs.Tree.{map_of};
+ghost use Rattle.node_seq.specs.ChangeLists.{IsChangeList};
+ghost use Rattle.node_seq.specs.Trees.{OnTree};
+ghost use Rattle.outside_traits.specs.Faults.{HasCause};
+ghost use Rattle.dom_writes.specs.inside.NewPlaces.{SuitsOrRefused, answer, changes};
+
+use crate::grafts::{graft_changes, is_too_deep};
+use crate::places::{has_child, is_text, label_between, takes_none, within_limits};
+use crate::refusals::{hierarchy_request, too_deep};
+use dewey_labels::{Label, NoMemory};
+use dom_reads::{is_document, last_child, not_found, previous_sibling, record_at};
+use node_seq::{NodeRead, SeqError};
+use std::alloc::Global;
+use tree_model::{Changes, Fragment, Reply};
+
+/// `appendChild`: the fragment as the last child. Two reads.
+pub fn append<S: NodeRead>(
+    alloc: Global,
+    at: &Label,
+    fragment: &Fragment,
+    seq: &mut S,
+    out: &mut Changes,
+) -> Result<Reply, SeqError>
+    requires empty { out.old ≡ [] }
+    requires fragment { IsValid (plain fragment.now) }
+    ensures reply { OnTree (S.contents seq.old) result (λ t reply. reply ≡ (placing.append at.now (plain fragment.now) t).0) }
+    ensures changes { OnTree (S.contents seq.old) result (λ t _. out.new ≡ differences (map_of t) (map_of (placing.append at.now (plain fragment.now) t).1)) }
+    ensures rise { IsChangeList out.new }
+    ensures err { OnErr result (out.new ≡ out.old) }
+    ensures unchanged { S.unchanged seq.old seq.new }
+    ensures cause { HasCause SeqError.DiskFault (S.count seq.old) (S.count seq.new) result }
+{
+    let place = place_at_end(alloc, at, fragment, seq)?;
+    Ok(put_fragment(alloc, at, place, fragment, out)?)
+}
+
+/// The label behind the last child, or the refusal.
+fn place_at_end<S: NodeRead>(
+    alloc: Global,
+    at: &Label,
+    fragment: &Fragment,
+    seq: &mut S,
+) -> Result<Result<Label, Reply>, SeqError>
+    ensures place { OnTree (S.contents seq.old) result (λ t place. answer place ≡ (placing.append at.now (plain fragment.now) t).0) }
+    ensures suits { IfOk result (SuitsOrRefused at.now (plain fragment.now)) }
+    ensures unchanged { S.unchanged seq.old seq.new }
+    ensures cause { HasCause SeqError.DiskFault (S.count seq.old) (S.count seq.new) result }
+{
+    let Some(parent) = record_at(alloc, at, seq)? else {
+        return Ok(Err(not_found()));
+    };
+    if is_text(&parent) {
+        return Ok(Err(hierarchy_request()));
+    }
+    let last = last_child(alloc, at, seq)?;
+    if takes_none(&parent, fragment, &last) {
+        return Ok(Err(hierarchy_request()));
+    }
+    if is_too_deep(at, fragment) {
+        return Ok(Err(too_deep()));
+    }
+    let new = label_between(alloc, at, last, None)?;
+    Ok(within_limits(new, fragment))
+}
+
+/// Puts the fragment at its place, and answers its label; a refusal is answered as it is.
+fn put_fragment(
+    alloc: Global,
+    at: &Label,
+    place: Result<Label, Reply>,
+    fragment: &Fragment,
+    out: &mut Changes,
+) -> Result<Reply, NoMemory>
+    requires empty { out.old ≡ [] }
+    requires fragment { IsValid (plain fragment.now) }
+    requires suits { SuitsOrRefused at.now (plain fragment.now) place }
+    ensures reply { IfOk result (λ reply. reply ≡ answer place) }
+    ensures changes { OnOk result (out.new ≡ changes (plain fragment.now) place) }
+    ensures rise { IsChangeList out.new }
+    ensures err { OnErr result (out.new ≡ out.old) }
+{
+    let _divisions = at.divisions();
+    match place {
+        Ok(new) => {
+            *out = graft_changes(alloc, &new, fragment)?;
+            Ok(Reply::Place(Some(new)))
+        }
+        Err(refusal) => Ok(refusal),
+    }
+}
+
+/// `insertBefore`: the fragment before a child, or without one as the last child. Three reads.
+pub fn insert<S: NodeRead>(
+    alloc: Global,
+    at: &Label,
+    before: Option<&Label>,
+    fragment: &Fragment,
+    seq: &mut S,
+    out: &mut Changes,
+) -> Result<Reply, SeqError>
+    requires empty { out.old ≡ [] }
+    requires fragment { IsValid (plain fragment.now) }
+    ensures reply { OnTree (S.contents seq.old) result (λ t reply.
+        reply ≡ (placing.insert at.now (option_map (λ l. l.now) before.entry) (plain fragment.now) t).0) }
+    ensures changes { OnTree (S.contents seq.old) result (λ t _.
+        out.new ≡ differences (map_of t) (map_of (placing.insert at.now (option_map (λ l. l.now) before.entry) (plain fragment.now) t).1)) }
+    ensures rise { IsChangeList out.new }
+    ensures err { OnErr result (out.new ≡ out.old) }
+    ensures unchanged { S.unchanged seq.old seq.new }
+    ensures cause { HasCause SeqError.DiskFault (S.count seq.old) (S.count seq.new) result }
+{
+    let Some(child) = before else {
+        return append(alloc, at, fragment, seq, out);
+    };
+    let place = place_before(alloc, at, child, fragment, seq)?;
+    Ok(put_fragment(alloc, at, place, fragment, out)?)
+}
+
+/// The label before a child, or the refusal.
+fn place_before<S: NodeRead>(
+    alloc: Global,
+    at: &Label,
+    child: &Label,
+    fragment: &Fragment,
+    seq: &mut S,
+) -> Result<Result<Label, Reply>, SeqError>
+    ensures place { OnTree (S.contents seq.old) result (λ t place. answer place ≡ (placing.insert at.now (Some child.now) (plain fragment.now) t).0) }
+    ensures suits { IfOk result (SuitsOrRefused at.now (plain fragment.now)) }
+    ensures unchanged { S.unchanged seq.old seq.new }
+    ensures cause { HasCause SeqError.DiskFault (S.count seq.old) (S.count seq.new) result }
+{
+    let _divisions = at.divisions();
+    let Some(parent) = record_at(alloc, at, seq)? else {
+        return Ok(Err(not_found()));
+    };
+    if is_text(&parent) {
+        return Ok(Err(hierarchy_request()));
+    }
+    if !has_child(alloc, at, child, seq)? {
+        return Ok(Err(not_found()));
+    }
+    if is_document(&parent) {
+        return Ok(Err(hierarchy_request()));
+    }
+    if is_too_deep(at, fragment) {
+        return Ok(Err(too_deep()));
+    }
+    let left = previous_sibling(alloc, child, seq)?;
+    let new = label_between(alloc, at, left, Some(child.copy(alloc)?))?;
+    Ok(within_limits(new, fragment))
+}

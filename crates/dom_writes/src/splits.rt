@@ -1,0 +1,144 @@
+//! The call that splits a text (DOM Level 3 Core, interface Text).
+ghost use Rattle.std.specs.Prelude.{◌≡◌, [], ◌∷◌, ◌++◌, IfOk, IfSome, IsTrue, OnErr, OnOk, Some};
+ghost use Rattle.std.specs.Ordering.{nat_cmp};
+ghost use Rattle.std.specs.Cmp.Lexicographic.{slice_cmp};
+ghost use Rattle.std.specs.declared.cmp.Ordering.TheVariants.{Less};
+ghost use Rattle.dewey_labels.specs.Labels.{IsLabel, is_child, level, parent as parent_of};
+ghost use Rattle.dewey_labels.specs.NewLabels.{new_label};
+ghost use Rattle.tree_changes.specs.KeyChanges.{change_at};
+ghost use Rattle.tree_model.specs.Changes.{differences, put_change};
+ghost use Rattle.tree_model.specs.Keys.{node_key};
+ghost use Rattle.tree_model.specs.Texts as texts;
+ghost use Rattle.tree_model.specs.Tree.{at as node_at, found, map_of, next_of};
+ghost use Rattle.tree_model.specs.declared.record.Record.TheVariants.{Text as TextRecord};
+ghost use Rattle.node_seq.specs.ChangeLists.{IsChangeList};
+ghost use Rattle.node_seq.specs.Reads.{IsValidEntry};
+ghost use Rattle.node_seq.specs.Trees.{OnTree};
+ghost use Rattle.outside_traits.specs.Faults.{HasCause};
+
+use crate::refusals::label_limit;
+use crate::written::{add_change, is_too_long, node_at};
+use dewey_labels::{Label, LabelError, List, NoMemory, Text, child_after, child_between};
+use dom_reads::{cut, index_size, next_sibling, not_found, not_supported};
+use node_seq::{NodeRead, SeqError};
+use std::alloc::Global;
+use tree_model::{Change, Changes, Key, Record, Reply};
+
+/// `splitText`: the text keeps what stands before the offset, in characters, and a new one behind it gets the rest. Two reads.
+pub fn split_text<S: NodeRead>(
+    alloc: Global,
+    at: &Label,
+    offset: u32,
+    seq: &mut S,
+    out: &mut Changes,
+) -> Result<Reply, SeqError>
+    requires empty { out.old ≡ [] }
+    ensures reply { OnTree (S.contents seq.old) result (λ t reply. reply ≡ (texts.split_text at.now offset t).0) }
+    ensures changes { OnTree (S.contents seq.old) result (λ t _. out.new ≡ differences (map_of t) (map_of (texts.split_text at.now offset t).1)) }
+    ensures rise { IsChangeList out.new }
+    ensures err { OnErr result (out.new ≡ out.old) }
+    ensures unchanged { S.unchanged seq.old seq.new }
+    ensures cause { HasCause SeqError.DiskFault (S.count seq.old) (S.count seq.new) result }
+{
+    let Some(found) = node_at(alloc, at, seq)? else {
+        return Ok(not_found());
+    };
+    let Record::Text(data) = found else {
+        return Ok(not_supported());
+    };
+    // No tree has a text that is too long.
+    if is_too_long(&data) {
+        return Ok(not_found());
+    }
+    let Some((left, right)) = cut(data.as_str(), offset) else {
+        return Ok(index_size());
+    };
+    let before = Text::of(alloc, left)?;
+    let behind = Text::of(alloc, right)?;
+    let Some(new) = label_behind(alloc, at, seq)? else {
+        return Ok(label_limit());
+    };
+    put_parts(alloc, at, data, before, &new, behind, out)?;
+    Ok(Reply::Place(Some(new)))
+}
+
+/// The label of a new node behind a node that is there; none where it would pass a limit. One read.
+fn label_behind<S: NodeRead>(
+    alloc: Global,
+    at: &Label,
+    seq: &mut S,
+) -> Result<Option<Label>, SeqError>
+    ensures label { OnTree (S.contents seq.old) result (λ t new. IsTrue (found (node_at at.now t.documents)) → new ≡ new_label (parent_of at.now) (Some at.now) (next_of (node_at at.now t.documents))) }
+    ensures level { IfOk result (λ new. IfSome new (λ n. IsLabel n × (level n ≡ level at.now))) }
+    ensures behind { IfOk result (λ new. IfSome new (λ n. slice_cmp nat_cmp at.now n ≡ Less)) }
+    ensures unchanged { S.unchanged seq.old seq.new }
+    ensures cause { HasCause SeqError.DiskFault (S.count seq.old) (S.count seq.new) result }
+{
+    let _divisions = at.divisions();
+    let _faults = seq.faults();
+    let Some(parent) = at.parent(alloc)? else {
+        return Ok(None);
+    };
+    let next = next_sibling(alloc, at, seq)?;
+    Ok(new_label(alloc, &parent, at, next)?)
+}
+
+/// The label of a new child behind another one, and before the next, if there is one.
+fn new_label(
+    alloc: Global,
+    parent: &Label,
+    left: &Label,
+    right: Option<Label>,
+) -> Result<Option<Label>, NoMemory>
+    requires left { IsTrue (is_child parent.now left.now) }
+    requires right { IfSome right (λ r. IsTrue (is_child parent.now r)) }
+    requires order { IfSome right (λ r. slice_cmp nat_cmp left.now r ≡ Less) }
+    ensures label { IfOk result (λ new. new ≡ new_label parent.now (Some left.now) right) }
+    ensures child { IfOk result (λ new. IfSome new (λ n. IsLabel n × IsTrue (is_child parent.now n))) }
+    ensures behind { IfOk result (λ new. IfSome new (λ n. slice_cmp nat_cmp left.now n ≡ Less)) }
+{
+    let new = match right {
+        Some(right) => child_between(alloc, parent, left, &right),
+        None => child_after(alloc, parent, left),
+    };
+    match new {
+        Ok(new) => Ok(Some(new)),
+        Err(LabelError::LabelLimit) => Ok(None),
+        Err(LabelError::NoMemory) => Err(NoMemory),
+    }
+}
+
+/// Gives a text its left part, and puts a new one with the right part.
+fn put_parts(
+    alloc: Global,
+    at: &Label,
+    data: Text,
+    before: Text,
+    new: &Label,
+    behind: Text,
+    out: &mut Changes,
+) -> Result<(), NoMemory>
+    requires empty { out.old ≡ [] }
+    requires left { IsValidEntry (node_key at.now, TextRecord before) }
+    requires right { IsValidEntry (node_key new.now, TextRecord behind) }
+    requires order { slice_cmp nat_cmp at.now new.now ≡ Less }
+    ensures ok { OnOk result (out.new ≡ change_at (node_key at.now) (Some (TextRecord «data»)) (Some (TextRecord before)) ++ (put_change (node_key new.now, TextRecord behind) ∷ [])) }
+    ensures rise { IsChangeList out.new }
+    ensures err { OnErr result (out.new ≡ out.old) }
+{
+    let mut changes = List::new(alloc);
+    let key = Key::of_node(alloc, at)?;
+    add_change(
+        key,
+        Some(Record::Text(data)),
+        Some(Record::Text(before)),
+        &mut changes,
+    )?;
+    let key = Key::of_node(alloc, new)?;
+    changes.push(Change {
+        key,
+        now: Some(Record::Text(behind)),
+    })?;
+    *out = changes;
+    Ok(())
+}
