@@ -27,7 +27,7 @@ use Rattle.call_contract.proofs.Rising.{last_rises}
 use Rattle.call_contract.proofs.Deadlock.{deadlock, deadlock_closes, abort_leaves}
 
 module _ {C : Type 0} (is_valid : C → Type 0) (m : CallMeaning C) (laws : CallLaws C is_valid m) where
-  sound : (t : Tree) (n limit : ℕ) (b : Book C) → IsBookFrom is_valid m t n limit b → AllSound is_valid m (last m (start t n limit) b).tree (last m (start t n limit) b).live
+  pub sound : (t : Tree) (n limit : ℕ) (b : Book C) → IsBookFrom is_valid m t n limit b → AllSound is_valid m (last m (start t n limit) b).tree (last m (start t n limit) b).live
   sound t n limit b is = last_sound is_valid m laws (start t n limit) b is.valid_calls (start_sound is_valid m laws t n limit is.valid_tree)
 
   pub serial_book : (t : Tree) (n limit : ℕ) (b : Book C) → IsBookFrom is_valid m t n limit b → IsSerial m t n limit b

@@ -1,5 +1,6 @@
 pub mod Appends
 pub mod BookLaws
+pub mod CallChanges
 pub mod Deadlock
 pub mod Held
 pub mod HeldCalls

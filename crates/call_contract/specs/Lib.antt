@@ -6,6 +6,7 @@ pub mod Waits
 pub mod Steps
 pub mod SerialRuns
 pub mod Books
+pub mod CallChanges
 -- Words of laws about a run: what one transaction's commit leaves of another's calls, and what an abort or a deadlock leaves, and what a deadlock shows.
 pub mod Replays
 pub mod Lives

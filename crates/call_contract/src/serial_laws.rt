@@ -1,7 +1,9 @@
 //! Why the lock machine's runs are serial: laws of the definitions, for every type of calls that keeps the four laws.
 
-ghost use Rattle.std.specs.Prelude.{◌≡◌, ◌↔◌, ◌++◌, ℕ, List, Option};
+ghost use Rattle.std.specs.Prelude.{◌≡◌, ◌↔◌, ◌++◌, ◌∷◌, [], ℕ, List, Option};
+ghost use Rattle.std.specs.List.{AllByRecursion};
 ghost use Rattle.lock_resources.specs.declared.request.Request.{Request};
+ghost use Rattle.tree_model.specs.Changes.{laid};
 ghost use Rattle.tree_model.specs.Tree.{Tree};
 ghost use Rattle.tree_model.specs.ValidTrees.{IsValidTree};
 ghost use Rattle.lock_table.specs.Asks.{is_barred_by};
@@ -11,7 +13,9 @@ ghost use Rattle.wait_cycles.specs.Walks.{Rises};
 ghost use Rattle.call_contract.specs.declared.events.Event.TheVariants.{Abort};
 ghost use Rattle.call_contract.specs.declared.events.EventAnswer.{EventAnswer};
 ghost use Rattle.call_contract.specs.declared.events.Noted.{Noted};
-ghost use Rattle.call_contract.specs.States.{State, start, others};
+ghost use Rattle.call_contract.specs.Calls.{changes_of};
+ghost use Rattle.call_contract.specs.CallChanges.{changes_of_calls, LeadTo, ChangesLead, ChangesStay};
+ghost use Rattle.call_contract.specs.States.{Answered, State, start, others, view};
 ghost use Rattle.call_contract.specs.Attempts.{holders};
 ghost use Rattle.call_contract.specs.Waits.{NoCycle};
 ghost use Rattle.call_contract.specs.Steps.{step};
@@ -50,6 +54,20 @@ pub fn live_replies_stand<C: TreeCall>()
 pub fn commit_replays_others<C: TreeCall>()
     ensures replayed { (st : State C) → IsReached C.is_valid C.meaning st → CommitsReplay C.meaning st }
     ensures apart { (st : State C) → IsReached C.is_valid C.meaning st → NoCellIsShared st }
+{}
+
+/// What a transaction's calls change leads from the tree that they are made on to the tree that it sees, and one more call's changes are laid over those before.
+/// So it is of each live one on the committed tree.
+pub fn changes_lead_to_what_is_seen<C: TreeCall>()
+    ensures calls { (cs : List (Answered C)) (t : Tree) → IsValidTree t → AllByRecursion (λ a. C.is_valid a.call) cs → LeadTo (changes_of_calls C.meaning cs t) t (view C.meaning cs t) }
+    ensures one_more { (cs : List (Answered C)) (a : Answered C) (t : Tree)
+        → changes_of_calls C.meaning (cs ++ a ∷ []) t ≡ laid (changes_of C.meaning a.call (view C.meaning cs t)) (changes_of_calls C.meaning cs t) }
+    ensures live { (st : State C) → IsReached C.is_valid C.meaning st → ChangesLead C.meaning st }
+{}
+
+/// When a transaction commits, every other live one's changes are on the new tree what they were.
+pub fn commit_leaves_changes<C: TreeCall>()
+    ensures { (st : State C) → IsReached C.is_valid C.meaning st → ChangesStay C.meaning st }
 {}
 
 /// A deadlock shows the first cycle that its caller would close, there was none before, and it ends its caller's transaction alone. No state of a run has a cycle.
