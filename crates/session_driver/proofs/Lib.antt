@@ -1,0 +1,4 @@
+pub mod LegalBooks
+pub mod Runs
+pub mod Stopped
+pub mod Waiters

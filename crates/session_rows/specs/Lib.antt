@@ -1,0 +1,2 @@
+-- the worked scripts
+pub mod Scripts
