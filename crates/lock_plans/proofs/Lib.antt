@@ -1,8 +1,13 @@
 pub mod AppendOutcome
+pub mod DocumentLimits
 pub mod DocumentOutcomes
+pub mod FragmentLaws
+pub mod GapLaws
 pub mod InsertOutcome
 pub mod NodeOutcomes
 pub mod Outcomes
+pub mod PlanLaws
 pub mod RemoveOutcome
 pub mod ReplaceOutcome
 pub mod StepOutcomes
+pub mod TextLaws

@@ -1,0 +1,24 @@
+use Rattle.std.proofs.Common.{◌≡◌, Some, sym, ap, not, ◌++◌, ◌∙◌}
+use Rattle.lock_modes.specs.declared.edge_mode.EdgeMode.TheVariants.{ER}
+use Rattle.lock_resources.specs.declared.resource.Side.TheVariants.{Next}
+use Rattle.tree_model.specs.declared.dom_call.DomCall.TheVariants as call
+use Rattle.tree_model.specs.DomCalls.{dom}
+use Rattle.tree_model.specs.Tree.{at, next_of, record_of}
+use Rattle.tree_model.specs.StoredTree.{is_document_record}
+use Rattle.dom_reads.proofs.ReplyLaws.{later}
+use Rattle.lock_plans.specs.inside.PlanSteps.{reads_found}
+use Rattle.lock_plans.proofs.PlanLaws.{begun, document_is, edge_asks, grown, past, joined, found_at_end, sees, there}
+use Rattle.lock_plans.proofs.navigation.next.Goals as goal
+
+pub returns-clause-value : goal.returns-clause-value
+returns-clause-value g c = λ t stands.
+    let l = c.args.at.now in
+    let e : Some c.in-Some.found ≡ record_of (at l t.documents) = sym c.in-Some.is ∙ c.in_ok-found.ensures.found t stands in
+    let is_there = there (at l t.documents) c.in-Some.found e in
+    let other = sym (document_is (at l t.documents)) ∙ ap is_document_record (sym e) ∙ sym c.is_document.ensures ∙ c.if-is_document.false in
+    let now = later _ _ t (g.met.S.NodeRead.unchanged_contents _ _ c.see.ensures.unchanged) stands in
+    let sibling = c.in_ok-sibling.ensures.found t now is_there in
+    let asked = grown _ (grown _ (begun _ c.new-plan.ensures c.in_ok-found.ensures.asks) c.in_ok-read_edge.ensures) c.in_ok-read_found.ensures in
+    let w = sees l in
+    let r = edge_asks l Next ER in
+    past w _ (ap not is_there) (past w _ other (joined w r _ (found_at_end (w ++ r) (next_of (at l t.documents)) (dom (call.Next l) t) (asked ∙ ap (λ o. (w ++ r) ++ reads_found o) sibling))))

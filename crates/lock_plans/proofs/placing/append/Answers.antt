@@ -1,0 +1,108 @@
+use Rattle.std.proofs.Common.{◌≡◌, Some, is_some, not, refl, sym, ap, ◌++◌, ◌∙◌}
+use Rattle.lock_modes.specs.declared.edge_mode.EdgeMode.TheVariants.{ER}
+use Rattle.lock_resources.specs.declared.resource.Side.TheVariants.{First}
+use Rattle.tree_model.specs.declared.dom_call.DomCall.TheVariants as call
+use Rattle.tree_model.specs.DomCalls.{dom}
+use Rattle.tree_model.specs.Fragments.{plain}
+use Rattle.tree_model.specs.StoredTree.{is_document_record}
+use Rattle.tree_model.specs.Tree.{at, head_label, record_of}
+use Rattle.tree_model.proofs.PlaceLaws.{not_root}
+use Rattle.dom_reads.proofs.ReplyLaws.{later}
+use Rattle.dom_reads.proofs.StepLaws.{row_of}
+use Rattle.lock_plans.specs.inside.PlanSteps.{append_end, asked_by, is_text_record}
+use Rattle.lock_plans.proofs.GapLaws.{one_way, onward, other_way}
+use Rattle.lock_plans.proofs.PlanLaws.{begun, document_is, edge_asks, ended, grown, joined, not_there, past, sees, stopped, text_is, there}
+use Rattle.lock_plans.proofs.placing.append.Goals as goal
+
+pub returns-in_default-clause-append : goal.returns-in_default-clause-append
+returns-in_default-clause-append g c = λ t stands.
+    stopped _ (ap not (not_there (at c.args.at.now t.documents) (sym c.in_default.is ∙ c.in_ok-found.ensures.found t stands))) (begun _ c.new-plan.ensures c.in_ok-found.ensures.asks)
+
+pub returns-in_default-clause-insert : goal.returns-in_default-clause-insert
+returns-in_default-clause-insert g c = returns-in_default-clause-append g c
+
+pub returns-then-is_text-clause-append : goal.returns-then-is_text-clause-append
+returns-then-is_text-clause-append g c = λ t stands.
+    let l = c.args.at.now in
+    let node = at l t.documents in
+    let e : Some c.in-Some.found ≡ record_of node = sym c.in-Some.is ∙ c.in_ok-found.ensures.found t stands in
+    let is_there = there node c.in-Some.found e in
+    let w = sees l in
+    let seen = begun _ c.new-plan.ensures c.in_ok-found.ensures.asks in
+    let text = sym (text_is node) ∙ ap is_text_record (sym e) ∙ sym c.is_text.ensures ∙ c.if-is_text.true in
+    past w _ (ap not is_there) (stopped _ text seen)
+
+pub returns-then-is_text-clause-insert : goal.returns-then-is_text-clause-insert
+returns-then-is_text-clause-insert g c = returns-then-is_text-clause-append g c
+
+pub returns-then-not-is_document-clause-append : goal.returns-then-not-is_document-clause-append
+returns-then-not-is_document-clause-append g c =
+    onward _ _ c.append_last.result _ _ (λ t stands. later _ _ t (g.met.S.NodeRead.unchanged_contents _ _ c.see.ensures.unchanged) stands) (λ t whole stands h.
+    let l = c.args.at.now in
+    let node = at l t.documents in
+    let e : Some c.in-Some.found ≡ record_of node = sym c.in-Some.is ∙ c.in_ok-found.ensures.found t stands in
+    let is_there = there node c.in-Some.found e in
+    let w = sees l in
+    let seen = begun _ c.new-plan.ensures c.in_ok-found.ensures.asks in
+    let text = sym (text_is node) ∙ ap is_text_record (sym e) ∙ sym c.is_text.ensures ∙ c.if-is_text.false in
+    let document = sym (document_is node) ∙ ap is_document_record (sym e) ∙ sym c.is_document.ensures ∙ c.if-not-is_document.true in
+    let end = dom (call.Append l c.args.fragment.now) t in
+    let rest = asked_by (append_end l (plain c.args.fragment.now) t) end in
+    past w _ (ap not is_there) (past w _ text (other_way w _ rest document (h is_there end ∙ ap (λ v. v ++ rest) seen)))) c.append_last.ensures.value
+
+pub returns-then-is_text_fragment-clause-append : goal.returns-then-is_text_fragment-clause-append
+returns-then-is_text_fragment-clause-append g c = λ t stands.
+    let l = c.args.at.now in
+    let node = at l t.documents in
+    let e : Some c.in-Some.found ≡ record_of node = sym c.in-Some.is ∙ c.in_ok-found.ensures.found t stands in
+    let is_there = there node c.in-Some.found e in
+    let w = sees l in
+    let seen = begun _ c.new-plan.ensures c.in_ok-found.ensures.asks in
+    let text = sym (text_is node) ∙ ap is_text_record (sym e) ∙ sym c.is_text.ensures ∙ c.if-is_text.false in
+    let document = sym (document_is node) ∙ ap is_document_record (sym e) ∙ sym c.is_document.ensures ∙ c.if-not-is_document.false in
+    past w _ (ap not is_there) (past w _ text (one_way w _ _ document (stopped _ (sym c.is_text_fragment.ensures ∙ c.if-is_text_fragment.true) seen)))
+
+pub returns-then-is_text_fragment-clause-insert : goal.returns-then-is_text_fragment-clause-insert
+returns-then-is_text_fragment-clause-insert g c = returns-then-is_text_fragment-clause-append g c
+
+pub returns-then-is_some-clause-append : goal.returns-then-is_some-clause-append
+returns-then-is_some-clause-append g c = λ t stands.
+    let l = c.args.at.now in
+    let node = at l t.documents in
+    let e : Some c.in-Some.found ≡ record_of node = sym c.in-Some.is ∙ c.in_ok-found.ensures.found t stands in
+    let is_there = there node c.in-Some.found e in
+    let w = sees l in
+    let seen = begun _ c.new-plan.ensures c.in_ok-found.ensures.asks in
+    let text = sym (text_is node) ∙ ap is_text_record (sym e) ∙ sym c.is_text.ensures ∙ c.if-is_text.false in
+    let document = sym (document_is node) ∙ ap is_document_record (sym e) ∙ sym c.is_document.ensures ∙ c.if-not-is_document.false in
+    let now = later _ _ t (g.met.S.NodeRead.unchanged_contents _ _ c.see.ensures.unchanged) stands in
+    let child = c.in_ok-first_child.ensures.found t now ∙ ap head_label (row_of l t (not_root l t stands.valid is_there)) in
+    let taken = sym (ap is_some child) ∙ sym c.is_some.ensures ∙ c.if-is_some.true in
+    let element = sym c.is_text_fragment.ensures ∙ c.if-is_text_fragment.false in
+    let r = edge_asks l First ER in
+    let asked = grown _ seen c.in_ok-read_edge.ensures in
+    past w _ (ap not is_there) (past w _ text (one_way w _ _ document (past w _ element (joined w r _ (stopped _ taken asked)))))
+
+pub returns-then-is_some-clause-insert : goal.returns-then-is_some-clause-insert
+returns-then-is_some-clause-insert g c = returns-then-is_some-clause-append g c
+
+pub returns-clause-append : goal.returns-clause-append
+returns-clause-append g c =
+    onward _ _ c.append_last-2.result _ _ (λ t stands. later _ _ t (g.met.S.NodeRead.unchanged_contents _ _ c.first_child.ensures.unchanged) (later _ _ t (g.met.S.NodeRead.unchanged_contents _ _ c.see.ensures.unchanged) stands)) (λ t whole stands h.
+    let l = c.args.at.now in
+    let node = at l t.documents in
+    let e : Some c.in-Some.found ≡ record_of node = sym c.in-Some.is ∙ c.in_ok-found.ensures.found t stands in
+    let is_there = there node c.in-Some.found e in
+    let w = sees l in
+    let seen = begun _ c.new-plan.ensures c.in_ok-found.ensures.asks in
+    let text = sym (text_is node) ∙ ap is_text_record (sym e) ∙ sym c.is_text.ensures ∙ c.if-is_text.false in
+    let document = sym (document_is node) ∙ ap is_document_record (sym e) ∙ sym c.is_document.ensures ∙ c.if-not-is_document.false in
+    let now = later _ _ t (g.met.S.NodeRead.unchanged_contents _ _ c.see.ensures.unchanged) stands in
+    let child = c.in_ok-first_child.ensures.found t now ∙ ap head_label (row_of l t (not_root l t stands.valid is_there)) in
+    let taken = sym (ap is_some child) ∙ sym c.is_some.ensures ∙ c.if-is_some.false in
+    let element = sym c.is_text_fragment.ensures ∙ c.if-is_text_fragment.false in
+    let r = edge_asks l First ER in
+    let asked = grown _ seen c.in_ok-read_edge.ensures in
+    let end = dom (call.Append l c.args.fragment.now) t in
+    let rest = asked_by (append_end l (plain c.args.fragment.now) t) end in
+    past w _ (ap not is_there) (past w _ text (one_way w _ _ document (past w _ element (joined w r _ (past (w ++ r) _ taken (h is_there end ∙ ap (λ v. v ++ rest) asked))))))) c.append_last-2.ensures.value

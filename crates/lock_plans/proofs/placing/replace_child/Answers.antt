@@ -1,0 +1,39 @@
+use Rattle.std.proofs.Common.{◌≡◌, None, Some, IfSome, IsTrue, Option, Less, nat_cmp, refl, sym, ap, subst, ◌++◌, ◌∙◌}
+use Rattle.std.specs.Cmp.Lexicographic.{slice_cmp}
+use Rattle.dewey_labels.specs.Labels.{Label, is_child}
+use Rattle.dewey_labels.specs.NewLabels.{new_label}
+use Rattle.tree_model.specs.Fragments.{plain}
+use Rattle.tree_model.specs.Tree.{at, next_of, prev_of}
+use Rattle.dom_reads.proofs.ReplyLaws.{later}
+use Rattle.lock_plans.specs.Plans.{ends, grafted, place, take_out}
+use Rattle.lock_plans.specs.inside.PlanSteps.{takes_out}
+use Rattle.lock_plans.proofs.GapLaws.{one_then, out_taken, in_order}
+use Rattle.lock_plans.proofs.PlanLaws.{past, stopped}
+use Rattle.lock_plans.proofs.placing.replace_child.Goals as goal
+
+pub returns-then-is_too_deep-clause-value : goal.returns-then-is_too_deep-clause-value
+returns-then-is_too_deep-clause-value g c = λ t stands is_there end. stopped _ (sym c.is_too_deep.ensures ∙ c.if-is_too_deep.true) refl
+
+pub place_fragment-requires-clause-left_child : goal.place_fragment-requires-clause-left_child
+place_fragment-requires-clause-left_child g c = subst (λ p. IfSome c.in_ok-left.left (λ l. IsTrue (is_child p l))) c.requires.parent c.in_ok-left.ensures.sibling
+
+pub place_fragment-requires-clause-right_child : goal.place_fragment-requires-clause-right_child
+place_fragment-requires-clause-right_child g c = subst (λ p. IfSome c.in_ok-right.right (λ l. IsTrue (is_child p l))) c.requires.parent c.in_ok-right.ensures.sibling
+
+pub place_fragment-requires-clause-order : goal.place_fragment-requires-clause-order
+place_fragment-requires-clause-order g c = in_order c.args.old.now c.in_ok-left.left c.in_ok-right.right c.in_ok-left.ensures.ahead c.in_ok-right.ensures.behind
+
+pub returns-clause-value : goal.returns-clause-value
+returns-clause-value g c = λ t stands is_there end.
+    let p = c.args.at.now in
+    let k = c.args.old.now in
+    let f = plain c.args.fragment.now in
+    let left = c.in_ok-left.left in
+    let right = c.in_ok-right.right in
+    let now = later _ _ t (g.met.S.NodeRead.unchanged_contents _ _ c.previous_sibling.ensures.unchanged) stands in
+    let left_is : left ≡ prev_of None k t.documents = c.in_ok-left.ensures.found t stands is_there in
+    let right_is : right ≡ next_of (at k t.documents) = c.in_ok-right.ensures.found t now is_there in
+    let made = one_then c.args.plan (takes_out p k left right) (place (grafted f) (new_label p left right) t (ends end)).requests (take_out p k left right (place (grafted f) (new_label p left right) t (ends end))).requests
+    c.in_ok-take_out.ensures (c.in_ok-place_fragment.ensures t end) (out_taken p k left right (place (grafted f) (new_label p left right) t (ends end))) in
+    past c.args.plan _ (sym c.is_too_deep.ensures ∙ c.if-is_too_deep.false)
+    (made ∙ (λ i. c.args.plan ++ (take_out p k (left_is i) (right_is i) (place (grafted f) (new_label p (left_is i) (right_is i)) t (ends end))).requests))

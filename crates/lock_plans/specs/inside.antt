@@ -1,0 +1,3 @@
+-- Words of private functions and of the proof: no public clause has them.
+pub mod PlacedReplies
+pub mod PlanSteps

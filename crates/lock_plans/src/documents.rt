@@ -1,0 +1,177 @@
+//! The requests of the calls on the catalogue.
+ghost use Rattle.std.specs.Prelude.{◌≡◌, ◌++◌, ◌+◌, ◌∷◌, [], nat_lt, IfOk, IsTrue};
+ghost use Rattle.dewey_labels.specs.Labels.{root};
+ghost use Rattle.tree_model.specs.declared.dom_call.DomCall.TheVariants as call;
+ghost use Rattle.tree_model.specs.Documents.{document_at};
+ghost use Rattle.tree_model.specs.Fragments.{depth, is_text_fragment as is_text_at_top, plain_or_none};
+ghost use Rattle.tree_model.specs.Graft.{all_within};
+ghost use Rattle.tree_model.specs.Limits.{deepest_level};
+ghost use Rattle.tree_model.specs.Outcomes.{Outcome};
+ghost use Rattle.tree_model.specs.Tree.{Tree, beside};
+ghost use Rattle.node_seq.specs.Trees.{OnTree};
+ghost use Rattle.outside_traits.specs.Faults.{HasCause};
+ghost use Rattle.lock_plans.specs.DomPlans.{requests};
+ghost use Rattle.lock_plans.specs.inside.PlacedReplies.{placed_label};
+ghost use Rattle.lock_plans.specs.inside.PlanSteps.{asked_by, create_end};
+
+use crate::fragment_limits::{is_deeper, is_text_fragment, keeps_limits};
+use crate::gaps::new_label;
+use crate::placing::take_out_child;
+use crate::plan::Plan;
+use dewey_labels::{Label, NoMemory, Text};
+use dom_reads::{doc as document_call, last_child};
+use node_seq::{NodeRead, SeqError};
+use std::alloc::Global;
+use tree_model::{DEEPEST_LEVEL, Fragment, Reply, is_name};
+
+/// The requests of `docs`. It reads nothing.
+pub fn docs(alloc: Global) -> Result<Plan, NoMemory>
+    ensures { IfOk result (λ plan. (t : Tree) → plan ≡ requests call.Docs t) }
+{
+    let mut plan = Plan::new(alloc);
+    let root = Label::root(alloc)?;
+    plan.read_attributes(alloc, &root)?;
+    Ok(plan)
+}
+
+/// The requests of `doc`. It reads nothing.
+pub fn doc(alloc: Global, name: &Text) -> Result<Plan, NoMemory>
+    ensures { IfOk result (λ plan. (t : Tree) → plan ≡ requests (call.Doc name.now) t) }
+{
+    let mut plan = Plan::new(alloc);
+    let root = Label::root(alloc)?;
+    plan.read_attribute(alloc, &root, name)?;
+    Ok(plan)
+}
+
+/// The label of the document with a name, if there is one.
+fn document_named<S: NodeRead>(
+    alloc: Global,
+    name: &Text,
+    seq: &mut S,
+) -> Result<Option<Label>, SeqError>
+    ensures found { OnTree (S.contents seq.old) result (λ t found. found ≡ beside name.now t.catalogue) }
+    ensures unchanged { S.unchanged seq.old seq.new }
+    ensures cause { HasCause SeqError.DiskFault (S.count seq.old) (S.count seq.new) result }
+{
+    let reply = document_call(alloc, name, seq)?;
+    Ok(placed_label(reply))
+}
+
+/// The label of a reply that is a place.
+fn placed_label(reply: Reply) -> Option<Label>
+    ensures { result ≡ placed_label reply }
+{
+    match reply {
+        Reply::Place(label) => label,
+        _ => None,
+    }
+}
+
+/// The requests of `drop`. Three reads, whatever the document holds.
+pub fn drop_document<S: NodeRead>(alloc: Global, name: &Text, seq: &mut S) -> Result<Plan, SeqError>
+    ensures value { OnTree (S.contents seq.old) result (λ t plan. plan ≡ requests (call.Drop name.now) t) }
+    ensures unchanged { S.unchanged seq.old seq.new }
+    ensures cause { HasCause SeqError.DiskFault (S.count seq.old) (S.count seq.new) result }
+{
+    let mut plan = Plan::new(alloc);
+    let root = Label::root(alloc)?;
+    plan.read_attribute(alloc, &root, name)?;
+    let Some(document) = document_named(alloc, name, seq)? else {
+        return Ok(plan);
+    };
+    plan.take_attribute(alloc, &root, name)?;
+    take_out_child(alloc, &root, &document, seq, plan)
+}
+
+/// The requests of `create`. Two reads.
+pub fn create<S: NodeRead>(
+    alloc: Global,
+    name: &Text,
+    fragment: &Option<Fragment>,
+    seq: &mut S,
+) -> Result<Plan, SeqError>
+    ensures value { OnTree (S.contents seq.old) result (λ t plan. plan ≡ requests (call.Create name.now fragment.now) t) }
+    ensures unchanged { S.unchanged seq.old seq.new }
+    ensures cause { HasCause SeqError.DiskFault (S.count seq.old) (S.count seq.new) result }
+{
+    let mut plan = Plan::new(alloc);
+    if !is_name(name) {
+        return Ok(plan);
+    }
+    if is_text_alone(fragment) {
+        return Ok(plan);
+    }
+    let root = Label::root(alloc)?;
+    plan.read_attribute(alloc, &root, name)?;
+    if document_named(alloc, name, seq)?.is_some() {
+        return Ok(plan);
+    }
+    if is_too_deep_alone(fragment) {
+        return Ok(plan);
+    }
+    plan.take_attribute(alloc, &root, name)?;
+    place_document(alloc, fragment, seq, plan)
+}
+
+/// The last requests of `create`: a new document behind the last one.
+fn place_document<S: NodeRead>(
+    alloc: Global,
+    fragment: &Option<Fragment>,
+    seq: &mut S,
+    mut plan: Plan,
+) -> Result<Plan, SeqError>
+    ensures value { OnTree (S.contents seq.old) result (λ t whole. (end : Outcome) → whole ≡ plan ++ asked_by (create_end (plain_or_none fragment.now) t) end) }
+    ensures unchanged { S.unchanged seq.old seq.new }
+    ensures cause { HasCause SeqError.DiskFault (S.count seq.old) (S.count seq.new) result }
+{
+    let root = Label::root(alloc)?;
+    let last = last_child(alloc, &root, seq)?;
+    plan.take_end(alloc, &root, &last)?;
+    let Some(new) = new_label(alloc, &root, &last, &None)? else {
+        return Ok(plan);
+    };
+    if !document_keeps_limits(alloc, &new, fragment)? {
+        return Ok(plan);
+    }
+    plan.take_tree(alloc, &new)?;
+    Ok(plan)
+}
+
+/// Whether a document at a label has no label that passes a limit.
+fn document_keeps_limits(
+    alloc: Global,
+    at: &Label,
+    fragment: &Option<Fragment>,
+) -> Result<bool, NoMemory>
+    ensures { IfOk result (λ keeps. keeps ≡ all_within (document_at at.now (plain_or_none fragment.now))) }
+{
+    let _divisions = at.divisions();
+    let Some(fragment) = fragment else {
+        return Ok(true);
+    };
+    let Some(element) = new_label(alloc, at, &None, &None)? else {
+        return Ok(false);
+    };
+    Ok(keeps_limits(&element, fragment))
+}
+
+/// Whether a document would be a text.
+fn is_text_alone(fragment: &Option<Fragment>) -> bool
+    ensures { result ≡ is_text_at_top (plain_or_none fragment.now) }
+{
+    match fragment {
+        Some(fragment) => is_text_fragment(fragment),
+        None => false,
+    }
+}
+
+/// Whether a document would have a node that lies too deep.
+fn is_too_deep_alone(fragment: &Option<Fragment>) -> bool
+    ensures { result ≡ nat_lt deepest_level (1 + depth (plain_or_none fragment.now)) }
+{
+    match fragment {
+        Some(fragment) => is_deeper(fragment, DEEPEST_LEVEL - 1),
+        None => false,
+    }
+}
