@@ -1,0 +1,3 @@
+pub mod Fragments
+pub mod Reading
+pub mod ValidParts

@@ -1,0 +1,56 @@
+-- Calls that read alone leave the tree, and have no changes.
+use Rattle.std.specs.Prelude.{Result, Ok, Err, IfOk}
+use Rattle.std.proofs.Common.{◌≡◌, [], ap, refl, sym, ◌∙◌, true, true≢false}
+use Rattle.tree_model.specs.declared.dom_call.DomCall.{DomCall}
+use Rattle.tree_model.specs.declared.dom_call.DomCall.TheVariants as call
+use Rattle.tree_model.specs.DomCalls.{dom}
+use Rattle.tree_model.specs.Changes.{differences}
+use Rattle.tree_model.specs.Tree.{Tree, map_of}
+use Rattle.tree_model.specs.ValidTrees.{IsValidTree}
+use Rattle.tree_model.proofs.WholeTree.{map_sorted}
+use Rattle.tree_changes.proofs.ChangeLists.{no_differences}
+use Rattle.dom_reads.specs.Reading.{is_reading}
+
+pub reading_leaves : (c : DomCall) (t : Tree) → is_reading c ≡ true → (dom c t).1 ≡ t
+reading_leaves call.Docs t reads = refl
+reading_leaves (call.Doc n) t reads = refl
+reading_leaves (call.Node l) t reads = refl
+reading_leaves (call.Parent l) t reads = refl
+reading_leaves (call.First l) t reads = refl
+reading_leaves (call.Last l) t reads = refl
+reading_leaves (call.Next l) t reads = refl
+reading_leaves (call.Prev l) t reads = refl
+reading_leaves (call.Children l) t reads = refl
+reading_leaves (call.Attr l n) t reads = refl
+reading_leaves (call.HasAttr l n) t reads = refl
+reading_leaves (call.Attrs l) t reads = refl
+reading_leaves (call.TextContent l) t reads = refl
+reading_leaves (call.Tags l n) t reads = refl
+reading_leaves (call.Dump l) t reads = refl
+reading_leaves (call.Length l) t reads = refl
+reading_leaves (call.Substring l offset count) t reads = refl
+reading_leaves (call.Create n f) t reads = absurd (true≢false (sym reads))
+reading_leaves (call.Drop n) t reads = absurd (true≢false (sym reads))
+reading_leaves (call.Append p f) t reads = absurd (true≢false (sym reads))
+reading_leaves (call.Insert p c f) t reads = absurd (true≢false (sym reads))
+reading_leaves (call.Replace p old f) t reads = absurd (true≢false (sym reads))
+reading_leaves (call.Remove p old) t reads = absurd (true≢false (sym reads))
+reading_leaves (call.SetAttr l n v) t reads = absurd (true≢false (sym reads))
+reading_leaves (call.RemoveAttr l n) t reads = absurd (true≢false (sym reads))
+reading_leaves (call.Rename l n) t reads = absurd (true≢false (sym reads))
+reading_leaves (call.SetData l d) t reads = absurd (true≢false (sym reads))
+reading_leaves (call.AppendData l d) t reads = absurd (true≢false (sym reads))
+reading_leaves (call.InsertData l offset d) t reads = absurd (true≢false (sym reads))
+reading_leaves (call.DeleteData l offset count) t reads = absurd (true≢false (sym reads))
+reading_leaves (call.ReplaceData l offset count d) t reads = absurd (true≢false (sym reads))
+reading_leaves (call.SplitText l offset) t reads = absurd (true≢false (sym reads))
+reading_leaves (call.Normalize l) t reads = absurd (true≢false (sym reads))
+reading_leaves (call.SetText l d) t reads = absurd (true≢false (sym reads))
+
+pub reading_changes_nothing : (c : DomCall) (t : Tree) → IsValidTree t → is_reading c ≡ true → differences (map_of t) (map_of (dom c t).1) ≡ []
+reading_changes_nothing c t w reads = ap (λ u. differences (map_of t) (map_of u)) (reading_leaves c t reads) ∙ no_differences (map_of t) (map_sorted t w)
+
+-- what holds of every answer holds of an answer that came
+pub of_every_answer : {A E : Type 0} (r : Result A E) (P : A → Type 0) → ((x : A) → P x) → IfOk r P
+of_every_answer (Ok x) P all = all x
+of_every_answer (Err e) P all = tt

@@ -1,0 +1,2 @@
+-- what a call on the store's tree is
+pub mod StoreCalls

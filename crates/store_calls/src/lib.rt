@@ -1,0 +1,8 @@
+//! The calls on the store's tree as the lock machine takes them: each with its requests, its reply and its changes, over any map that stands for the tree.
+//! DOM calls keep the laws of calls, so every legal book of them is serial.
+#![tactic(auto)]
+
+mod parts;
+mod store_op;
+
+pub use store_op::StoreOp;
