@@ -1,0 +1,134 @@
+//! A line's call, made on the map.
+use crate::counted_seq::CountedSeq;
+use crate::most_reads::most_reads;
+use call_contract::TreeCall;
+use command_lines::{
+    BadLine, Command, LineAnswer, LineReply, StoreCall, What, read_line, write_reply,
+};
+use dewey_labels::List;
+use lock_resources::Request;
+use node_seq::SeqError;
+use std::alloc::Global;
+use store_calls::StoreOp;
+use tree_model::{Changes, Reply};
+
+/// The most requests that are shown one by one.
+const MOST_SHOWN: usize = 40;
+
+/// The text of what a line's call is answered, with its changes and requests. The changes are made in the map.
+pub fn do_line(alloc: Global, line: &str, map: &mut CountedSeq) -> Result<String, SeqError> {
+    match read_line(alloc, line.as_bytes()) {
+        Ok(
+            Some(
+                Command {
+                    session,
+                    what: What::Call(call),
+                },
+            ),
+        ) => try_call(alloc, session, &StoreOp::new(call), map),
+        Ok(_) => Ok(String::from_str(alloc, "no call")?),
+        Err(BadLine::Why(why)) => Ok(String::from_str(alloc, why.as_str())?),
+        Err(BadLine::NoMemory) => Err(SeqError::NoMemory),
+    }
+}
+
+/// Makes a call, first for its requests, then with a fault at each read, and then with none.
+fn try_call(
+    alloc: Global,
+    session: u32,
+    op: &StoreOp,
+    map: &mut CountedSeq,
+) -> Result<String, SeqError> {
+    let mut requests = List::new(alloc);
+    map.count_anew(0);
+    op.requests(alloc, map, &mut requests)?;
+    let plan_reads = map.reads();
+    let mut changes = List::new(alloc);
+    map.count_anew(0);
+    let reply = op.apply(alloc, map, &mut changes)?;
+    let StoreCall::Dom(call) = op.call();
+    let most = most_reads(call, map.entries(), &reply);
+    let call_reads = map.reads();
+    let mut text = reply_text(alloc, session, reply)?;
+    text.push_str(&format!(in alloc; "\n  {} changes; ", changes.len())?)?;
+    push_requests(alloc, &requests, &mut text)?;
+    if call_reads > most || plan_reads > most {
+        text.push_str(&format!(in alloc; "\n  {call_reads} and {plan_reads} reads")?)?;
+    }
+    if !fails_at_each(alloc, op, map, plan_reads, call_reads)? {
+        text.push_str("\n  a fault was passed over")?;
+    }
+    map.count_anew(0);
+    map.change(alloc, changes)?;
+    Ok(text)
+}
+
+/// The line of a reply, without its end.
+fn reply_text(alloc: Global, session: u32, reply: Reply) -> Result<String, SeqError> {
+    let said = LineReply::Said {
+        session,
+        woke: false,
+        answer: LineAnswer::Reply(reply),
+    };
+    let mut out = List::new(alloc);
+    write_reply(alloc, &said, &mut out)?;
+    out.pop();
+    text_of(alloc, out.as_slice())
+}
+
+fn text_of(alloc: Global, bytes: &[u8]) -> Result<String, SeqError> {
+    match str::from_utf8(bytes) {
+        Ok(text) => Ok(String::from_str(alloc, text)?),
+        Err(_) => Ok(String::from_str(alloc, "no text")?),
+    }
+}
+
+/// Adds the requests, each with its mode before its resource, or their number where they are many.
+fn push_requests(
+    alloc: Global,
+    requests: &List<Request>,
+    text: &mut String,
+) -> Result<(), SeqError> {
+    if requests.is_empty() || requests.len() > MOST_SHOWN {
+        return Ok(text.push_str(&format!(in alloc; "{} requests", requests.len())?)?);
+    }
+    let mut between = "";
+    for request in requests.as_slice() {
+        text.push_str(between)?;
+        text.push_str(request.ask.name())?;
+        text.push_str(" ")?;
+        let mut out = List::new(alloc);
+        request.resource.write_text(alloc, &mut out)?;
+        text.push_str(&text_of(alloc, out.as_slice())?)?;
+        between = ", ";
+    }
+    Ok(())
+}
+
+/// Whether a call ends with a fault, and without changes, where one of its reads fails, whichever it is.
+fn fails_at_each(
+    alloc: Global,
+    op: &StoreOp,
+    map: &mut CountedSeq,
+    plan_reads: u64,
+    call_reads: u64,
+) -> Result<bool, SeqError> {
+    for read in 1..=plan_reads {
+        map.count_anew(read);
+        let mut requests = List::new(alloc);
+        if op.requests(alloc, map, &mut requests) != Err(SeqError::DiskFault)
+            || !requests.is_empty()
+        {
+            return Ok(false);
+        }
+    }
+    for read in 1..=call_reads {
+        map.count_anew(read);
+        let mut changes: Changes = List::new(alloc);
+        match op.apply(alloc, map, &mut changes) {
+            Err(SeqError::DiskFault) if changes.is_empty() => (),
+            _ => return Ok(false),
+        }
+    }
+    Ok(true)
+}
