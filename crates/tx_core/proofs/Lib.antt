@@ -1,0 +1,10 @@
+pub mod Attempted
+pub mod Cycles
+pub mod Granted
+pub mod Holders
+pub mod Holding
+pub mod Kept
+pub mod Moves
+pub mod Reached
+pub mod Seats
+pub mod Waited

@@ -1,0 +1,23 @@
+use Rattle.std.proofs.Common.{sym, ◌∙◌}
+use Rattle.call_contract.specs.States.{view}
+use Rattle.tx_core.proofs.Moves.{is_live}
+use Rattle.tx_core.proofs.Reached.{sees, ready}
+use Rattle.tx_core.proofs.attempts.requests_of.Goals as goal
+
+pub returns-in-Ok-clause-value : goal.returns-in-Ok-clause-value
+returns-in-Ok-clause-value g c =
+    let v = g.C.TreeCall.is_valid in
+    let m = g.C.TreeCall.meaning in
+    let told = g.B.NodeRead.contents in
+    let p = c.args.parts.now in
+    let s = c.args.session in
+    let seat = c.in-Some.seat.now in
+    let there = sym c.in-Some.ensures in
+    λ st stands.
+    let live = is_live v m told p st s seat stands there in
+    record {
+      live = live.0;
+      found = live.1;
+      ready = ready v m told p st s seat live.0 stands there live.1 (sym c.is_some.ensures ∙ c.if-is_some.false);
+      are = c.in-Ok.ensures.value (view m live.0.calls st.tree) (sees v m told g.met.C.TreeCall.laws p st s seat live.0 stands there live.1);
+    }

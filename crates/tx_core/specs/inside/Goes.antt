@@ -1,0 +1,185 @@
+-- How a call of the core moves its state.
+use Rattle.std.specs.Prelude.{◌≡◌, ◌⊎◌, ◌↔◌, ℕ, ◌+◌, true, cond, ◌||◌, nat_lt, ◌==◌, List, [], ◌∷◌, ◌++◌, take, length, get_or, ◌<◌, nat_le, Option, Some, None, is_some}
+use Rattle.tree_model.specs.Tree.{map_of}
+use Rattle.tree_model.specs.Entries.{Entries, changed}
+use Rattle.tree_model.specs.Changes.{differences}
+use Rattle.tree_model.specs.declared.reply.Reply.{Reply}
+use Rattle.lock_resources.specs.declared.request.Request.{Request}
+use Rattle.call_contract.specs.Calls.{CallMeaning, changes_of}
+use Rattle.call_contract.specs.States.{Live, State, view, of_session, put, others, without, sessions, ended}
+use Rattle.call_contract.specs.Attempts.{holders, free, barred, asked}
+use Rattle.call_contract.specs.Waits.{cycle_through}
+use Rattle.call_contract.specs.Steps.{step}
+use Rattle.call_contract.specs.Books.{next, IsAnswer, HasValidCall, IsAbove, latest, fault_in, entry}
+use Rattle.call_contract.specs.declared.events.Noted.{Noted}
+use Rattle.call_contract.specs.declared.events.Event.TheVariants as event
+use Rattle.call_contract.specs.declared.events.EventAnswer.TheVariants as said
+use Rattle.call_contract.specs.declared.events.Answer.{Answer}
+use Rattle.call_contract.specs.declared.events.Answer.TheVariants as answer
+use Rattle.tx_core.specs.declared.parts.Parts.{Parts}
+use Rattle.tx_core.specs.declared.asking.Outcome.{Outcome}
+use Rattle.tx_core.specs.declared.asking.Got.{Got}
+use Rattle.tx_core.specs.declared.asking.Got.TheVariants.{All, Barred, NoMemory}
+use Rattle.tx_core.specs.declared.errors.SessionError.{SessionError}
+use Rattle.tx_core.specs.declared.errors.SessionError.TheVariants as error
+use Rattle.tx_core.specs.inside.Standing.{Stands}
+
+-- ---- refusals, in their order
+
+-- why a begin is refused
+abbrev pub begin_refused : {C : Type 0} → State C → Option (Live C) → Option SessionError
+begin_refused st (Some t) = Some (cond (is_some t.waits) error.IsWaiting error.InTransaction)
+begin_refused st None = cond (st.opening + st.begun == st.limit) (Some error.TxLimit) None
+
+-- why an abort is refused
+abbrev pub abort_refused : {C : Type 0} → Option (Live C) → Option SessionError
+abort_refused None = Some error.NoTransaction
+abort_refused (Some t) = None
+
+-- why an attempt is refused
+abbrev pub attempt_refused : {C : Type 0} → Option (Live C) → Option SessionError
+attempt_refused None = Some error.NoTransaction
+attempt_refused (Some t) = cond (is_some t.waits) (Some error.IsWaiting) None
+
+-- ---- entries
+
+-- an attempt that was answered
+abbrev pub call_entry : {C : Type 0} → ℕ → C → Answer → Noted C
+call_entry s c a = entry s (event.Call c) (said.Call a)
+
+-- an attempt that failed after k grants
+abbrev pub fail_entry : {C : Type 0} → ℕ → C → ℕ → Option ℕ → Noted C
+fail_entry s c k f = entry s (event.Fail (Some c) k f) said.Nothing
+
+-- what a wait shows
+abbrev pub shown_wait : Request → List ℕ → Answer
+shown_wait g hs = answer.Waits g.resource g.ask hs
+
+-- ---- states on the way through an attempt
+
+-- a transaction with more grants
+abbrev pub with_grants : {C : Type 0} → State C → Live C → List Request → State C
+with_grants st t got = record st { live = put (record t { grants = t.grants ++ got }) st.live }
+
+-- a transaction with one more answered call
+abbrev pub with_answer : {C : Type 0} → State C → Live C → C → Reply → State C
+with_answer st t c r = record st { live = put (record t { calls = t.calls ++ record { call = c; reply = r } ∷ []; waits = None }) st.live }
+
+-- a transaction that waits with a call for a request
+abbrev pub with_wait : {C : Type 0} → State C → Live C → C → Request → State C
+with_wait st t c g = record st { live = put (record t { waits = Some (record { call = c; request = g }) }) st.live }
+
+-- a session that doesn't wait
+abbrev pub unqueued : {C : Type 0} → State C → ℕ → State C
+unqueued st s = record st { waiting = without s st.waiting }
+
+module _ {C B : Type 0} (is_valid : C → Type 0) (m : CallMeaning C) (told : B → Option Entries) where
+  -- the state stays, and so does the book
+  pub record Stays (p q : Parts C B) : Type 0 where
+    pub book : q.book.items ≡ p.book.items
+    pub faults : q.faults ≡ p.faults
+    pub state : (st : State C) → Stands is_valid m told p st → Stands is_valid m told q st
+
+  -- the book gains the machine's entry, with a count of faults above all before, and the core stands for the state after it
+  pub record Goes (p : Parts C B) (n : Noted C) (q : Parts C B) : Type 0 where
+    pub book : q.book.items ≡ p.book.items ++ n ∷ []
+    pub valid : HasValidCall is_valid n.event
+    pub above : IsAbove p.faults (fault_in n.event)
+    pub faults : q.faults ≡ latest p.faults (fault_in n.event)
+    pub entry : (st : State C) → Stands is_valid m told p st → IsAnswer n.answer (step m st n.session n.event)
+    pub state : (st : State C) → Stands is_valid m told p st → Stands is_valid m told q (next m st n)
+
+  -- ---- how far the machine grants these
+
+  pub record IsFreeUpTo (st : State C) (t : Live C) (qs : List Request) (k : ℕ) (q : Request) (hs : List ℕ) : Type 0 where
+    pub within : k < length qs
+    pub here : q ≡ get_or qs k q
+    pub free : free qs (others t.session st.live) ≡ take k qs
+    pub barred : barred qs (others t.session st.live) ≡ Some q
+    pub holders : holders q (others t.session st.live) ≡ hs
+
+  -- the machine grants the first k of these at least
+  pub record IsFreeFront (st : State C) (t : Live C) (qs : List Request) (k : ℕ) : Type 0 where
+    pub part : take k (free qs (others t.session st.live)) ≡ take k qs
+    pub within : nat_le k (length (free qs (others t.session st.live))) ≡ true
+
+  abbrev pub Reaches : State C → Live C → List Request → Parts C B → Got → Type 0
+  Reaches st t qs u All = (free qs (others t.session st.live) ≡ qs) × (barred qs (others t.session st.live) ≡ None) × Stands is_valid m told u (with_grants st t qs)
+  Reaches st t qs u (Barred k hs) = (q : Request) × IsFreeUpTo st t qs k q hs × Stands is_valid m told u (with_grants st t (take k qs))
+  Reaches st t qs u (NoMemory k) = IsFreeFront st t qs k × Stands is_valid m told u (with_grants st t (take k qs))
+
+  -- ---- what each part of an attempt comes to
+
+  -- the changes of a call were taken in
+  pub record IsAccepted (p : Parts C B) (s : ℕ) (made : Outcome) (q : Parts C B) : Type 0 where
+    pub each : (st : State C) (t : Live C) (c : C) (r : Reply) → Stands is_valid m told p st → of_session s st.live ≡ Some t → is_valid c
+        → made.changes ≡ changes_of m c (view m t.calls st.tree) → Stands is_valid m told q (with_answer st t c r)
+
+  -- the call was answered to a transaction that has all that it asks for
+  pub record IsAnswered (p : Parts C B) (s : ℕ) (c : C) (a : Answer) (q : Parts C B) : Type 0 where
+    pub book : q.book.items ≡ p.book.items ++ call_entry s c a ∷ []
+    pub faults : q.faults ≡ p.faults
+    pub reply : Reply
+    pub is : a ≡ answer.Answered reply
+    pub means : (st : State C) (t : Live C) → Stands is_valid m told p st → of_session s st.live ≡ Some t → reply ≡ m.reply c (view m t.calls st.tree)
+    pub state : (st : State C) (t : Live C) → Stands is_valid m told p st → of_session s st.live ≡ Some t → Stands is_valid m told q (unqueued (with_answer st t c reply) s)
+
+  -- the transaction waits, and no session waits for itself by it
+  pub record IsPut (p : Parts C B) (s : ℕ) (c : C) (g : Request) (hs : List ℕ) (a : Answer) (q : Parts C B) : Type 0 where
+    pub book : q.book.items ≡ p.book.items ++ call_entry s c a ∷ []
+    pub faults : q.faults ≡ p.faults
+    pub is : a ≡ shown_wait g hs
+    pub alone : (st : State C) (t : Live C) → Stands is_valid m told p st → of_session s st.live ≡ Some t → cycle_through (with_wait st t c g).live s ≡ None
+    pub state : (st : State C) (t : Live C) → Stands is_valid m told p st → of_session s st.live ≡ Some t → Stands is_valid m told q (record (with_wait st t c g) { waiting = st.waiting ++ s ∷ [] })
+
+  -- waiting would close this cycle, and the transaction is ended
+  pub record IsClosed (p : Parts C B) (s : ℕ) (c : C) (g : Request) (a : Answer) (q : Parts C B) : Type 0 where
+    pub book : q.book.items ≡ p.book.items ++ call_entry s c a ∷ []
+    pub faults : q.faults ≡ p.faults
+    pub cycle : List ℕ
+    pub is : a ≡ answer.Deadlock cycle
+    pub closes : (st : State C) (t : Live C) → Stands is_valid m told p st → of_session s st.live ≡ Some t → cycle_through (with_wait st t c g).live s ≡ Some cycle
+    pub state : (st : State C) → Stands is_valid m told p st → Stands is_valid m told q (ended st s)
+
+  -- a call that is barred waits, or is a deadlock
+  abbrev pub IsStopped : Parts C B → ℕ → C → Request → List ℕ → Answer → Parts C B → Type 0
+  IsStopped p s c g hs a q = IsPut p s c g hs a q ⊎ IsClosed p s c g a q
+
+  -- that the attempt failed is noted, with a count of faults above all before, and nothing else
+  pub record IsFailed (p : Parts C B) (s : ℕ) (c : C) (k : ℕ) (f : Option ℕ) (q : Parts C B) : Type 0 where
+    pub book : q.book.items ≡ p.book.items ++ fail_entry s c k f ∷ []
+    pub above : IsAbove p.faults f
+    pub faults : q.faults ≡ latest p.faults f
+    pub some : (is_some f || nat_lt 0 k) ≡ true
+    pub state : (st : State C) → Stands is_valid m told p st → Stands is_valid m told q (unqueued st s)
+
+  -- an attempt without an answer: nothing moved, or the failure is noted
+  abbrev pub IsUnanswered : Parts C B → ℕ → C → Parts C B → Type 0
+  IsUnanswered p s c q = Stays p q ⊎ ((k : ℕ) × (f : Option ℕ) × Goes p (fail_entry s c k f) q)
+
+  -- what a settled attempt is answered
+  abbrev pub IsSettled : Parts C B → ℕ → C → List Request → Got → Answer → Parts C B → Type 0
+  IsSettled p s c qs All a q = IsAnswered p s c a q
+  IsSettled p s c qs (Barred k hs) a q = (g : Request) → g ≡ get_or qs k g → IsStopped p s c g hs a q
+  IsSettled p s c qs (NoMemory k) a q = ⊥
+
+  -- what is left of one that isn't answered, after k grants
+  abbrev pub IsLeft : Parts C B → ℕ → C → ℕ → Parts C B → Type 0
+  IsLeft p s c k q = ((k ≡ 0) × Stays p q) ⊎ ((f : Option ℕ) × IsFailed p s c k f q)
+
+  -- what is left where it gives up after k grants
+  abbrev pub IsGivenUp : Parts C B → ℕ → C → ℕ → Parts C B → Type 0
+  IsGivenUp p s c k q = ((k ≡ 0) × (q ≡ p)) ⊎ ((f : Option ℕ) × IsFailed p s c k f q)
+
+module _ {C : Type 0} (m : CallMeaning C) where
+  -- a live transaction that doesn't wait asks for these
+  pub record IsAsked (st : State C) (s : ℕ) (c : C) (asks : List Request) : Type 0 where
+    pub live : Live C
+    pub found : of_session s st.live ≡ Some live
+    pub ready : live.waits ≡ None
+    pub are : asks ≡ asked m st live c
+
+  -- the call's reply on what the transaction sees, and its changes there
+  pub record IsMade (st : State C) (s : ℕ) (c : C) (made : Outcome) : Type 0 where
+    pub reply : (t : Live C) → of_session s st.live ≡ Some t → made.reply ≡ m.reply c (view m t.calls st.tree)
+    pub changes : (t : Live C) → of_session s st.live ≡ Some t → made.changes ≡ changes_of m c (view m t.calls st.tree)

@@ -1,0 +1,72 @@
+-- What a core's parts keep of the machine's state.
+use Rattle.std.specs.Prelude.{◌≡◌, ℕ, List, [], Option, Some, None, option_map, is_some}
+use Rattle.std.specs.List.{AllByRecursion}
+use Rattle.std.specs.Ordering.{nat_cmp}
+use Rattle.std.specs.BTreeMap.{get}
+use Rattle.tree_model.specs.Tree.{Tree, map_of}
+use Rattle.tree_model.specs.ValidTrees.{IsValidTree}
+use Rattle.tree_model.specs.Entries.{Entries, changed}
+use Rattle.lock_resources.specs.declared.request.Request.{Request}
+use Rattle.lock_table.specs.Grants.{IsTableOf}
+use Rattle.wait_cycles.specs.Walks.{Rises}
+use Rattle.wait_graph.specs.Graphs.{waits}
+use Rattle.overlays.specs.Views.{contents_after}
+use Rattle.call_contract.specs.Calls.{CallMeaning}
+use Rattle.call_contract.specs.States.{Waiting, Live, State, view, of_session, sessions}
+use Rattle.tx_core.specs.declared.parts.Parts.{Parts}
+use Rattle.tx_core.specs.declared.parts.Place.{Place}
+use Rattle.tx_core.specs.declared.parts.Seat.{Seat}
+
+-- ---- sessions
+
+-- how many transactions a session has begun, and its live one
+abbrev pub ordinal_in : Option Place → ℕ
+ordinal_in None = 0
+ordinal_in (Some p) = p.ordinal
+
+abbrev pub seat_in : Option Place → Option Seat
+seat_in None = None
+seat_in (Some p) = p.seat
+
+-- the grants of a transaction, if there is one
+abbrev pub grants_of : {C : Type 0} → Option (Live C) → List Request
+grants_of None = []
+grants_of (Some t) = t.grants
+
+-- the request with which it waits, if it does
+abbrev pub waited_of : {C : Type 0} → Option (Waiting C) → Option Request
+waited_of None = None
+waited_of (Some w) = Some w.request
+
+abbrev pub request_of : {C : Type 0} → Option (Live C) → Option Request
+request_of None = None
+request_of (Some t) = waited_of t.waits
+
+module _ {C : Type 0} (is_valid : C → Type 0) (m : CallMeaning C) where
+  -- what is kept of a live transaction: the map that it sees, whether it waits, and that its calls are valid
+  pub record IsSeatOf (committed : Tree) (seat : Seat) (t : Live C) : Type 0 where
+    pub own : changed seat.own (map_of committed) ≡ map_of (view m t.calls committed)
+    pub waits : is_some seat.waiting ≡ is_some t.waits
+    pub valid : AllByRecursion (λ a. is_valid a.call) t.calls
+
+  abbrev pub IsSeat : Tree → Option Seat → Option (Live C) → Type 0
+  IsSeat committed None None = Unit {0}
+  IsSeat committed None (Some t) = ⊥
+  IsSeat committed (Some seat) None = ⊥
+  IsSeat committed (Some seat) (Some t) = IsSeatOf committed seat t
+
+  module _ {B : Type 0} (told : B → Option Entries) where
+    -- the core's parts stand for the state
+    pub record Stands (p : Parts C B) (st : State C) : Type 0 where
+      pub committed : contents_after p.layers.changes (told p.base) ≡ Some (map_of st.tree)
+      pub valid : IsValidTree st.tree
+      pub seats : (s : ℕ) → IsSeat st.tree (seat_in (get nat_cmp p.places s)) (of_session s st.live)
+      pub ordinals : (s : ℕ) → ordinal_in (get nat_cmp p.places s) ≡ st.ordinals s
+      pub table : IsTableOf p.table (λ s. grants_of (of_session s st.live))
+      pub graph : (s : ℕ) → waits p.graph s ≡ request_of (of_session s st.live)
+      pub queue : p.waiting.items ≡ st.waiting
+      pub rise : Rises (sessions st.live)
+      pub opened : p.opened ≡ st.opening
+      pub limit : p.limit ≡ st.limit
+      pub number : p.number ≡ st.number
+      pub begun : p.begun ≡ st.begun

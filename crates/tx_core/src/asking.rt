@@ -1,0 +1,91 @@
+//! What a call asks for and answers on what a transaction sees, and how far its requests are granted.
+
+ghost use Rattle.std.specs.Prelude.{◌≡◌, IfOk};
+ghost use Rattle.outside_traits.specs.Faults.{HasCause};
+ghost use Rattle.node_seq.specs.declared.node_read.SeqError.TheVariants.{DiskFault};
+ghost use Rattle.node_seq.specs.ChangeLists.{IsChangeList};
+ghost use Rattle.node_seq.specs.Trees.{OnTree};
+ghost use Rattle.overlays.specs.Views.{contents_after};
+ghost use Rattle.call_contract.specs.Calls.{changes_of};
+ghost use Rattle.tx_core.specs.inside.Asking.{IsGot};
+
+use call_contract::TreeCall;
+use dewey_labels::List;
+use lock_resources::Request;
+use lock_table::{Asked, LockTable};
+use node_seq::{NodeRead, SeqError};
+use overlays::{Layers, Overlay, View};
+use std::alloc::Global;
+use tree_model::{Changes, Reply};
+
+/// How far requests were granted.
+#[derive(Drop)]
+pub enum Got {
+    All,
+    /// So many were granted, and these owners bar the next one.
+    Barred { granted: usize, holders: List<u32> },
+    /// There was no memory after so many.
+    NoMemory { granted: usize },
+}
+
+/// Asks for each in its turn, up to the first that is barred.
+pub fn ask_all(alloc: Global, table: &mut LockTable, owner: u32, requests: &[Request]) -> Got
+    ensures { IsGot table.old owner requests.now table.new result }
+{
+    let mut granted = 0;
+    while granted < requests.len() {
+        match table.ask(alloc, owner, &requests[granted]) {
+            Ok(Asked::Granted) => granted += 1,
+            Ok(Asked::Conflict { holders }) => return Got::Barred { granted, holders },
+            Err(_) => return Got::NoMemory { granted },
+        }
+    }
+    Got::All
+}
+
+/// What a call asks for on what a transaction sees.
+pub fn asked<C: TreeCall, B: NodeRead>(
+    alloc: Global,
+    base: &mut B,
+    layers: &Layers,
+    own: &Overlay,
+    call: &C,
+) -> Result<List<Request>, SeqError>
+    ensures value { OnTree (contents_after own.now (contents_after layers.now.changes (B.contents base.old))) result (λ t asks. asks ≡ C.meaning.requests call.now t) }
+    ensures valid { C.is_valid call.now }
+    ensures unchanged { B.unchanged base.old base.new }
+    ensures cause { HasCause DiskFault (B.count base.old) (B.count base.new) result }
+{
+    let mut out = List::new(alloc);
+    let mut view = View { base, layers, own };
+    call.requests(alloc, &mut view, &mut out)?;
+    Ok(out)
+}
+
+/// A reply, and the changes that go with it.
+#[derive(Drop)]
+pub struct Outcome {
+    pub reply: Reply,
+    pub changes: Changes,
+}
+
+/// What a call answers on what a transaction sees, and what it changes there.
+pub fn made<C: TreeCall, B: NodeRead>(
+    alloc: Global,
+    base: &mut B,
+    layers: &Layers,
+    own: &Overlay,
+    call: &C,
+) -> Result<Outcome, SeqError>
+    ensures reply { OnTree (contents_after own.now (contents_after layers.now.changes (B.contents base.old))) result (λ t made. made.reply ≡ C.meaning.reply call.now t) }
+    ensures changes { OnTree (contents_after own.now (contents_after layers.now.changes (B.contents base.old))) result (λ t made. made.changes ≡ changes_of C.meaning call.now t) }
+    ensures rise { IfOk result (λ made. IsChangeList made.changes) }
+    ensures valid { C.is_valid call.now }
+    ensures unchanged { B.unchanged base.old base.new }
+    ensures cause { HasCause DiskFault (B.count base.old) (B.count base.new) result }
+{
+    let mut changes = List::new(alloc);
+    let mut view = View { base, layers, own };
+    let reply = call.apply(alloc, &mut view, &mut changes)?;
+    Ok(Outcome { reply, changes })
+}

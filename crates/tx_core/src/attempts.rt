@@ -1,0 +1,483 @@
+//! An attempt of a call: it is answered, waits, is a deadlock, or is given up.
+
+ghost use Rattle.std.specs.Prelude.{◌≡◌, ◌⊎◌, ℕ, ◌+◌, ◌≤◌, ◌<◌, ◌||◌, true, nat_lt, ◌∷◌, ◌++◌, [], Some, None, IfOk, IfErr, OnOk, OnErr, IsSome, is_some, take, length, vec_capacity};
+ghost use Rattle.std.specs.Ordering.{nat_cmp};
+ghost use Rattle.std.specs.BTreeMap.{get};
+ghost use Rattle.node_seq.specs.ChangeLists.{IsChangeList};
+ghost use Rattle.wait_graph.specs.Graphs.{place as place_by, ClosesNone, IsClosedCycle};
+ghost use Rattle.call_contract.specs.States.{State, Live, of_session};
+ghost use Rattle.call_contract.specs.Waits.{cycle_through};
+ghost use Rattle.call_contract.specs.Books.{IsAbove, latest as latest_of};
+ghost use Rattle.tx_core.specs.inside.Asking.{granted_in, IsInside};
+ghost use Rattle.tx_core.specs.inside.Standing.{Stands, seat_in};
+ghost use Rattle.tx_core.specs.inside.Goes.{Stays, Goes, Reaches, IsAsked, IsMade, IsAccepted, IsAnswered, IsClosed, IsFailed, IsPut, IsStopped, IsGivenUp, IsLeft, IsSettled, IsUnanswered, call_entry, fail_entry, shown_wait, with_wait};
+
+use crate::asking::{Got, Outcome, ask_all, asked, made};
+use crate::ends::{note, stop_waiting};
+use crate::errors::{CallError, SessionError};
+use crate::parts::{Parts, Seat};
+use crate::places::{seat_again, seat_at, unseat};
+use call_contract::{Answer, Event, EventAnswer, Noted, TreeCall};
+use dewey_labels::{List, NoMemory};
+use lock_resources::Request;
+use node_seq::{NodeRead, SeqError};
+use std::alloc::Global;
+use tree_model::Reply;
+
+/// What a call of a session asks for.
+pub fn requests_of<C: TreeCall + Drop, B: NodeRead>(
+    alloc: Global,
+    parts: &mut Parts<C, B>,
+    session: u32,
+    call: &C,
+) -> Result<List<Request>, CallError>
+    ensures value { IfOk result (λ asks. (st : State C) → Stands C.is_valid C.meaning B.contents parts.old st → IsAsked C.meaning st session call.now asks) }
+    ensures valid { OnOk result (C.is_valid call.now) }
+    ensures seated { OnOk result (IsSome (seat_in (get nat_cmp parts.old.places session))) }
+    ensures stays { Stays C.is_valid C.meaning B.contents parts.old parts.new }
+    ensures same { (parts.new.places ≡ parts.old.places) × (parts.new.book ≡ parts.old.book) }
+{
+    let Some(seat) = seat_at(&parts.places, session) else {
+        return Err(CallError::Session(SessionError::NoTransaction));
+    };
+    if seat.waiting.is_some() {
+        return Err(CallError::Session(SessionError::IsWaiting));
+    }
+    match asked(alloc, &mut parts.base, &parts.layers, &seat.own, call) {
+        Ok(requests) => Ok(requests),
+        Err(SeqError::DiskFault) => Err(CallError::DiskFault),
+        Err(SeqError::NoMemory) => Err(CallError::NoMemory),
+    }
+}
+
+/// What the call answers, and what it changes.
+pub fn outcome_of<C: TreeCall + Drop, B: NodeRead>(
+    alloc: Global,
+    parts: &mut Parts<C, B>,
+    session: u32,
+    call: &C,
+) -> Result<Outcome, SeqError>
+    requires seated { IsSome (seat_in (get nat_cmp parts.old.places session)) }
+    ensures value { IfOk result (λ outcome. (st : State C) → Stands C.is_valid C.meaning B.contents parts.old st → IsMade C.meaning st session call.now outcome) }
+    ensures rise { IfOk result (λ outcome. IsChangeList outcome.changes) }
+    ensures valid { C.is_valid call.now }
+    ensures stays { Stays C.is_valid C.meaning B.contents parts.old parts.new }
+    ensures same { (parts.new.places ≡ parts.old.places) × (parts.new.book ≡ parts.old.book) }
+{
+    match seat_at(&parts.places, session) {
+        Some(seat) => made(alloc, &mut parts.base, &parts.layers, &seat.own, call),
+        None => unreachable!(),
+    }
+}
+
+/// Asks for these, one after another.
+pub fn ask_in_turn<C: TreeCall + Drop, B: NodeRead>(
+    alloc: Global,
+    parts: &mut Parts<C, B>,
+    session: u32,
+    requests: &[Request],
+) -> Got
+    ensures got { (st : State C) (t : Live C) → Stands C.is_valid C.meaning B.contents parts.old st → of_session session st.live ≡ Some t → Reaches C.is_valid C.meaning B.contents st t requests.now parts.new result }
+    ensures within { granted_in requests.now result ≤ length requests.now }
+    ensures inside { IsInside requests.now result }
+    ensures untouched { granted_in requests.now result ≡ 0 → (st : State C) → Stands C.is_valid C.meaning B.contents parts.old st → Stands C.is_valid C.meaning B.contents parts.new st }
+    ensures same { (parts.new.places ≡ parts.old.places) × (parts.new.faults ≡ parts.old.faults) × (parts.new.book ≡ parts.old.book) }
+{
+    ask_all(alloc, &mut parts.table, session, requests)
+}
+
+/// Takes in what a call changed. It costs what that is.
+pub fn accept<C: TreeCall + Drop, B: NodeRead>(
+    alloc: Global,
+    parts: &mut Parts<C, B>,
+    session: u32,
+    outcome: Outcome,
+) -> Result<Reply, NoMemory>
+    requires seated { IsSome (seat_in (get nat_cmp parts.old.places session)) }
+    requires rise { IsChangeList outcome.changes }
+    ensures reply { IfOk result (λ reply. reply ≡ outcome.reply) }
+    ensures ok { OnOk result (IsAccepted C.is_valid C.meaning B.contents parts.old session outcome parts.new) }
+    ensures err { OnErr result (Stays C.is_valid C.meaning B.contents parts.old parts.new) }
+    ensures same { (parts.new.faults ≡ parts.old.faults) × (parts.new.book ≡ parts.old.book) }
+{
+    let Outcome { reply, changes } = outcome;
+    match unseat(&mut parts.places, session) {
+        Some(seat) => {
+            let Seat { mut own, waiting } = seat;
+            match own.add(alloc, changes) {
+                Ok(()) => {
+                    seat_again(&mut parts.places, session, Seat { own, waiting: None });
+                    parts.graph.stop(session);
+                    Ok(reply)
+                }
+                Err(error) => {
+                    seat_again(&mut parts.places, session, Seat { own, waiting });
+                    Err(error)
+                }
+            }
+        }
+        None => unreachable!(),
+    }
+}
+
+/// The count of faults now, if it is above the last one that was noted.
+fn later_fault(last: Option<u64>, now: u64) -> Option<u64>
+    ensures { IsAbove last result }
+{
+    match last {
+        Some(before) if now <= before => None,
+        _ => Some(now),
+    }
+}
+
+/// The last count of two.
+fn latest(before: Option<u64>, now: Option<u64>) -> Option<u64>
+    ensures { result ≡ latest_of before now }
+{
+    match now {
+        Some(faults) => Some(faults),
+        None => before,
+    }
+}
+
+/// Notes that an attempt failed after so many grants.
+pub fn fail<C: TreeCall + Drop, B: NodeRead>(
+    parts: &mut Parts<C, B>,
+    session: u32,
+    call: C,
+    grants: u32,
+    faults: Option<u64>,
+)
+    requires room { length parts.old.book.items + 1 ≤ vec_capacity parts.old.book }
+    requires above { IsAbove parts.old.faults faults }
+    requires some { (is_some faults || nat_lt 0 grants) ≡ true }
+    ensures { IsFailed C.is_valid C.meaning B.contents parts.old session call grants faults parts.new }
+{
+    stop_waiting(&mut parts.waiting, session);
+    parts.faults = latest(parts.faults, faults);
+    note(
+        &mut parts.book,
+        Noted {
+            session,
+            event: Event::Fail {
+                call: Some(call),
+                grants,
+                faults,
+            },
+            answer: EventAnswer::Nothing,
+        },
+    );
+}
+
+/// Answers a call that was granted all that it asks for.
+pub fn answer<C: TreeCall + Drop, B: NodeRead>(
+    alloc: Global,
+    parts: &mut Parts<C, B>,
+    session: u32,
+    call: C,
+) -> Result<Answer, (SeqError, C)>
+    requires seated { IsSome (seat_in (get nat_cmp parts.old.places session)) }
+    requires room { length parts.old.book.items + 1 ≤ vec_capacity parts.old.book }
+    ensures ok { IfOk result (λ a. IsAnswered C.is_valid C.meaning B.contents parts.old session call a parts.new) }
+    ensures err { OnErr result (Stays C.is_valid C.meaning B.contents parts.old parts.new × (parts.new.book ≡ parts.old.book)) }
+    ensures call { IfErr result (λ e. e.1 ≡ call) }
+{
+    let outcome = match outcome_of(alloc, parts, session, &call) {
+        Ok(outcome) => outcome,
+        Err(error) => return Err((error, call)),
+    };
+    let Ok(copy) = outcome.reply.copy(alloc) else {
+        return Err((SeqError::NoMemory, call));
+    };
+    let Ok(reply) = accept(alloc, parts, session, outcome) else {
+        return Err((SeqError::NoMemory, call));
+    };
+    stop_waiting(&mut parts.waiting, session);
+    note(
+        &mut parts.book,
+        Noted {
+            session,
+            event: Event::Call(call),
+            answer: EventAnswer::Call(Answer::Answered(copy)),
+        },
+    );
+    Ok(Answer::Answered(reply))
+}
+
+/// The cycle that waiting for a request would close. Afterwards there is room for the session to wait.
+fn cycle_of<C: TreeCall + Drop, B: NodeRead>(
+    alloc: Global,
+    parts: &mut Parts<C, B>,
+    session: u32,
+    request: &Request,
+) -> Result<Option<List<u32>>, NoMemory>
+    ensures cycle { IfOk result (λ cycle. (st : State C) (t : Live C) (c : C) → Stands C.is_valid C.meaning B.contents parts.new st → of_session session st.live ≡ Some t → cycle_through (with_wait st t c request.now).live session ≡ cycle) }
+    ensures graph { IfOk result (IsClosedCycle parts.new.graph session request.now parts.new.table) }
+    ensures place { OnOk result (IsSome (place_by parts.new.graph session)) }
+    ensures room { OnOk result (length parts.new.waiting.items + 1 ≤ vec_capacity parts.new.waiting) }
+    ensures stays { Stays C.is_valid C.meaning B.contents parts.old parts.new }
+    ensures same { (parts.new.places ≡ parts.old.places) × (parts.new.book ≡ parts.old.book) }
+{
+    parts.waiting.reserve(1)?;
+    parts.graph.reserve(alloc, session)?;
+    parts
+        .graph
+        .cycle_through(alloc, session, request, &parts.table)
+}
+
+/// Sets a transaction to wait with a call, and notes what was answered.
+fn set_waiting<C: TreeCall + Drop, B: NodeRead>(
+    parts: &mut Parts<C, B>,
+    session: u32,
+    call: C,
+    request: Request,
+    noted: Answer,
+)
+    requires seated { IsSome (seat_in (get nat_cmp parts.old.places session)) }
+    requires room { length parts.old.waiting.items + 1 ≤ vec_capacity parts.old.waiting }
+    requires book_room { length parts.old.book.items + 1 ≤ vec_capacity parts.old.book }
+    requires place { IsSome (place_by parts.old.graph session) }
+    requires no_cycle { ClosesNone parts.old.graph session request parts.old.table }
+    ensures state { (st : State C) (t : Live C) → Stands C.is_valid C.meaning B.contents parts.old st → of_session session st.live ≡ Some t → Stands C.is_valid C.meaning B.contents parts.new (record (with_wait st t call request) { waiting = st.waiting ++ session ∷ [] }) }
+    ensures book { parts.new.book.items ≡ parts.old.book.items ++ call_entry session call noted ∷ [] }
+    ensures faults { parts.new.faults ≡ parts.old.faults }
+{
+    let entry = parts.book.len();
+    match unseat(&mut parts.places, session) {
+        Some(seat) => {
+            let Seat { own, waiting: _ } = seat;
+            let waiting = Some(entry);
+            seat_again(&mut parts.places, session, Seat { own, waiting });
+        }
+        None => unreachable!(),
+    }
+    parts.graph.wait(session, request, &parts.table);
+    enqueue(&mut parts.waiting, session);
+    note(
+        &mut parts.book,
+        Noted {
+            session,
+            event: Event::Call(call),
+            answer: EventAnswer::Call(noted),
+        },
+    );
+}
+
+/// Adds a session for which there is room.
+fn enqueue(waiting: &mut Vec<u32>, session: u32)
+    requires { length waiting.old.items + 1 ≤ vec_capacity waiting.old }
+    ensures { waiting.new.items ≡ waiting.old.items ++ session ∷ [] }
+{
+    if waiting.push(session).is_err() {
+        unreachable!();
+    }
+}
+
+/// Copies of a request and of its holders.
+#[derive(Drop)]
+struct Copies {
+    waited: Request,
+    noted: Request,
+    shown: Request,
+    holders: List<u32>,
+}
+
+fn copies_of(alloc: Global, request: &Request, holders: &List<u32>) -> Result<Copies, NoMemory>
+    ensures waited { IfOk result (λ copies. copies.waited ≡ request.now) }
+    ensures noted { IfOk result (λ copies. copies.noted ≡ request.now) }
+    ensures shown { IfOk result (λ copies. copies.shown ≡ request.now) }
+    ensures holders { IfOk result (λ copies. copies.holders ≡ holders.now) }
+{
+    Ok(Copies {
+        waited: request.copy(alloc)?,
+        noted: request.copy(alloc)?,
+        shown: request.copy(alloc)?,
+        holders: holders.copy(alloc)?,
+    })
+}
+
+/// What a wait for a request is answered.
+fn answer_of(request: Request, holders: List<u32>) -> Answer
+    ensures { result ≡ shown_wait request holders }
+{
+    let Request { resource, ask } = request;
+    Answer::Waits {
+        resource,
+        asks: ask,
+        holders,
+    }
+}
+
+/// Lets a transaction wait for a request that is barred, where that closes no cycle.
+fn wait_for<C: TreeCall + Drop, B: NodeRead>(
+    alloc: Global,
+    parts: &mut Parts<C, B>,
+    session: u32,
+    call: C,
+    request: &Request,
+    holders: List<u32>,
+) -> Result<Answer, C>
+    requires seated { IsSome (seat_in (get nat_cmp parts.old.places session)) }
+    requires room { length parts.old.waiting.items + 1 ≤ vec_capacity parts.old.waiting }
+    requires book_room { length parts.old.book.items + 1 ≤ vec_capacity parts.old.book }
+    requires place { IsSome (place_by parts.old.graph session) }
+    requires no_cycle { ClosesNone parts.old.graph session request.now parts.old.table }
+    requires alone { (st : State C) (t : Live C) → Stands C.is_valid C.meaning B.contents parts.old st → of_session session st.live ≡ Some t → cycle_through (with_wait st t call request.now).live session ≡ None }
+    ensures ok { IfOk result (λ a. IsPut C.is_valid C.meaning B.contents parts.old session call request.now holders a parts.new) }
+    ensures err { OnErr result (Stays C.is_valid C.meaning B.contents parts.old parts.new × (parts.new.book ≡ parts.old.book)) }
+    ensures call { IfErr result (λ e. e ≡ call) }
+{
+    let Ok(copies) = copies_of(alloc, request, &holders) else {
+        return Err(call);
+    };
+    let Copies {
+        waited,
+        noted,
+        shown,
+        holders: named,
+    } = copies;
+    set_waiting(parts, session, call, waited, answer_of(noted, named));
+    Ok(answer_of(shown, holders))
+}
+
+/// Lets a transaction wait for a request that is barred, or ends it where that would close a cycle.
+pub fn wait<C: TreeCall + Drop, B: NodeRead>(
+    alloc: Global,
+    parts: &mut Parts<C, B>,
+    session: u32,
+    call: C,
+    request: &Request,
+    holders: List<u32>,
+) -> Result<Answer, C>
+    requires seated { IsSome (seat_in (get nat_cmp parts.old.places session)) }
+    requires room { length parts.old.book.items + 1 ≤ vec_capacity parts.old.book }
+    ensures ok { IfOk result (λ a. IsStopped C.is_valid C.meaning B.contents parts.old session call request.now holders a parts.new) }
+    ensures err { OnErr result (Stays C.is_valid C.meaning B.contents parts.old parts.new × (parts.new.book ≡ parts.old.book)) }
+    ensures call { IfErr result (λ e. e ≡ call) }
+{
+    let Ok(closed) = cycle_of(alloc, parts, session, request) else {
+        return Err(call);
+    };
+    match closed {
+        Some(cycle) => end_by_cycle(alloc, parts, session, call, request, cycle),
+        None => wait_for(alloc, parts, session, call, request, holders),
+    }
+}
+
+/// Ends a transaction by whose waiting a cycle would be closed.
+fn end_by_cycle<C: TreeCall + Drop, B: NodeRead>(
+    alloc: Global,
+    parts: &mut Parts<C, B>,
+    session: u32,
+    call: C,
+    request: &Request,
+    cycle: List<u32>,
+) -> Result<Answer, C>
+    requires room { length parts.old.book.items + 1 ≤ vec_capacity parts.old.book }
+    requires closes { (st : State C) (t : Live C) → Stands C.is_valid C.meaning B.contents parts.old st → of_session session st.live ≡ Some t → cycle_through (with_wait st t call request.now).live session ≡ Some cycle }
+    ensures ok { IfOk result (λ a. IsClosed C.is_valid C.meaning B.contents parts.old session call request.now a parts.new) }
+    ensures err { OnErr result (Stays C.is_valid C.meaning B.contents parts.old parts.new × (parts.new.book ≡ parts.old.book)) }
+    ensures call { IfErr result (λ e. e ≡ call) }
+{
+    // The conditions alone speak of the request.
+    let _request = request;
+    let Ok(copy) = cycle.copy(alloc) else {
+        return Err(call);
+    };
+    let _seat = unseat(&mut parts.places, session);
+    parts.table.release_all(session);
+    parts.graph.stop(session);
+    stop_waiting(&mut parts.waiting, session);
+    note(
+        &mut parts.book,
+        Noted {
+            session,
+            event: Event::Call(call),
+            answer: EventAnswer::Call(Answer::Deadlock { cycle: copy }),
+        },
+    );
+    Ok(Answer::Deadlock { cycle })
+}
+
+/// The most requests of a call, so that their number fits an entry.
+const MOST_REQUESTS: usize = 4_294_967_295;
+
+/// Gives an attempt up after so many grants: where something was granted or the count of faults rose, that is noted.
+fn give_up<C: TreeCall + Drop, B: NodeRead>(
+    parts: &mut Parts<C, B>,
+    session: u32,
+    call: C,
+    granted: usize,
+    error: SeqError,
+) -> CallError
+    requires room { length parts.old.book.items + 1 ≤ vec_capacity parts.old.book }
+    requires fits { granted ≤ 4_294_967_295 }
+    ensures { IsGivenUp C.is_valid C.meaning B.contents parts.old session call granted parts.new }
+{
+    match error {
+        SeqError::DiskFault => {
+            let faults = later_fault(parts.faults, parts.base.faults());
+            if granted > 0 || faults.is_some() {
+                fail(parts, session, call, granted as u32, faults);
+            }
+            CallError::DiskFault
+        }
+        SeqError::NoMemory => {
+            if granted > 0 {
+                fail(parts, session, call, granted as u32, None);
+            }
+            CallError::NoMemory
+        }
+    }
+}
+
+/// Answers, waits or gives up, as far as the requests were granted.
+fn settle<C: TreeCall + Drop, B: NodeRead>(
+    alloc: Global,
+    parts: &mut Parts<C, B>,
+    session: u32,
+    call: C,
+    requests: &[Request],
+    got: Got,
+) -> Result<Answer, CallError>
+    requires seated { IsSome (seat_in (get nat_cmp parts.old.places session)) }
+    requires room { length parts.old.book.items + 1 ≤ vec_capacity parts.old.book }
+    requires inside { IsInside requests.now got }
+    requires fits { granted_in requests.now got ≤ 4_294_967_295 }
+    ensures ok { IfOk result (λ a. IsSettled C.is_valid C.meaning B.contents parts.old session call requests.now got a parts.new) }
+    ensures err { OnErr result (IsLeft C.is_valid C.meaning B.contents parts.old session call (granted_in requests.now got) parts.new) }
+{
+    match got {
+        Got::All => match answer(alloc, parts, session, call) {
+            Ok(answer) => Ok(answer),
+            Err((error, call)) => Err(give_up(parts, session, call, requests.len(), error)),
+        },
+        Got::Barred { granted, holders } => {
+            match wait(alloc, parts, session, call, &requests[granted], holders) {
+                Ok(answer) => Ok(answer),
+                Err(call) => Err(give_up(parts, session, call, granted, SeqError::NoMemory)),
+            }
+        }
+        Got::NoMemory { granted } => {
+            Err(give_up(parts, session, call, granted, SeqError::NoMemory))
+        }
+    }
+}
+
+/// An attempt of a call: it is answered, waits or ends in a deadlock, or it is given up.
+pub fn attempt<C: TreeCall + Drop, B: NodeRead>(
+    alloc: Global,
+    parts: &mut Parts<C, B>,
+    session: u32,
+    call: C,
+) -> Result<Answer, CallError>
+    ensures ok { IfOk result (λ a. Goes C.is_valid C.meaning B.contents parts.old (call_entry session call a) parts.new) }
+    ensures err { OnErr result (IsUnanswered C.is_valid C.meaning B.contents parts.old session call parts.new) }
+{
+    let requests = requests_of(alloc, parts, session, &call)?;
+    if requests.len() > MOST_REQUESTS || parts.book.reserve(1).is_err() {
+        return Err(CallError::NoMemory);
+    }
+    let got = ask_in_turn(alloc, parts, session, requests.as_slice());
+    settle(alloc, parts, session, call, requests.as_slice(), got)
+}
