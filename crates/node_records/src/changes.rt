@@ -1,10 +1,12 @@
 //! Changes: a put with its key and its record, the record's length before it, or a delete with its key.
-ghost use Rattle.std.specs.Prelude.{ℕ, List, IfNone, ◌≡◌, ◌+◌, ◌≤◌, ◌++◌, length, IfOk, IfSome, Some, OnOk, OnErr};
+ghost use Rattle.std.specs.Prelude.{IsTrue, ℕ, List, IfNone, ◌≡◌, ◌+◌, ◌≤◌, ◌++◌, length, IfOk, IfSome, Some, OnOk, OnErr};
+ghost use Rattle.std.specs.Str.{is_utf8};
+ghost use Rattle.dewey_labels.specs.Labels.{IsLabel};
 ghost use Rattle.node_records.specs.Changes.{Fits, IsWritableChange, change_bytes, change_in, delete_in, put_in, sized_record, sized_record_in};
 ghost use Rattle.node_records.specs.Reads.{Takes};
 ghost use Rattle.dewey_labels.specs.Lists.{AppendsPrefix};
 
-use crate::keys::{key_at_start, put_key};
+use crate::keys::{has_one_end, key_at_start, put_key};
 use crate::records::{put_record, read_whole, record_length};
 use byteorder::{BigEndian, ByteOrder};
 use dewey_labels::{List, NoMemory};
@@ -17,13 +19,17 @@ const PUT: u8 = 1;
 const DELETE: u8 = 2;
 
 /// Writes a change at the end of `out`: a put with its key, its record's length and its record, or a delete with its key.
-/// A record whose length doesn't fit four bytes is answered with `NoMemory`; after it `out` is as it was.
+/// A name with the character U+0000, or a record whose length doesn't fit four bytes, is answered with `NoMemory`; after it `out` is as it was.
 pub fn write_change(alloc: Global, change: &Change, out: &mut List<u8>) -> Result<(), NoMemory>
     ensures ok { OnOk result (out.new ≡ out.old ++ change_bytes change.entry.now) }
     ensures err { OnErr result (out.new ≡ out.old) }
-    // So a record in it is one that is read again.
+    // So it is one that is read again.
     ensures fits { OnOk result (Fits change.entry.now.now) }
+    ensures writable { OnOk result (IsWritableChange change.entry.now) }
 {
+    if !has_one_end(&change.key) {
+        return Err(NoMemory);
+    }
     let before = out.len();
     let put = put_change(alloc, change, out);
     if put.is_err() {
@@ -37,6 +43,8 @@ fn put_change(alloc: Global, change: &Change, out: &mut List<u8>) -> Result<(), 
     ensures ok { OnOk result (out.new ≡ out.old ++ change_bytes change.entry.now) }
     ensures err { OnErr result (AppendsPrefix (change_bytes change.entry.now) out.old out.new) }
     ensures fits { OnOk result (Fits change.entry.now.now) }
+    ensures label { OnOk result (IsLabel change.entry.now.key.label) }
+    ensures utf8 { OnOk result (IsTrue (is_utf8 change.entry.now.key.name)) }
 {
     match &change.now {
         Some(record) => {

@@ -1,6 +1,6 @@
 //! Keys: a label and a name, each with its end.
 ghost use Rattle.std.specs.Prelude.{IsTrue, ℕ, List, IfNone, ◌≡◌, ◌<◌, ◌≤◌, ◌==◌, ◌++◌, length, IfOk, IfSome, OnOk, OnErr};
-ghost use Rattle.std.specs.List.{position};
+ghost use Rattle.std.specs.List.{AllByRecursion, position};
 ghost use Rattle.std.specs.Str.{is_utf8};
 ghost use Rattle.dewey_labels.specs.Labels.{IsLabel};
 ghost use Rattle.node_records.specs.Keys.{IsWritable, key_bytes, key_in, name_in};
@@ -30,6 +30,13 @@ pub fn write_key(alloc: Global, key: &Key, out: &mut List<u8>) -> Result<(), NoM
         out.truncate(before);
     }
     put
+}
+
+/// Whether no byte of a key's name is read as its end.
+pub(crate) fn has_one_end(key: &Key) -> bool
+    ensures { IsTrue result → AllByRecursion (λ b. 0 < b) key.now.name }
+{
+    !key.name.as_str().as_bytes().contains(&END)
 }
 
 /// The same, part by part; after `NoMemory` some of them may stand there.

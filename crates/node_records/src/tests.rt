@@ -278,3 +278,16 @@ fn bytes_that_begin_with_no_change_are_none(rt: HostRuntime) -> Result<(), Fail>
     }
     Ok(())
 }
+
+#[test]
+fn a_change_of_a_name_with_a_zero_is_not_written(rt: HostRuntime) -> Result<(), Fail> {
+    let change = Change {
+        key: key(rt.alloc(), &[1, 1001], "a\0b")?,
+        now: None,
+    };
+    let mut out = List::new(rt.alloc());
+    out.push(7)?;
+    assert!(rt; write_change(rt.alloc(), &change, &mut out).is_err());
+    assert_eq!(rt; out.as_slice(), [7].as_slice());
+    Ok(())
+}
