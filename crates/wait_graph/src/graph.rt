@@ -1,6 +1,6 @@
 //! The graph: owners with places, the requests with which they wait, and the cycle that one more would close.
 
-ghost use Rattle.std.specs.Prelude.{◌≡◌, ℕ, ◌||◌, ◌==◌, cond, false, None, Some, IfOk, OnOk, OnErr, IsTrue, IsSome};
+ghost use Rattle.std.specs.Prelude.{◌≡◌, ℕ, ◌||◌, ◌==◌, cond, false, None, Some, IfOk, OnOk, OnErr, IsTrue, IsSome, option_copied};
 ghost use Rattle.lock_table.specs.Tables.{Table};
 ghost use Rattle.wait_graph.specs.Graphs.{waits as waits_by, has_place, place as place_by, with_request, ClosesNone, IsClosedCycle, HasNoCycle};
 
@@ -68,6 +68,16 @@ impl WaitGraph {
         ensures still { (t : Table) → HasNoCycle self.old t → HasNoCycle self.new t }
     {
         empty(&mut self.places, owner);
+    }
+
+    /// The request with which an owner waits, if it does.
+    pub fn request_of(&self, owner: u32) -> Option<&Request>
+        ensures { option_copied result ≡ waits_by self.now owner }
+    {
+        match self.places.get(&owner) {
+            Some(place) => place.as_ref(),
+            None => None,
+        }
     }
 
     /// The cycle that waiting for the request would close, or None where it closes none: the owner first, each waits for the next and the last for the owner.
