@@ -5,7 +5,7 @@ use Rattle.std.proofs.lemmas.Bool.{cond-true, cond-false, lt-ltb, ne_eqb}
 use Rattle.journal.specs.Groups.{behind_gate, commit, group_at, AreCommits, only_commits, open_groups, commits_of}
 use Rattle.journal.specs.Journals.{header, with_first, groups_from, read}
 use Rattle.journal.specs.Appends.{last_number}
-use Rattle.journal.specs.Settled.{Piece, IsGroup, AreGroups, bytes_of, groups_of}
+use Rattle.journal.specs.inside.Settled.{Piece, IsGroup, AreGroups, bytes_of, groups_of}
 use Rattle.journal.specs.declared.group.Group.{Group}
 use Rattle.journal.specs.declared.group.Groups.{Groups}
 use Rattle.journal.proofs.GroupLaws.{group_at-commit}

@@ -1,3 +1,4 @@
+-- What contracts say.
 pub mod DiskFaults
 pub mod Appends
 pub mod Bodies
@@ -6,6 +7,7 @@ pub mod Heads
 pub mod Journals
 pub mod Openings
 pub mod Refusals
-pub mod Settled
 pub mod Steps
 pub mod Views
+-- Words that only private functions and the proofs use.
+pub mod inside

@@ -3,7 +3,7 @@ ghost use Rattle.std.specs.Prelude.{◌≡◌, ◌≤◌, ◌+◌, Some, IsTrue,
 ghost use Rattle.outside_traits.specs.Faults.{HasCause, failed};
 ghost use Rattle.journal.specs.Groups.{IsCommit};
 ghost use Rattle.journal.specs.Appends.{AddsCommit, LeavesWithOrWithout};
-ghost use Rattle.journal.specs.Settled.{IsKept};
+ghost use Rattle.journal.specs.inside.Settled.{IsKept};
 ghost use Rattle.journal.specs.Steps.{StopsIn, append_steps};
 
 use crate::frame::frame;

@@ -34,7 +34,7 @@ pub struct Journal<J: Disk> {
 
 impl<J: Disk> Model for Journal<J> {
     ghost use Rattle.std.specs.Prelude.{◌-◌, vec_capacity};
-    ghost use Rattle.journal.specs.Settled.{IsUsable};
+    ghost use Rattle.journal.specs.inside.Settled.{IsUsable};
     ghost use Rattle.journal.specs.Views.{JournalView};
 
     ghost Value = { JournalView };

@@ -17,7 +17,7 @@ use Rattle.tree_model.specs.StoredTree.{label_in, catalogue_in, with_label}
 use Rattle.tree_model.specs.Tree.{Catalogue}
 use Rattle.tree_model.specs.ValidTrees.{same_label, entries_with}
 use Rattle.tree_model.proofs.Keys.{list_tied}
-use Rattle.recovery.specs.Named.{whether_one, Names}
+use Rattle.recovery.specs.inside.Named.{whether_one, Names}
 
 -- the place of an entry among others doesn't matter
 pub one_entry_more : (l : Label) (cat : Catalogue) (c : Name × Label) → entries_with l (cat ++ (c ∷ [])) ≡ cond (same_label l c.1) (suc (entries_with l cat)) (entries_with l cat)

@@ -24,7 +24,7 @@ use Rattle.tree_model.specs.ValidTrees.{entries_with, may_stand}
 use Rattle.tree_model.proofs.Entries.{last_of}
 use Rattle.tree_model.proofs.StoredCatalogues.{NotRoot}
 use Rattle.tree_model.proofs.StoredReads.{get_before, parent_below, catalogue_before_entry, lies_under, has_under_by_last}
-use Rattle.recovery.specs.Named.{Names, StandsBehind}
+use Rattle.recovery.specs.inside.Named.{Names, StandsBehind}
 use Rattle.recovery.proofs.CatalogueLaws.{one_alone}
 
 -- the last entry is the one at the last index

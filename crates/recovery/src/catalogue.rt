@@ -8,7 +8,7 @@ ghost use Rattle.std.specs.Ordering.{nat_cmp};
 ghost use Rattle.tree_model.specs.Names.{Name};
 ghost use Rattle.tree_model.specs.StoredTree.{catalogue_in, catalogue_fits, has_document, label_in, names_document, with_label};
 ghost use Rattle.tree_model.specs.Tree.{Catalogue};
-ghost use Rattle.recovery.specs.Named.{Names};
+ghost use Rattle.recovery.specs.inside.Named.{Names};
 
 use crate::records::{is_document, is_root, label_in};
 use dewey_labels::{Label, NoMemory};

@@ -8,7 +8,7 @@ ghost use Rattle.tree_model.specs.Entries.{Sorted};
 ghost use Rattle.tree_model.specs.Keys.{node_key};
 ghost use Rattle.tree_model.proofs.Entries.{last_of};
 ghost use Rattle.tree_model.proofs.StoredReads.{lies_under};
-ghost use Rattle.recovery.specs.Named.{Names, StandsBehind};
+ghost use Rattle.recovery.specs.inside.Named.{Names, StandsBehind};
 
 use crate::catalogue::{catalogue_fits, is_named_once, name_documents};
 use crate::records::{is_element, is_node, is_root, is_value, may_stand};

@@ -1,7 +1,7 @@
 use Rattle.std.proofs.Common.{◌++◌, ◌∙◌, [], Option, not, ap, sym, subst}
 use Rattle.dewey_labels.specs.Labels.{Label}
 use Rattle.tree_model.specs.StoredTree.{with_label}
-use Rattle.recovery.specs.Named.{Names}
+use Rattle.recovery.specs.inside.Named.{Names}
 use Rattle.recovery.proofs.CatalogueLaws.{one_name_more}
 use Rattle.recovery.proofs.catalogue.name_document.Goals as goal
 
