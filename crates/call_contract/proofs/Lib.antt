@@ -9,5 +9,6 @@ pub mod NoCycles
 pub mod Replay
 pub mod Rising
 pub mod SerialRun
+pub mod SessionBooks
 pub mod Sound
 pub mod Steps

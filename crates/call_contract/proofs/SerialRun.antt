@@ -15,32 +15,30 @@ use Rattle.call_contract.specs.Waits.{cycle_through}
 use Rattle.call_contract.specs.Steps.{Outcome, unless_cycle, settled, attempt, retried, failed, given_up, committed, begun_by, new_live, step_of}
 use Rattle.call_contract.specs.SerialRuns.{Committed, serial, all_given}
 use Rattle.call_contract.specs.Books.{Book, state_of, next, last, IsAnswer, IsRun, HasValidCalls, called, called_again, open_of, commit_of, commits_after}
+use Rattle.call_contract.specs.Sessions.{without_grants}
 use Rattle.call_contract.specs.inside.Soundness.{AllSound}
 use Rattle.call_contract.proofs.Lists.{found_named}
 use Rattle.call_contract.proofs.Replay.{kept_replies}
 use Rattle.call_contract.proofs.Steps.{next_sound}
 
--- ---- what a book tells of a live transaction: all but its grants
+-- ---- what a book tells of live transactions
 
 module _ {C : Type 0} where
-  abbrev bare : Live C → Live C
-  bare t = record t { grants = [] }
+  abbrev pub told_option : Option (Live C) → Option (Live C)
+  told_option None = None
+  told_option (Some t) = Some (without_grants t)
 
-  abbrev bare_option : Option (Live C) → Option (Live C)
-  bare_option None = None
-  bare_option (Some t) = Some (bare t)
+  pub told_found : (s : ℕ) (ts : List (Live C)) → of_session s (map without_grants ts) ≡ told_option (of_session s ts)
+  told_found s [] = refl
+  told_found s (t ∷ ts) = grind (arith, nat_tests, told_found s ts)
 
-  bare_found : (s : ℕ) (ts : List (Live C)) → of_session s (map bare ts) ≡ bare_option (of_session s ts)
-  bare_found s [] = refl
-  bare_found s (t ∷ ts) = grind (arith, nat_tests, bare_found s ts)
+  pub told_put : (t : Live C) (ts : List (Live C)) → put (without_grants t) (map without_grants ts) ≡ map without_grants (put t ts)
+  told_put t [] = refl
+  told_put t (u ∷ us) = grind (arith, nat_tests, told_put t us)
 
-  bare_put : (t : Live C) (ts : List (Live C)) → put (bare t) (map bare ts) ≡ map bare (put t ts)
-  bare_put t [] = refl
-  bare_put t (u ∷ us) = grind (arith, nat_tests, bare_put t us)
-
-  bare_others : (s : ℕ) (ts : List (Live C)) → others s (map bare ts) ≡ map bare (others s ts)
-  bare_others s [] = refl
-  bare_others s (t ∷ ts) = grind (arith, nat_tests, bare_others s ts)
+  pub told_others : (s : ℕ) (ts : List (Live C)) → others s (map without_grants ts) ≡ map without_grants (others s ts)
+  told_others s [] = refl
+  told_others s (t ∷ ts) = grind (arith, nat_tests, told_others s ts)
 
 -- ---- one list of transactions behind another
 
@@ -62,44 +60,44 @@ given_append (d ∷ ds) es = ap (λ (xs : List (List Reply)). given d.calls ∷ 
 module _ {C : Type 0} (m : CallMeaning C) where
   -- a test before a step
   if_not : (st : State C) (b : Bool) (o : Outcome C) (a : EventAnswer) (ts : List (Live C)) → IsAnswer a (if b then None else Some o)
-      → (a ≡ o.answer → ts ≡ map bare o.state.live) → ts ≡ map bare (state_of st (if b then None else Some o)).live
+      → (a ≡ o.answer → ts ≡ map without_grants o.state.live) → ts ≡ map without_grants (state_of st (if b then None else Some o)).live
   if_not st true o a ts e h = absurd e
   if_not st false o a ts e h = h e
 
   if_so : (st : State C) (b : Bool) (o : Outcome C) (a : EventAnswer) (ts : List (Live C)) → IsAnswer a (if b then Some o else None)
-      → ts ≡ map bare o.state.live → ts ≡ map bare (state_of st (if b then Some o else None)).live
+      → ts ≡ map without_grants o.state.live → ts ≡ map without_grants (state_of st (if b then Some o else None)).live
   if_so st true o a ts e h = h
   if_so st false o a ts e h = absurd e
 
-  called_matches : (st : State C) (t : Live C) (c : C) (a : EventAnswer) → a ≡ (attempt m st t c).answer → called (bare t) c a (map bare st.live) ≡ map bare (attempt m st t c).state.live
-  called_matches st t c a e = subst (λ (x : EventAnswer). called (bare t) c x (map bare st.live) ≡ map bare (attempt m st t c).state.live) (sym e) (go (stopped_at m st t c))
+  called_matches : (st : State C) (t : Live C) (c : C) (a : EventAnswer) → a ≡ (attempt m st t c).answer → called (without_grants t) c a (map without_grants st.live) ≡ map without_grants (attempt m st t c).state.live
+  called_matches st t c a e = subst (λ (x : EventAnswer). called (without_grants t) c x (map without_grants st.live) ≡ map without_grants (attempt m st t c).state.live) (sym e) (go (stopped_at m st t c))
     where
-      cycled : (g : Request) (r : Option (List ℕ)) → called (bare t) c (unless_cycle st (waits_with m st t c g) t.session g r).answer (map bare st.live)
-          ≡ map bare (unless_cycle st (waits_with m st t c g) t.session g r).state.live
-      cycled g None = bare_put (record t { grants = t.grants ++ granted m st t c; waits = Some (record { call = c; request = g }) }) st.live
-      cycled g (Some members) = bare_others t.session st.live
+      cycled : (g : Request) (r : Option (List ℕ)) → called (without_grants t) c (unless_cycle st (waits_with m st t c g) t.session g r).answer (map without_grants st.live)
+          ≡ map without_grants (unless_cycle st (waits_with m st t c g) t.session g r).state.live
+      cycled g None = told_put (record t { grants = t.grants ++ granted m st t c; waits = Some (record { call = c; request = g }) }) st.live
+      cycled g (Some members) = told_others t.session st.live
 
-      go : (o : Option Request) → called (bare t) c (settled m st t c o).answer (map bare st.live) ≡ map bare (settled m st t c o).state.live
-      go None = bare_put (record t { calls = t.calls ++ record { call = c; reply = m.reply c (view m t.calls st.tree) } ∷ []; grants = t.grants ++ granted m st t c; waits = None }) st.live
+      go : (o : Option Request) → called (without_grants t) c (settled m st t c o).answer (map without_grants st.live) ≡ map without_grants (settled m st t c o).state.live
+      go None = told_put (record t { calls = t.calls ++ record { call = c; reply = m.reply c (view m t.calls st.tree) } ∷ []; grants = t.grants ++ granted m st t c; waits = None }) st.live
       go (Some g) = cycled g (cycle_through (waits_with m st t c g).live t.session)
 
-  again_matches : (st : State C) (t : Live C) (w : Option (Waiting C)) (a : EventAnswer) → IsAnswer a (retried m st t w) → called_again (bare t) w a (map bare st.live) ≡ map bare (state_of st (retried m st t w)).live
+  again_matches : (st : State C) (t : Live C) (w : Option (Waiting C)) (a : EventAnswer) → IsAnswer a (retried m st t w) → called_again (without_grants t) w a (map without_grants st.live) ≡ map without_grants (state_of st (retried m st t w)).live
   again_matches st t None a e = absurd e
   again_matches st t (Some w) a e = called_matches st t w.call a e
 
   given_up_matches : (st : State C) (t : Live C) (c : Option C) (w : Option (Waiting C)) (k : ℕ) (f : Option ℕ) (a : EventAnswer) → IsAnswer a (given_up m st t c w k f)
-      → put (record { session = t.session; ordinal = t.ordinal; calls = t.calls; grants = []; waits = None }) (map bare st.live) ≡ map bare (state_of st (given_up m st t c w k f)).live
+      → put (record { session = t.session; ordinal = t.ordinal; calls = t.calls; grants = []; waits = None }) (map without_grants st.live) ≡ map without_grants (state_of st (given_up m st t c w k f)).live
   given_up_matches st t (Some c) None k f a e = if_so st ((is_some f || nat_lt 0 k) && nat_le k (length (granted m st t c))) (failed m st t c k) a _ e
-      (bare_put (record t { grants = t.grants ++ take k (granted m st t c); waits = None }) st.live)
+      (told_put (record t { grants = t.grants ++ take k (granted m st t c); waits = None }) st.live)
   given_up_matches st t None (Some w) k f a e = if_so st (nat_le k (length (granted m st t w.call))) (failed m st t w.call k) a _ e
-      (bare_put (record t { grants = t.grants ++ take k (granted m st t w.call); waits = None }) st.live)
+      (told_put (record t { grants = t.grants ++ take k (granted m st t w.call); waits = None }) st.live)
   given_up_matches st t (Some c) (Some w) k f a e = absurd e
   given_up_matches st t None None k f a e = absurd e
 
-  open_matches : (st : State C) (s : ℕ) (o : Option (Live C)) (e : Event C) (a : EventAnswer) → of_session s st.live ≡ o → IsAnswer a (step_of m st s o e)
-      → open_of s (bare_option o) e a (map bare st.live) ≡ map bare (state_of st (step_of m st s o e)).live
+  pub open_matches : (st : State C) (s : ℕ) (o : Option (Live C)) (e : Event C) (a : EventAnswer) → of_session s st.live ≡ o → IsAnswer a (step_of m st s o e)
+      → open_of s (told_option o) e a (map without_grants st.live) ≡ map without_grants (state_of st (step_of m st s o e)).live
   open_matches st s None Begin a found e = if_not st (st.opening + st.begun == st.limit) (record { state = begun_by st s; answer = said.Number (st.ordinals s + 1) }) a _ e
-      (λ is. subst (λ (x : EventAnswer). open_of s None Begin x (map bare st.live) ≡ map bare (begun_by st s).live) (sym is) (bare_put (new_live s (st.ordinals s + 1)) st.live))
+      (λ is. subst (λ (x : EventAnswer). open_of s None Begin x (map without_grants st.live) ≡ map without_grants (begun_by st s).live) (sym is) (told_put (new_live s (st.ordinals s + 1)) st.live))
   open_matches st s None (Call c) a found e = absurd e
   open_matches st s None Retry a found e = absurd e
   open_matches st s None (Fail c k f) a found e = absurd e
@@ -110,8 +108,8 @@ module _ {C : Type 0} (m : CallMeaning C) where
   open_matches st s (Some t) Retry a found e = again_matches st t t.waits a e
   open_matches st s (Some t) (Fail c k f) a found e = given_up_matches st t c t.waits k f a e
   open_matches st s (Some t) Commit a found e = if_not st (is_some t.waits) (record { state = committed m st t; answer = said.Number (st.number + 1) }) a _ e
-      (λ is. subst (λ x. others x (map bare st.live) ≡ map bare (others t.session st.live)) (found_named s st.live t found) (bare_others t.session st.live))
-  open_matches st s (Some t) Abort a found e = bare_others s st.live
+      (λ is. subst (λ x. others x (map without_grants st.live) ≡ map without_grants (others t.session st.live)) (found_named s st.live t found) (told_others t.session st.live))
+  open_matches st s (Some t) Abort a found e = told_others s st.live
 
   -- ---- only a commit changes the committed tree
 
@@ -157,7 +155,7 @@ module _ {C : Type 0} (is_valid : C → Type 0) (m : CallMeaning C) (laws : Call
     tree : (serial m ds st.tree).tree ≡ after.tree
 
   commit_matches : (st : State C) (s : ℕ) (o : Option (Live C)) (e : Event C) (a : EventAnswer) → AllSound is_valid m st.tree st.live → of_session s st.live ≡ o → IsAnswer a (step_of m st s o e)
-      → Adds st (commit_of (bare_option o) e) (state_of st (step_of m st s o e))
+      → Adds st (commit_of (told_option o) e) (state_of st (step_of m st s o e))
   commit_matches st s None Begin a all found is = record { replies = refl; tree = same_if m st (st.opening + st.begun == st.limit) (record { state = begun_by st s; answer = said.Number (st.ordinals s + 1) }) refl }
   commit_matches st s None (Call c) a all found is = absurd is
   commit_matches st s None Retry a all found is = absurd is
@@ -176,19 +174,19 @@ module _ {C : Type 0} (is_valid : C → Type 0) (m : CallMeaning C) (laws : Call
 
   pub run_serial : (st : State C) (book : Book C) → HasValidCalls is_valid book → AllSound is_valid m st.tree st.live → IsRun m st book
       → record {
-        replies : (serial m (commits_after (map bare st.live) book) st.tree).replies ≡ all_given (commits_after (map bare st.live) book);
-        tree : (serial m (commits_after (map bare st.live) book) st.tree).tree ≡ (last m st book).tree;
+        replies : (serial m (commits_after (map without_grants st.live) book) st.tree).replies ≡ all_given (commits_after (map without_grants st.live) book);
+        tree : (serial m (commits_after (map without_grants st.live) book) st.tree).tree ≡ (last m st book).tree;
       }
   run_serial st [] valid all run = record { replies = refl; tree = refl }
   run_serial st (n ∷ ns) valid all run =
       let o = of_session n.session st.live in
-      let ds = commit_of (bare_option o) n.event in
-      let es = commits_after (map bare (next m st n).live) ns in
+      let ds = commit_of (told_option o) n.event in
+      let es = commits_after (map without_grants (next m st n).live) ns in
       let rest = run_serial (next m st n) ns valid.1 (next_sound is_valid m laws st n valid.0 all) run.1 in
       let here = commit_matches st n.session o n.event n.answer all refl run.0 in
       let desk = open_matches m st n.session o n.event n.answer refl run.0 in
-      let known : commits_after (map bare st.live) (n ∷ ns) ≡ ds ++ es =
-      ap (λ (x : Option (Live C)). commit_of x n.event ++ commits_after (open_of n.session x n.event n.answer (map bare st.live)) ns) (bare_found n.session st.live)
+      let known : commits_after (map without_grants st.live) (n ∷ ns) ≡ ds ++ es =
+      ap (λ (x : Option (Live C)). commit_of x n.event ++ commits_after (open_of n.session x n.event n.answer (map without_grants st.live)) ns) (told_found n.session st.live)
       ∙ ap (λ (x : List (Live C)). ds ++ commits_after x ns) desk in
       record {
         replies = rw known (serial_replies_append m ds es st.tree ∙ ap₂ (λ (x y : List (List Reply)). x ++ y) here.replies (ap (λ (x : Tree). (serial m es x).replies) here.tree ∙ rest.replies) ∙ sym (given_append ds es));

@@ -7,6 +7,7 @@ pub mod Steps
 pub mod SerialRuns
 pub mod Books
 pub mod CallChanges
+pub mod Sessions
 -- Words of laws about a run: what one transaction's commit leaves of another's calls, and what an abort or a deadlock leaves, and what a deadlock shows.
 pub mod Replays
 pub mod Lives

@@ -1,1 +1,2 @@
+-- Words that only the proofs use.
 pub mod Soundness

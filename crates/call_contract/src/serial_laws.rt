@@ -1,6 +1,6 @@
 //! Why the lock machine's runs are serial: laws of the definitions, for every type of calls that keeps the four laws.
 
-ghost use Rattle.std.specs.Prelude.{◌≡◌, ◌↔◌, ◌++◌, ◌∷◌, [], ℕ, List, Option};
+ghost use Rattle.std.specs.Prelude.{◌≡◌, ◌↔◌, ◌+◌, ◌++◌, ◌∷◌, [], ℕ, List, map, Option};
 ghost use Rattle.std.specs.List.{AllByRecursion};
 ghost use Rattle.lock_resources.specs.declared.request.Request.{Request};
 ghost use Rattle.tree_model.specs.Changes.{laid};
@@ -15,11 +15,12 @@ ghost use Rattle.call_contract.specs.declared.events.EventAnswer.{EventAnswer};
 ghost use Rattle.call_contract.specs.declared.events.Noted.{Noted};
 ghost use Rattle.call_contract.specs.Calls.{changes_of};
 ghost use Rattle.call_contract.specs.CallChanges.{changes_of_calls, LeadTo, ChangesLead, ChangesStay};
-ghost use Rattle.call_contract.specs.States.{Answered, State, start, others, view};
+ghost use Rattle.call_contract.specs.States.{Answered, Live, State, start, others, view};
 ghost use Rattle.call_contract.specs.Attempts.{holders};
 ghost use Rattle.call_contract.specs.Waits.{NoCycle};
 ghost use Rattle.call_contract.specs.Steps.{step};
 ghost use Rattle.call_contract.specs.Books.{Book, entry, next, last, IsAnswer, IsRun, FaultsRise, last_fault, IsBookFrom, IsReached, IsSerial};
+ghost use Rattle.call_contract.specs.Sessions.{live_after, without_grants, queue_after, begins, begins_of, commits_in};
 ghost use Rattle.call_contract.specs.Replays.{IsAskedTheSame};
 ghost use Rattle.call_contract.specs.Lives.{RepliesStand, WritesAreCovered, CommitsReplay, NoCellIsShared};
 ghost use Rattle.call_contract.specs.Ends.{LeavesAllElse};
@@ -91,4 +92,18 @@ pub fn books_append<C: TreeCall>()
     ensures last { (st : State C) (b d : Book C) → last C.meaning st (b ++ d) ≡ last C.meaning (last C.meaning st b) d }
     ensures run { (st : State C) (b d : Book C) → IsRun C.meaning st (b ++ d) ↔ (IsRun C.meaning st b × IsRun C.meaning (last C.meaning st b) d) }
     ensures faults { (f : Option ℕ) (b d : Book C) → FaultsRise f (b ++ d) ↔ (FaultsRise f b × FaultsRise (last_fault f b) d) }
+    ensures live { (ts : List (Live C)) (b d : Book C) → live_after ts (b ++ d) ≡ live_after (live_after ts b) d }
+    ensures queue { (ss : List ℕ) (b d : Book C) → queue_after ss (b ++ d) ≡ queue_after (queue_after ss b) d }
+    ensures begun { (b d : Book C) → begins (b ++ d) ≡ begins b + begins d }
+    ensures ordinals { (b d : Book C) (s : ℕ) → begins_of (b ++ d) s ≡ begins_of b s + begins_of d s }
+    ensures commits { (b d : Book C) → commits_in (b ++ d) ≡ commits_in b + commits_in d }
+{}
+
+/// What the book of a run tells of its sessions is so in the state after it: who is live, with which answered calls and waits, who waits in which order, and the counts.
+pub fn books_tell_of_sessions<C: TreeCall>()
+    ensures live { (t : Tree) (n limit : ℕ) (b : Book C) → IsRun C.meaning (start t n limit) b → live_after [] b ≡ map without_grants (last C.meaning (start t n limit) b).live }
+    ensures queue { (t : Tree) (n limit : ℕ) (b : Book C) → IsRun C.meaning (start t n limit) b → queue_after [] b ≡ (last C.meaning (start t n limit) b).waiting }
+    ensures begun { (t : Tree) (n limit : ℕ) (b : Book C) → IsRun C.meaning (start t n limit) b → begins b ≡ (last C.meaning (start t n limit) b).begun }
+    ensures ordinals { (t : Tree) (n limit : ℕ) (b : Book C) (s : ℕ) → IsRun C.meaning (start t n limit) b → begins_of b s ≡ (last C.meaning (start t n limit) b).ordinals s }
+    ensures number { (t : Tree) (n limit : ℕ) (b : Book C) → IsRun C.meaning (start t n limit) b → n + commits_in b ≡ (last C.meaning (start t n limit) b).number }
 {}
