@@ -21,11 +21,11 @@ use Rattle.tx_core.specs.declared.asking.Got.{Got}
 use Rattle.tx_core.specs.declared.asking.Got.TheVariants.{All, Barred, NoMemory}
 use Rattle.tx_core.specs.inside.Asking.{granted_in, IsInside}
 use Rattle.tx_core.specs.inside.Standing.{Stands}
-use Rattle.tx_core.specs.inside.Goes.{Goes, with_grants, Reaches, IsFreeUpTo, IsAsked, IsAnswered, IsPut, IsClosed, IsStopped, IsFailed, IsFreeFront, IsGivenUp, IsLeft, IsSettled, IsUnanswered, Stays, with_answer, with_wait, unqueued, call_entry, fail_entry}
+use Rattle.tx_core.specs.inside.Goes.{Goes, with_grants, Reaches, IsFreeUpTo, IsAsked, IsAnswered, IsStopped, IsFailed, IsFreeFront, IsGivenUp, IsLeft, IsSettled, IsUnanswered, Stays, with_answer, with_wait, unqueued, call_entry, fail_entry}
 use Rattle.tx_core.proofs.Moves.{goes_by}
 use Rattle.tx_core.proofs.Reached.{front_in}
 
-there_is : {A : Type 0} (xs : List A) (k : ℕ) → k < length xs → (x : A) × (x ≡ get_or xs k x)
+pub there_is : {A : Type 0} (xs : List A) (k : ℕ) → k < length xs → (x : A) × (x ≡ get_or xs k x)
 there_is [] k lt = absurd_of (omega (arith, lt))
   where
     absurd_of : {A : Type 0} → ⊥ → A
@@ -33,15 +33,15 @@ there_is [] k lt = absurd_of (omega (arith, lt))
 there_is (x ∷ xs) zero lt = (x, refl)
 there_is (x ∷ xs) (suc k) lt = there_is xs k (omega (arith, lt))
 
-same_at : {A : Type 0} (xs : List A) (k : ℕ) (x y : A) → k < length xs → x ≡ get_or xs k x → y ≡ get_or xs k y → x ≡ y
+pub same_at : {A : Type 0} (xs : List A) (k : ℕ) (x y : A) → k < length xs → x ≡ get_or xs k x → y ≡ get_or xs k y → x ≡ y
 same_at xs k x y lt e f = e ∙ get_or_default xs k x y lt ∙ sym f
 
 module _ {C : Type 0} where
-  put_twice : (t u : Live C) (ts : List (Live C)) → u.session ≡ t.session → put t (put u ts) ≡ put t ts
+  pub put_twice : (t u : Live C) (ts : List (Live C)) → u.session ≡ t.session → put t (put u ts) ≡ put t ts
   put_twice t u [] same = grind (arith, nat_tests, same)
   put_twice t u (v ∷ vs) same = grind (arith, nat_tests, same, put_twice t u vs same)
 
-  others_put : (s : ℕ) (t : Live C) (ts : List (Live C)) → t.session ≡ s → others s (put t ts) ≡ others s ts
+  pub others_put : (s : ℕ) (t : Live C) (ts : List (Live C)) → t.session ≡ s → others s (put t ts) ≡ others s ts
   others_put s t [] same = grind (arith, nat_tests, same)
   others_put s t (v ∷ vs) same = grind (arith, nat_tests, same, others_put s t vs same)
 
@@ -54,13 +54,13 @@ module _ {C B : Type 0} (is_valid : C → Type 0) (m : CallMeaning C) (told : B 
       ∙ ap (λ (w : Option (Waiting C)). if is_some w then None else Some (steps.attempt m st t c)) ready
 
   -- what it is granted, and where it is stopped, by the requests that were asked
-  granted_by : (st : State C) (t : Live C) (c : C) (asks front : List Request) → asks ≡ machine.asked m st t c → machine.free asks (others t.session st.live) ≡ front → machine.granted m st t c ≡ front
+  pub granted_by : (st : State C) (t : Live C) (c : C) (asks front : List Request) → asks ≡ machine.asked m st t c → machine.free asks (others t.session st.live) ≡ front → machine.granted m st t c ≡ front
   granted_by st t c asks front are is = ap (λ xs. machine.free xs (others t.session st.live)) (sym are) ∙ is
 
-  stopped_by : (st : State C) (t : Live C) (c : C) (asks : List Request) (o : Option Request) → asks ≡ machine.asked m st t c → machine.barred asks (others t.session st.live) ≡ o → machine.stopped_at m st t c ≡ o
+  pub stopped_by : (st : State C) (t : Live C) (c : C) (asks : List Request) (o : Option Request) → asks ≡ machine.asked m st t c → machine.barred asks (others t.session st.live) ≡ o → machine.stopped_at m st t c ≡ o
   stopped_by st t c asks o are is = ap (λ xs. machine.barred xs (others t.session st.live)) (sym are) ∙ is
 
-  more_found : (st : State C) (s : ℕ) (t : Live C) (got : List Request) → of_session s st.live ≡ Some t → of_session s (with_grants st t got).live ≡ Some (record t { grants = t.grants ++ got })
+  pub more_found : (st : State C) (s : ℕ) (t : Live C) (got : List Request) → of_session s st.live ≡ Some t → of_session s (with_grants st t got).live ≡ Some (record t { grants = t.grants ++ got })
   more_found st s t got found = ap (λ x. of_session x (put (record t { grants = t.grants ++ got }) st.live)) (sym (found_named s st.live t found)) ∙ found_put (record t { grants = t.grants ++ got }) st.live
 
   answered_goes : (p p1 p2 q : Parts C B) (s : ℕ) (c : C) (asks : List Request) (a : Answer) → is_valid c
@@ -70,7 +70,7 @@ module _ {C B : Type 0} (is_valid : C → Type 0) (m : CallMeaning C) (told : B 
       → p2.book.items ≡ p.book.items → p2.faults ≡ p.faults
       → IsAnswered is_valid m told p2 s c a q → Goes is_valid m told p (call_entry s c a) q
   answered_goes p p1 p2 q s c asks a valid asked stays reach same faults is =
-      goes_by is_valid m told p (call_entry s c a) q (is.book ∙ ap (λ xs. xs ++ call_entry s c a ∷ []) same) valid tt (is.faults ∙ faults) moves
+      goes_by is_valid m told p (call_entry s c a) q (is.book ∙ ap (λ xs. xs ++ call_entry s c a ∷ []) same) valid tt (is.faults ∙ faults) is.prepared moves
     where
       moves : (st : State C) → Stands is_valid m told p st → (o : steps.Outcome C) × (steps.step m st s (event.Call c) ≡ Some o) × (said.Call a ≡ o.answer) × Stands is_valid m told q o.state
       moves st stands =
@@ -101,7 +101,7 @@ module _ {C B : Type 0} (is_valid : C → Type 0) (m : CallMeaning C) (told : B 
       → p2.book.items ≡ p.book.items → p2.faults ≡ p.faults
       → IsStopped is_valid m told p2 s c g hs a q → Goes is_valid m told p (call_entry s c a) q
   stopped_goes p p1 p2 q s c asks k g hs a valid asked stays reach same faults (inl is) =
-      goes_by is_valid m told p (call_entry s c a) q (is.book ∙ ap (λ xs. xs ++ call_entry s c a ∷ []) same) valid tt (is.faults ∙ faults) moves
+      goes_by is_valid m told p (call_entry s c a) q (is.book ∙ ap (λ xs. xs ++ call_entry s c a ∷ []) same) valid tt (is.faults ∙ faults) is.prepared moves
     where
       moves : (st : State C) → Stands is_valid m told p st → (o : steps.Outcome C) × (steps.step m st s (event.Call c) ≡ Some o) × (said.Call a ≡ o.answer) × Stands is_valid m told q o.state
       moves st stands =
@@ -127,7 +127,7 @@ module _ {C B : Type 0} (is_valid : C → Type 0) (m : CallMeaning C) (told : B 
             subst (λ (x : State C). Stands is_valid m told q x) final (is.state st1 t1 got.1 found1),
           )
   stopped_goes p p1 p2 q s c asks k g hs a valid asked stays reach same faults (inr is) =
-      goes_by is_valid m told p (call_entry s c a) q (is.book ∙ ap (λ xs. xs ++ call_entry s c a ∷ []) same) valid tt (is.faults ∙ faults) moves
+      goes_by is_valid m told p (call_entry s c a) q (is.book ∙ ap (λ xs. xs ++ call_entry s c a ∷ []) same) valid tt (is.faults ∙ faults) is.prepared moves
     where
       moves : (st : State C) → Stands is_valid m told p st → (o : steps.Outcome C) × (steps.step m st s (event.Call c) ≡ Some o) × (said.Call a ≡ o.answer) × Stands is_valid m told q o.state
       moves st stands =
@@ -163,7 +163,7 @@ module _ {C B : Type 0} (is_valid : C → Type 0) (m : CallMeaning C) (told : B 
       → IsFailed is_valid m told p2 s c k f q → Goes is_valid m told p (fail_entry s c k f) q
   failed_goes p p1 p2 q s c asks k f valid asked stays reach same faults is =
       goes_by is_valid m told p (fail_entry s c k f) q (is.book ∙ ap (λ xs. xs ++ fail_entry s c k f ∷ []) same) valid
-      (subst (λ (b : Option ℕ). Rattle.call_contract.specs.Books.IsAbove b f) faults is.above) (is.faults ∙ ap (λ (b : Option ℕ). latest b f) faults) moves
+      (subst (λ (b : Option ℕ). Rattle.call_contract.specs.Books.IsAbove b f) faults is.above) (is.faults ∙ ap (λ (b : Option ℕ). latest b f) faults) is.prepared moves
     where
       moves : (st : State C) → Stands is_valid m told p st → (o : steps.Outcome C) × (steps.step m st s (event.Fail (Some c) k f) ≡ Some o) × (said.Nothing ≡ o.answer) × Stands is_valid m told q o.state
       moves st stands =
@@ -195,6 +195,7 @@ module _ {C B : Type 0} (is_valid : C → Type 0) (m : CallMeaning C) (told : B 
           book = is.book ∙ ap (λ xs. xs ++ fail_entry s c k f ∷ []) stays.book;
           above = subst (λ (b : Option ℕ). Rattle.call_contract.specs.Books.IsAbove b f) stays.faults is.above;
           faults = is.faults ∙ ap (λ (b : Option ℕ). latest b f) stays.faults;
+          prepared = is.prepared;
           some = is.some;
           state = λ st stands. is.state st (stays.state st stands);
         },
@@ -220,9 +221,9 @@ module _ {C B : Type 0} (is_valid : C → Type 0) (m : CallMeaning C) (told : B 
       → ((st : State C) → Stands is_valid m told p st → IsAsked m st s c asks)
       → ((st : State C) → Stands is_valid m told p st → Stands is_valid m told p1 st)
       → ((st : State C) (t : Live C) → Stands is_valid m told p1 st → of_session s st.live ≡ Some t → Reaches is_valid m told st t asks p2 got)
-      → (granted_in asks got ≡ 0 → (st : State C) → Stands is_valid m told p1 st → Stands is_valid m told p2 st) → p2.book.items ≡ p.book.items → p2.faults ≡ p.faults
+      → (granted_in asks got ≡ 0 → (st : State C) → Stands is_valid m told p1 st → Stands is_valid m told p2 st) → p2.book.items ≡ p.book.items → p2.faults ≡ p.faults → p2.prepared ≡ p.prepared
       → IsLeft is_valid m told p2 s c (granted_in asks got) q → IsUnanswered is_valid m told p s c q
-  left_goes p p1 p2 q s c asks got valid asked stays reach untouched same faults (inl (none, is)) =
-      inl (record { book = is.book ∙ same; faults = is.faults ∙ faults; state = λ st stands. is.state st (untouched none st (stays st stands)) })
-  left_goes p p1 p2 q s c asks got valid asked stays reach untouched same faults (inr (f, is)) =
+  left_goes p p1 p2 q s c asks got valid asked stays reach untouched same faults prepared (inl (none, is)) =
+      inl (record { book = is.book ∙ same; faults = is.faults ∙ faults; prepared = is.prepared ∙ prepared; state = λ st stands. is.state st (untouched none st (stays st stands)) })
+  left_goes p p1 p2 q s c asks got valid asked stays reach untouched same faults prepared (inr (f, is)) =
       inr (granted_in asks got, f, failed_goes p p1 p2 q s c asks (granted_in asks got) f valid asked stays (λ st t stands found. front_in is_valid m told st t asks p2 got (reach st t stands found)) same faults is)

@@ -1,18 +1,17 @@
 -- The cycle that the wait graph shows is the machine's.
-use Rattle.std.proofs.Common.{◌≡◌, ℕ, Bool, true, false, not, ◌&&◌, ◌==◌, List, [], Option, Some, None, refl, sym, ap, ap₂, subst, ◌∙◌, arith, true≢false}
+use Rattle.std.proofs.Common.{◌≡◌, ℕ, Bool, true, false, not, ◌&&◌, ◌==◌, List, Option, Some, None, refl, sym, ap, ap₂, subst, ◌∙◌, arith, true≢false}
 use Rattle.std.proofs.lemmas.Bool.Decides.{nat_tests}
 use Rattle.lock_resources.specs.declared.request.Request.{Request}
 use Rattle.lock_table.specs.Asks.{is_barred_by}
 use Rattle.lock_table.specs.Grants.{join_of, IsTableOf}
-use Rattle.lock_table.specs.Tables.{Table, held}
-use Rattle.tree_cells.specs.Clashes.{bars}
+use Rattle.lock_table.specs.Tables.{Table}
 use Rattle.wait_cycles.specs.Walks.{Rises}
-use Rattle.wait_cycles.specs.Cycles.{is_cycle, IsFirst, IsCycleThrough}
+use Rattle.wait_cycles.specs.Cycles.{IsCycleThrough}
 use Rattle.wait_cycles.proofs.Shown.{shown}
 use Rattle.wait_cycles.proofs.Unique.{one_first}
 use Rattle.wait_graph.specs.Graphs as graph
 use Rattle.call_contract.specs.States.{Waiting, Live, of_session, sessions}
-use Rattle.call_contract.specs.Waits.{stops, is_stopped_by, waits_for, cycle_through}
+use Rattle.call_contract.specs.Waits.{stops, waits_for, cycle_through}
 use Rattle.call_contract.proofs.Held.{held_bars}
 use Rattle.call_contract.proofs.Lists.{found_named}
 use Rattle.call_contract.proofs.NoCycles.{nobody_for_himself, waiters_live}

@@ -1,11 +1,10 @@
 -- Begins and aborts: the machine's step, and that the core stands for the state after it.
-use Rattle.std.proofs.Common.{◌≡◌, ℕ, ◌+◌, Bool, true, false, cond, List, [], ◌∷◌, ◌++◌, Option, Some, None, ◌==◌, is_some, refl, sym, ap, ap₂, subst, ◌∙◌, arith, if◌then◌else◌}
+use Rattle.std.proofs.Common.{◌≡◌, ℕ, ◌+◌, Bool, true, false, cond, List, [], ◌∷◌, ◌++◌, Option, Some, None, ◌==◌, refl, sym, ap, ap₂, subst, ◌∙◌, arith, if◌then◌else◌}
 use Rattle.std.specs.Ordering.{nat_cmp}
 use Rattle.std.specs.BTreeMap.{get}
 use Rattle.tree_model.specs.Tree.{map_of}
 use Rattle.tree_model.specs.Entries.{Entries, changed}
 use Rattle.tree_model.specs.declared.change.Change.{Change}
-use Rattle.lock_resources.specs.declared.request.Request.{Request}
 use Rattle.lock_table.specs.Grants.{IsTableOf}
 use Rattle.lock_table.specs.Tables.{Table, IsReleased}
 use Rattle.lock_table.proofs.Granted.{released_table}
@@ -15,7 +14,7 @@ use Rattle.wait_graph.specs.Graphs.{Graph, waits, with_request}
 use Rattle.call_contract.specs.Calls.{CallMeaning}
 use Rattle.call_contract.specs.States.{Live, State, of_session, put, others, without, ended}
 use Rattle.call_contract.specs.Steps as steps
-use Rattle.call_contract.specs.Books.{state_of, next, IsAnswer, HasValidCall, IsAbove, latest, fault_in, entry}
+use Rattle.call_contract.specs.Books.{state_of, IsAnswer, HasValidCall, IsAbove, latest, fault_in, entry}
 use Rattle.call_contract.specs.declared.events.Event.TheVariants as event
 use Rattle.call_contract.specs.declared.events.EventAnswer.TheVariants as said
 use Rattle.call_contract.specs.declared.events.Noted.{Noted}
@@ -57,14 +56,15 @@ module _ {C B : Type 0} (is_valid : C → Type 0) (m : CallMeaning C) (told : B 
 
   -- a step that the machine makes, and the state that it leaves
   pub goes_by : (p : Parts C B) (n : Noted C) (q : Parts C B)
-      → q.book.items ≡ p.book.items ++ n ∷ [] → HasValidCall is_valid n.event → IsAbove p.faults (fault_in n.event) → q.faults ≡ latest p.faults (fault_in n.event)
+      → q.book.items ≡ p.book.items ++ n ∷ [] → HasValidCall is_valid n.event → IsAbove p.faults (fault_in n.event) → q.faults ≡ latest p.faults (fault_in n.event) → q.prepared ≡ None
       → ((st : State C) → Stands is_valid m told p st → (o : steps.Outcome C) × (steps.step m st n.session n.event ≡ Some o) × (n.answer ≡ o.answer) × Stands is_valid m told q o.state)
       → Goes is_valid m told p n q
-  goes_by p n q book valid above faults moves = record {
+  goes_by p n q book valid above faults prepared moves = record {
     book = book;
     valid = valid;
     above = above;
     faults = faults;
+    prepared = prepared;
     entry = λ st stands. subst (λ (o : Option (steps.Outcome C)). IsAnswer n.answer o) (sym (moves st stands).1) (moves st stands).2;
     state = λ st stands. subst (λ (x : State C). Stands is_valid m told q x) (sym (ap (state_of st) (moves st stands).1)) (moves st stands).3;
   }
@@ -76,11 +76,11 @@ module _ {C B : Type 0} (is_valid : C → Type 0) (m : CallMeaning C) (told : B 
       → ordinal ≡ ordinal_in (get nat_cmp p.places s) + 1
       → ((o : ℕ) → seat_in (get nat_cmp q.places o) ≡ cond (s == o) (Some (record { own = own; waiting = None })) (seat_in (get nat_cmp p.places o)))
       → ((o : ℕ) → ordinal_in (get nat_cmp q.places o) ≡ cond (s == o) ordinal (ordinal_in (get nat_cmp p.places o)))
-      → Alike p q → q.begun ≡ p.begun + 1 → q.table ≡ p.table → q.graph ≡ p.graph → q.waiting.items ≡ p.waiting.items → q.faults ≡ p.faults
+      → Alike p q → q.begun ≡ p.begun + 1 → q.table ≡ p.table → q.graph ≡ p.graph → q.waiting.items ≡ p.waiting.items → q.faults ≡ p.faults → q.prepared ≡ None
       → q.book.items ≡ p.book.items ++ entry s event.Begin (said.Number ordinal) ∷ []
       → Goes is_valid m told p (entry s event.Begin (said.Number ordinal)) q
-  begin_goes p q s ordinal own empty free room is seats ordinals alike begun table graph waiting faults adds =
-      goes_by p (entry s event.Begin (said.Number ordinal)) q adds tt tt faults (λ st stands. (record { state = steps.begun_by st s; answer = said.Number (st.ordinals s + 1) }, steps_so st stands, ap said.Number (rank st stands), stands_then st stands))
+  begin_goes p q s ordinal own empty free room is seats ordinals alike begun table graph waiting faults prepared adds =
+      goes_by p (entry s event.Begin (said.Number ordinal)) q adds tt tt faults prepared (λ st stands. (record { state = steps.begun_by st s; answer = said.Number (st.ordinals s + 1) }, steps_so st stands, ap said.Number (rank st stands), stands_then st stands))
     where
       test : (st : State C) → Stands is_valid m told p st → (st.opening + st.begun == st.limit) ≡ false
       test st stands = ap₂ (λ (x y : ℕ). x + y == st.limit) (sym stands.opened) (sym stands.begun) ∙ ap (λ x. p.opened + p.begun == x) (sym stands.limit) ∙ room
@@ -103,7 +103,7 @@ module _ {C B : Type 0} (is_valid : C → Type 0) (m : CallMeaning C) (told : B 
             committed = committed_alike p q (Some (map_of st.tree)) alike stands.committed;
             valid = stands.valid;
             seats = seats_put is_valid m st.tree st.live (λ u. seat_in (get nat_cmp p.places u)) (λ u. seat_in (get nat_cmp q.places u)) s (record { own = own; waiting = None }) (one st) stands.seats seats refl
-                (record { own = ap (λ cs. changed cs (map_of st.tree)) empty; waits = refl; valid = tt });
+                (record { changes = empty; own = ap (λ cs. changed cs (map_of st.tree)) empty; waits = refl; valid = tt });
             ordinals = λ o. ordinals o ∙ ranked st stands o;
             table = subst (λ (x : Table). IsTableOf x (λ u. grants_of (of_session u (put (one st) st.live)))) (sym table)
                 (table_same p.table (λ u. grants_of (of_session u st.live)) (λ u. grants_of (of_session u (put (one st) st.live))) (told_kept grants_of st.live s (one st) refl (sym (ap grants_of none))) stands.table);
@@ -153,11 +153,11 @@ module _ {C B : Type 0} (is_valid : C → Type 0) (m : CallMeaning C) (told : B 
       → ((o : ℕ) → seat_in (get nat_cmp q.places o) ≡ cond (s == o) None (seat_in (get nat_cmp p.places o)))
       → ((o : ℕ) → ordinal_in (get nat_cmp q.places o) ≡ ordinal_in (get nat_cmp p.places o))
       → Alike p q → q.begun ≡ p.begun → IsReleased p.table s q.table → ((o : ℕ) → waits q.graph o ≡ with_request (waits p.graph) s None o) → q.waiting.items ≡ without s p.waiting.items
-      → q.faults ≡ p.faults
+      → q.faults ≡ p.faults → q.prepared ≡ None
       → q.book.items ≡ p.book.items ++ entry s event.Abort said.Nothing ∷ []
       → Goes is_valid m told p (entry s event.Abort said.Nothing) q
-  abort_goes p q s seat some seats ordinals alike begun released stopped waiting faults adds =
-      goes_by p (entry s event.Abort said.Nothing) q adds tt tt faults (λ st stands. (
+  abort_goes p q s seat some seats ordinals alike begun released stopped waiting faults prepared adds =
+      goes_by p (entry s event.Abort said.Nothing) q adds tt tt faults prepared (λ st stands. (
         record { state = ended st s; answer = said.Nothing },
         ap (λ (o : Option (Live C)). steps.step_of m st s o event.Abort) (is_live p st s seat stands some).1,
         refl,

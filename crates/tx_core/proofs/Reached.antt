@@ -1,5 +1,5 @@
 -- What a live transaction sees, asks and gets.
-use Rattle.std.proofs.Common.{◌≡◌, ◌≢◌, ℕ, Bool, true, false, cond, not, ◌&&◌, zero, suc, List, [], ◌∷◌, ◌++◌, take, drop, length, length-take-le, take_all, nat_le, ◌≤◌, Option, Some, None, ◌==◌, is_some, refl, sym, ap, ap₂, subst, ◌∙◌, arith, if◌then◌else◌}
+use Rattle.std.proofs.Common.{◌≡◌, ◌≢◌, ℕ, Bool, true, false, cond, not, ◌&&◌, List, [], ◌∷◌, ◌++◌, take, drop, length, length-take-le, take_all, nat_le, ◌≤◌, Option, Some, None, ◌==◌, is_some, refl, sym, ap, ap₂, subst, ◌∙◌, arith, if◌then◌else◌}
 use Rattle.std.proofs.lemmas.List.{take-append-drop}
 use Rattle.std.proofs.lemmas.Bool.Decides.{nat_tests}
 use Rattle.std.proofs.Math.Nat.{le_refl}
@@ -10,6 +10,7 @@ use Rattle.std.specs.BTreeMap as tree
 use Rattle.tree_model.specs.Tree.{Tree, map_of}
 use Rattle.tree_model.specs.ValidTrees.{IsValidTree}
 use Rattle.tree_model.specs.Entries.{Entries, Sorted, changed}
+use Rattle.tree_model.specs.Changes.{laid}
 use Rattle.tree_model.specs.declared.change.Change.{Change}
 use Rattle.tree_model.specs.declared.reply.Reply.{Reply}
 use Rattle.tree_model.proofs.Differences.{changed_differences}
@@ -20,9 +21,11 @@ use Rattle.lock_table.specs.Tables.{Table}
 use Rattle.node_seq.specs.Trees.{StandsFor}
 use Rattle.overlays.specs.Views.{contents_after}
 use Rattle.wait_graph.specs.Graphs.{Graph, waits, with_request}
+use Rattle.call_contract.specs.CallChanges.{changes_of_calls}
 use Rattle.call_contract.specs.Calls.{CallMeaning, CallLaws, changes_of}
-use Rattle.call_contract.specs.States.{Answered, Waiting, Live, State, view, of_session, put, others, sessions}
+use Rattle.call_contract.specs.States.{Answered, Live, State, view, of_session, put, others}
 use Rattle.call_contract.specs.Attempts.{holders, is_barred, free, barred}
+use Rattle.call_contract.proofs.CallChanges.{one_more}
 use Rattle.call_contract.proofs.Held.{held_bars}
 use Rattle.call_contract.proofs.Lists.{found_named, found_put, found_put_other}
 use Rattle.call_contract.proofs.Replay.{view_snoc}
@@ -109,7 +112,7 @@ module _ {C B : Type 0} (is_valid : C → Type 0) (m : CallMeaning C) (told : B 
   none_bar p st s (q ∷ qs) stands all = (barred_none q (others s st.live) (holders_are p st s q [] stands nothing all.0), none_bar p st s qs stands all.1)
 
   -- one session's transaction has other grants, and all else is as it was
-  seats_kept : (tree : Tree) (live : List (Live C)) (old : ℕ → Option Seat) (s : ℕ) (t : Live C)
+  pub seats_kept : (tree : Tree) (live : List (Live C)) (old : ℕ → Option Seat) (s : ℕ) (t : Live C)
       → ((o : ℕ) → IsSeat is_valid m tree (old o) (of_session o live))
       → t.session ≡ s → IsSeat is_valid m tree (old s) (Some t)
       → (o : ℕ) → IsSeat is_valid m tree (old o) (of_session o (put t live))
@@ -153,7 +156,7 @@ module _ {C B : Type 0} (is_valid : C → Type 0) (m : CallMeaning C) (told : B 
 
       grown : (x : Option Seat) → IsSeat is_valid m st.tree x (Some t) → IsSeat is_valid m st.tree x (Some more)
       grown None is = absurd is
-      grown (Some seat) is = record { own = is.own; waits = is.waits; valid = is.valid }
+      grown (Some seat) is = record { changes = is.changes; own = is.own; waits = is.waits; valid = is.valid }
 
       one : IsSeat is_valid m st.tree (seat_in (tree.get nat_cmp p.places s)) (Some more)
       one = grown (seat_in (tree.get nat_cmp p.places s)) (subst (λ (o : Option (Live C)). IsSeat is_valid m st.tree (seat_in (tree.get nat_cmp p.places s)) o) found (stands.seats s))
@@ -210,18 +213,19 @@ module _ {C B : Type 0} (is_valid : C → Type 0) (m : CallMeaning C) (told : B 
   -- the changes of a call are taken in
   pub accepted : (laws : CallLaws C is_valid m) (p q : Parts C B) (s : ℕ) (seat : Seat) (own changes : List Change)
       → seat_in (tree.get nat_cmp p.places s) ≡ Some seat
+      → own ≡ laid changes seat.own
       → ((es : Entries) → Sorted es → changed own es ≡ changed changes (changed seat.own es))
       → ((o : ℕ) → seat_in (tree.get nat_cmp q.places o) ≡ cond (s == o) (Some (record { own = own; waiting = None })) (seat_in (tree.get nat_cmp p.places o)))
       → ((o : ℕ) → ordinal_in (tree.get nat_cmp q.places o) ≡ ordinal_in (tree.get nat_cmp p.places o))
       → Alike p q → q.begun ≡ p.begun → q.table ≡ p.table → ((o : ℕ) → waits q.graph o ≡ with_request (waits p.graph) s None o) → q.waiting.items ≡ p.waiting.items
       → (st : State C) (t : Live C) (c : C) (r : Reply) → Stands is_valid m told p st → of_session s st.live ≡ Some t → is_valid c
       → changes ≡ changes_of m c (view m t.calls st.tree) → Stands is_valid m told q (with_answer st t c r)
-  accepted laws p q s seat own changes there adds seats ordinals alike begun table stopped waiting st t c r stands found valid are =
+  accepted laws p q s seat own changes there lays adds seats ordinals alike begun table stopped waiting st t c r stands found valid are =
       record {
         committed = committed_alike is_valid m told p q (Some (map_of st.tree)) alike stands.committed;
         valid = stands.valid;
         seats = seats_put is_valid m st.tree st.live (λ u. seat_in (tree.get nat_cmp p.places u)) (λ u. seat_in (tree.get nat_cmp q.places u)) s (record { own = own; waiting = None }) more stands.seats seats named
-            (record { own = sees_more; waits = refl; valid = all_append (λ a. is_valid a.call) t.calls (record { call = c; reply = r } ∷ []) was.valid (valid, tt) });
+            (record { changes = changes_more; own = sees_more; waits = refl; valid = all_append (λ a. is_valid a.call) t.calls (record { call = c; reply = r } ∷ []) was.valid (valid, tt) });
         ordinals = λ o. ordinals o ∙ stands.ordinals o;
         table = subst (λ (x : Table). IsTableOf x (λ u. grants_of (of_session u (put more st.live)))) (sym table)
             (table_same p.table (λ u. grants_of (of_session u st.live)) (λ u. grants_of (of_session u (put more st.live))) (told_kept grants_of st.live s more named (sym (ap grants_of found))) stands.table);
@@ -249,6 +253,9 @@ module _ {C B : Type 0} (is_valid : C → Type 0) (m : CallMeaning C) (told : B 
       before_valid : IsValidTree before
       before_valid = view_valid laws t.calls st.tree stands.valid was.valid
 
+      changes_more : own ≡ changes_of_calls m (t.calls ++ record { call = c; reply = r } ∷ []) st.tree
+      changes_more = lays ∙ ap₂ laid are was.changes ∙ sym (one_more m t.calls (record { call = c; reply = r }) st.tree [])
+
       sees_more : changed own (map_of st.tree) ≡ map_of (view m (t.calls ++ record { call = c; reply = r } ∷ []) st.tree)
       sees_more =
           adds (map_of st.tree) (map_sorted st.tree stands.valid)
@@ -269,7 +276,7 @@ module _ {C B : Type 0} (is_valid : C → Type 0) (m : CallMeaning C) (told : B 
         committed = committed_alike is_valid m told p q (Some (map_of st.tree)) alike stands.committed;
         valid = stands.valid;
         seats = seats_put is_valid m st.tree st.live (λ u. seat_in (tree.get nat_cmp p.places u)) (λ u. seat_in (tree.get nat_cmp q.places u)) s (record { own = seat.own; waiting = Some at }) more stands.seats seats named
-            (record { own = was.own; waits = refl; valid = was.valid });
+            (record { changes = was.changes; own = was.own; waits = refl; valid = was.valid });
         ordinals = λ o. ordinals o ∙ stands.ordinals o;
         table = subst (λ (x : Table). IsTableOf x (λ u. grants_of (of_session u (put more st.live)))) (sym table)
             (table_same p.table (λ u. grants_of (of_session u st.live)) (λ u. grants_of (of_session u (put more st.live))) (told_kept grants_of st.live s more named (sym (ap grants_of found))) stands.table);

@@ -37,11 +37,12 @@ module _ {C B : Type 0} (is_valid : C → Type 0) (m : CallMeaning C) (told : B 
       → waited ≡ g → noted ≡ g → shown ≡ g → named ≡ hs → b ≡ shown_wait noted named → a ≡ shown_wait shown hs
       → ((st : State C) (t : Live C) → Stands is_valid m told p st → of_session s st.live ≡ Some t → cycle_through (with_wait st t c g).live s ≡ None)
       → ((st : State C) (t : Live C) → Stands is_valid m told p st → of_session s st.live ≡ Some t → Stands is_valid m told q (record (with_wait st t c waited) { waiting = st.waiting ++ s ∷ [] }))
-      → q.book.items ≡ p.book.items ++ call_entry s c b ∷ [] → q.faults ≡ p.faults
+      → q.book.items ≡ p.book.items ++ call_entry s c b ∷ [] → q.faults ≡ p.faults → q.prepared ≡ None
       → IsPut is_valid m told p s c g hs a q
-  is_put p q s c g waited noted shown hs named a b waited_is noted_is shown_is named_is b_is a_is alone state book faults = record {
+  is_put p q s c g waited noted shown hs named a b waited_is noted_is shown_is named_is b_is a_is alone state book faults prepared = record {
     book = book ∙ ap (λ (x : Answer). p.book.items ++ call_entry s c x ∷ []) (b_is ∙ ap (λ (x : Request). shown_wait x named) noted_is ∙ ap (shown_wait g) named_is ∙ sym is_shown);
     faults = faults;
+    prepared = prepared;
     is = is_shown;
     alone = alone;
     state = λ st t stands found. subst (λ (x : Request). Stands is_valid m told q (record (with_wait st t c x) { waiting = st.waiting ++ s ∷ [] })) waited_is (state st t stands found);
@@ -56,6 +57,7 @@ module _ {C B : Type 0} (is_valid : C → Type 0) (m : CallMeaning C) (told : B 
   put_after p p1 q s c g hs a stays is = inl (record {
     book = is.book ∙ ap (λ (b : Book C). b ++ call_entry s c a ∷ []) stays.book;
     faults = is.faults ∙ stays.faults;
+    prepared = is.prepared;
     is = is.is;
     alone = λ st t stands found. is.alone st t (stays.state st stands) found;
     state = λ st t stands found. is.state st t (stays.state st stands) found;
@@ -66,6 +68,7 @@ module _ {C B : Type 0} (is_valid : C → Type 0) (m : CallMeaning C) (told : B 
   closed_after p p1 q s c g hs a stays is = inr (record {
     book = is.book ∙ ap (λ (b : Book C). b ++ call_entry s c a ∷ []) stays.book;
     faults = is.faults ∙ stays.faults;
+    prepared = is.prepared;
     cycle = is.cycle;
     is = is.is;
     closes = λ st t stands found. is.closes st t (stays.state st stands) found;
@@ -76,5 +79,6 @@ module _ {C B : Type 0} (is_valid : C → Type 0) (m : CallMeaning C) (told : B 
   stays_on p p1 q one two = record {
     book = two.book ∙ one.book;
     faults = two.faults ∙ one.faults;
+    prepared = two.prepared ∙ one.prepared;
     state = λ st stands. two.state st (one.state st stands);
   }

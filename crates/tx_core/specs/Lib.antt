@@ -1,4 +1,8 @@
 -- words of public clauses
 pub mod Cores
+pub mod Queues
+pub mod Refusals
+pub mod Retries
+pub mod Commits
 -- words that only private functions and the proof use
 pub mod inside

@@ -1,5 +1,8 @@
 -- Words of private functions and of the proof.
 pub mod Asking
+pub mod Committing
 pub mod Goes
 pub mod Kept
+pub mod Retrying
 pub mod Standing
+pub mod Sessions

@@ -1,6 +1,6 @@
 //! An attempt of a call: it is answered, waits, is a deadlock, or is given up.
 
-ghost use Rattle.std.specs.Prelude.{◌≡◌, ◌⊎◌, ℕ, ◌+◌, ◌≤◌, ◌<◌, ◌||◌, true, nat_lt, ◌∷◌, ◌++◌, [], Some, None, IfOk, IfErr, OnOk, OnErr, IsSome, is_some, take, length, vec_capacity};
+ghost use Rattle.std.specs.Prelude.{◌≡◌, ◌⊎◌, ℕ, ◌+◌, ◌≤◌, ◌<◌, ◌||◌, true, nat_lt, ◌∷◌, ◌++◌, [], Some, None, IfOk, IfErr, IfSome, OnOk, OnErr, IsSome, is_some, cond, ◌==◌, List, take, length, vec_capacity};
 ghost use Rattle.std.specs.Ordering.{nat_cmp};
 ghost use Rattle.std.specs.BTreeMap.{get};
 ghost use Rattle.node_seq.specs.ChangeLists.{IsChangeList};
@@ -9,11 +9,17 @@ ghost use Rattle.call_contract.specs.States.{State, Live, of_session};
 ghost use Rattle.call_contract.specs.Waits.{cycle_through};
 ghost use Rattle.call_contract.specs.Books.{IsAbove, latest as latest_of};
 ghost use Rattle.tx_core.specs.inside.Asking.{granted_in, IsInside};
-ghost use Rattle.tx_core.specs.inside.Standing.{Stands, seat_in};
+ghost use Rattle.outside_traits.specs.Faults.{HasCause};
+ghost use Rattle.node_seq.specs.declared.node_read.SeqError.TheVariants.{DiskFault};
+ghost use Rattle.call_contract.specs.Sessions.{live_in};
+ghost use Rattle.tx_core.specs.Refusals.{shown_call_refusal, refused_call};
+ghost use Rattle.tx_core.specs.declared.errors.CallError.TheVariants as call_error;
+ghost use Rattle.tx_core.specs.inside.Sessions.{HasRoom, IsSeated, IsSeatedAs, wait_in, call_error_of};
+ghost use Rattle.tx_core.specs.inside.Standing.{Stands, seat_in, ordinal_in};
 ghost use Rattle.tx_core.specs.inside.Goes.{Stays, Goes, Reaches, IsAsked, IsMade, IsAccepted, IsAnswered, IsClosed, IsFailed, IsPut, IsStopped, IsGivenUp, IsLeft, IsSettled, IsUnanswered, call_entry, fail_entry, shown_wait, with_wait};
 
 use crate::asking::{Got, Outcome, ask_all, asked, made};
-use crate::ends::{note, stop_waiting};
+use crate::ends::{make_room, note, stop_waiting};
 use crate::errors::{CallError, SessionError};
 use crate::parts::{Parts, Seat};
 use crate::places::{seat_again, seat_at, unseat};
@@ -31,11 +37,16 @@ pub fn requests_of<C: TreeCall + Drop, B: NodeRead>(
     session: u32,
     call: &C,
 ) -> Result<List<Request>, CallError>
+    requires { IsSeated parts.old }
     ensures value { IfOk result (λ asks. (st : State C) → Stands C.is_valid C.meaning B.contents parts.old st → IsAsked C.meaning st session call.now asks) }
     ensures valid { OnOk result (C.is_valid call.now) }
-    ensures seated { OnOk result (IsSome (seat_in (get nat_cmp parts.old.places session))) }
+    ensures ready { OnOk result (wait_in (get nat_cmp parts.old.places session) ≡ Some None) }
+    ensures refused { shown_call_refusal result ≡ refused_call (live_in parts.old.book.items session) }
+    ensures refused_same { IfSome (shown_call_refusal result) (λ why. parts.new ≡ parts.old) }
     ensures stays { Stays C.is_valid C.meaning B.contents parts.old parts.new }
-    ensures same { (parts.new.places ≡ parts.old.places) × (parts.new.book ≡ parts.old.book) }
+    ensures same { parts.new ≡ record parts.old { base = parts.new.base } }
+    ensures unchanged { B.unchanged parts.old.base parts.new.base }
+    ensures cause { HasCause call_error.DiskFault (B.count parts.old.base) (B.count parts.new.base) result }
 {
     let Some(seat) = seat_at(&parts.places, session) else {
         return Err(CallError::Session(SessionError::NoTransaction));
@@ -62,7 +73,9 @@ pub fn outcome_of<C: TreeCall + Drop, B: NodeRead>(
     ensures rise { IfOk result (λ outcome. IsChangeList outcome.changes) }
     ensures valid { C.is_valid call.now }
     ensures stays { Stays C.is_valid C.meaning B.contents parts.old parts.new }
-    ensures same { (parts.new.places ≡ parts.old.places) × (parts.new.book ≡ parts.old.book) }
+    ensures same { parts.new ≡ record parts.old { base = parts.new.base } }
+    ensures unchanged { B.unchanged parts.old.base parts.new.base }
+    ensures cause { HasCause DiskFault (B.count parts.old.base) (B.count parts.new.base) result }
 {
     match seat_at(&parts.places, session) {
         Some(seat) => made(alloc, &mut parts.base, &parts.layers, &seat.own, call),
@@ -81,7 +94,7 @@ pub fn ask_in_turn<C: TreeCall + Drop, B: NodeRead>(
     ensures within { granted_in requests.now result ≤ length requests.now }
     ensures inside { IsInside requests.now result }
     ensures untouched { granted_in requests.now result ≡ 0 → (st : State C) → Stands C.is_valid C.meaning B.contents parts.old st → Stands C.is_valid C.meaning B.contents parts.new st }
-    ensures same { (parts.new.places ≡ parts.old.places) × (parts.new.faults ≡ parts.old.faults) × (parts.new.book ≡ parts.old.book) }
+    ensures same { parts.new ≡ record parts.old { table = parts.new.table } }
 {
     ask_all(alloc, &mut parts.table, session, requests)
 }
@@ -98,7 +111,10 @@ pub fn accept<C: TreeCall + Drop, B: NodeRead>(
     ensures reply { IfOk result (λ reply. reply ≡ outcome.reply) }
     ensures ok { OnOk result (IsAccepted C.is_valid C.meaning B.contents parts.old session outcome parts.new) }
     ensures err { OnErr result (Stays C.is_valid C.meaning B.contents parts.old parts.new) }
-    ensures same { (parts.new.faults ≡ parts.old.faults) × (parts.new.book ≡ parts.old.book) }
+    ensures waits { OnOk result ((o : ℕ) → wait_in (get nat_cmp parts.new.places o) ≡ cond (session == o) (Some None) (wait_in (get nat_cmp parts.old.places o))) }
+    ensures still { OnErr result ((o : ℕ) → wait_in (get nat_cmp parts.new.places o) ≡ wait_in (get nat_cmp parts.old.places o)) }
+    ensures ordinals { (o : ℕ) → ordinal_in (get nat_cmp parts.new.places o) ≡ ordinal_in (get nat_cmp parts.old.places o) }
+    ensures same { parts.new ≡ record parts.old { places = parts.new.places; graph = parts.new.graph } }
 {
     let Outcome { reply, changes } = outcome;
     match unseat(&mut parts.places, session) {
@@ -121,7 +137,7 @@ pub fn accept<C: TreeCall + Drop, B: NodeRead>(
 }
 
 /// The count of faults now, if it is above the last one that was noted.
-fn later_fault(last: Option<u64>, now: u64) -> Option<u64>
+pub fn later_fault(last: Option<u64>, now: u64) -> Option<u64>
     ensures { IsAbove last result }
 {
     match last {
@@ -131,7 +147,7 @@ fn later_fault(last: Option<u64>, now: u64) -> Option<u64>
 }
 
 /// The last count of two.
-fn latest(before: Option<u64>, now: Option<u64>) -> Option<u64>
+pub fn latest(before: Option<u64>, now: Option<u64>) -> Option<u64>
     ensures { result ≡ latest_of before now }
 {
     match now {
@@ -148,12 +164,17 @@ pub fn fail<C: TreeCall + Drop, B: NodeRead>(
     grants: u32,
     faults: Option<u64>,
 )
-    requires room { length parts.old.book.items + 1 ≤ vec_capacity parts.old.book }
+    requires seated { IsSeated parts.old }
+    requires ready { wait_in (get nat_cmp parts.old.places session) ≡ Some None }
+    requires room { HasRoom 1 parts.old }
     requires above { IsAbove parts.old.faults faults }
     requires some { (is_some faults || nat_lt 0 grants) ≡ true }
-    ensures { IsFailed C.is_valid C.meaning B.contents parts.old session call grants faults parts.new }
+    ensures failed { IsFailed C.is_valid C.meaning B.contents parts.old session call grants faults parts.new }
+    ensures seated { IsSeatedAs parts.old parts.new }
+    ensures base { parts.new.base ≡ parts.old.base }
 {
     stop_waiting(&mut parts.waiting, session);
+    parts.prepared = None;
     parts.faults = latest(parts.faults, faults);
     note(
         &mut parts.book,
@@ -176,11 +197,16 @@ pub fn answer<C: TreeCall + Drop, B: NodeRead>(
     session: u32,
     call: C,
 ) -> Result<Answer, (SeqError, C)>
-    requires seated { IsSome (seat_in (get nat_cmp parts.old.places session)) }
-    requires room { length parts.old.book.items + 1 ≤ vec_capacity parts.old.book }
+    requires seated { IsSeated parts.old }
+    requires ready { wait_in (get nat_cmp parts.old.places session) ≡ Some None }
+    requires room { HasRoom 2 parts.old }
     ensures ok { IfOk result (λ a. IsAnswered C.is_valid C.meaning B.contents parts.old session call a parts.new) }
-    ensures err { OnErr result (Stays C.is_valid C.meaning B.contents parts.old parts.new × (parts.new.book ≡ parts.old.book)) }
+    ensures err { OnErr result (Stays C.is_valid C.meaning B.contents parts.old parts.new) }
     ensures call { IfErr result (λ e. e.1 ≡ call) }
+    ensures seated { IsSeatedAs parts.old parts.new }
+    ensures still { OnErr result (HasRoom 2 parts.new × (wait_in (get nat_cmp parts.new.places session) ≡ Some None)) }
+    ensures unchanged { B.unchanged parts.old.base parts.new.base }
+    ensures cause { HasCause (DiskFault, call) (B.count parts.old.base) (B.count parts.new.base) result }
 {
     let outcome = match outcome_of(alloc, parts, session, &call) {
         Ok(outcome) => outcome,
@@ -193,6 +219,7 @@ pub fn answer<C: TreeCall + Drop, B: NodeRead>(
         return Err((SeqError::NoMemory, call));
     };
     stop_waiting(&mut parts.waiting, session);
+    parts.prepared = None;
     note(
         &mut parts.book,
         Noted {
@@ -205,7 +232,7 @@ pub fn answer<C: TreeCall + Drop, B: NodeRead>(
 }
 
 /// The cycle that waiting for a request would close. Afterwards there is room for the session to wait.
-fn cycle_of<C: TreeCall + Drop, B: NodeRead>(
+pub fn cycle_of<C: TreeCall + Drop, B: NodeRead>(
     alloc: Global,
     parts: &mut Parts<C, B>,
     session: u32,
@@ -216,7 +243,8 @@ fn cycle_of<C: TreeCall + Drop, B: NodeRead>(
     ensures place { OnOk result (IsSome (place_by parts.new.graph session)) }
     ensures room { OnOk result (length parts.new.waiting.items + 1 ≤ vec_capacity parts.new.waiting) }
     ensures stays { Stays C.is_valid C.meaning B.contents parts.old parts.new }
-    ensures same { (parts.new.places ≡ parts.old.places) × (parts.new.book ≡ parts.old.book) }
+    ensures queue { parts.new.waiting.items ≡ parts.old.waiting.items }
+    ensures same { parts.new ≡ record parts.old { waiting = parts.new.waiting; graph = parts.new.graph } }
 {
     parts.waiting.reserve(1)?;
     parts.graph.reserve(alloc, session)?;
@@ -233,14 +261,19 @@ fn set_waiting<C: TreeCall + Drop, B: NodeRead>(
     request: Request,
     noted: Answer,
 )
-    requires seated { IsSome (seat_in (get nat_cmp parts.old.places session)) }
+    requires seated { IsSeated parts.old }
+    requires ready { wait_in (get nat_cmp parts.old.places session) ≡ Some None }
     requires room { length parts.old.waiting.items + 1 ≤ vec_capacity parts.old.waiting }
-    requires book_room { length parts.old.book.items + 1 ≤ vec_capacity parts.old.book }
+    requires book_room { HasRoom 2 parts.old }
+    requires noted { (hs : List ℕ) × (noted ≡ shown_wait request hs) }
     requires place { IsSome (place_by parts.old.graph session) }
     requires no_cycle { ClosesNone parts.old.graph session request parts.old.table }
     ensures state { (st : State C) (t : Live C) → Stands C.is_valid C.meaning B.contents parts.old st → of_session session st.live ≡ Some t → Stands C.is_valid C.meaning B.contents parts.new (record (with_wait st t call request) { waiting = st.waiting ++ session ∷ [] }) }
     ensures book { parts.new.book.items ≡ parts.old.book.items ++ call_entry session call noted ∷ [] }
     ensures faults { parts.new.faults ≡ parts.old.faults }
+    ensures prepared { parts.new.prepared ≡ None }
+    ensures seated { IsSeatedAs parts.old parts.new }
+    ensures base { parts.new.base ≡ parts.old.base }
 {
     let entry = parts.book.len();
     match unseat(&mut parts.places, session) {
@@ -253,6 +286,7 @@ fn set_waiting<C: TreeCall + Drop, B: NodeRead>(
     }
     parts.graph.wait(session, request, &parts.table);
     enqueue(&mut parts.waiting, session);
+    parts.prepared = None;
     note(
         &mut parts.book,
         Noted {
@@ -275,14 +309,14 @@ fn enqueue(waiting: &mut Vec<u32>, session: u32)
 
 /// Copies of a request and of its holders.
 #[derive(Drop)]
-struct Copies {
-    waited: Request,
-    noted: Request,
-    shown: Request,
-    holders: List<u32>,
+pub struct Copies {
+    pub waited: Request,
+    pub noted: Request,
+    pub shown: Request,
+    pub holders: List<u32>,
 }
 
-fn copies_of(alloc: Global, request: &Request, holders: &List<u32>) -> Result<Copies, NoMemory>
+pub fn copies_of(alloc: Global, request: &Request, holders: &List<u32>) -> Result<Copies, NoMemory>
     ensures waited { IfOk result (λ copies. copies.waited ≡ request.now) }
     ensures noted { IfOk result (λ copies. copies.noted ≡ request.now) }
     ensures shown { IfOk result (λ copies. copies.shown ≡ request.now) }
@@ -297,7 +331,7 @@ fn copies_of(alloc: Global, request: &Request, holders: &List<u32>) -> Result<Co
 }
 
 /// What a wait for a request is answered.
-fn answer_of(request: Request, holders: List<u32>) -> Answer
+pub fn answer_of(request: Request, holders: List<u32>) -> Answer
     ensures { result ≡ shown_wait request holders }
 {
     let Request { resource, ask } = request;
@@ -317,15 +351,19 @@ fn wait_for<C: TreeCall + Drop, B: NodeRead>(
     request: &Request,
     holders: List<u32>,
 ) -> Result<Answer, C>
-    requires seated { IsSome (seat_in (get nat_cmp parts.old.places session)) }
+    requires seated { IsSeated parts.old }
+    requires ready { wait_in (get nat_cmp parts.old.places session) ≡ Some None }
     requires room { length parts.old.waiting.items + 1 ≤ vec_capacity parts.old.waiting }
-    requires book_room { length parts.old.book.items + 1 ≤ vec_capacity parts.old.book }
+    requires book_room { HasRoom 2 parts.old }
     requires place { IsSome (place_by parts.old.graph session) }
     requires no_cycle { ClosesNone parts.old.graph session request.now parts.old.table }
     requires alone { (st : State C) (t : Live C) → Stands C.is_valid C.meaning B.contents parts.old st → of_session session st.live ≡ Some t → cycle_through (with_wait st t call request.now).live session ≡ None }
     ensures ok { IfOk result (λ a. IsPut C.is_valid C.meaning B.contents parts.old session call request.now holders a parts.new) }
-    ensures err { OnErr result (Stays C.is_valid C.meaning B.contents parts.old parts.new × (parts.new.book ≡ parts.old.book)) }
+    ensures err { OnErr result (Stays C.is_valid C.meaning B.contents parts.old parts.new) }
     ensures call { IfErr result (λ e. e ≡ call) }
+    ensures seated { IsSeatedAs parts.old parts.new }
+    ensures still { OnErr result (HasRoom 2 parts.new × (wait_in (get nat_cmp parts.new.places session) ≡ Some None)) }
+    ensures base { parts.new.base ≡ parts.old.base }
 {
     let Ok(copies) = copies_of(alloc, request, &holders) else {
         return Err(call);
@@ -349,11 +387,15 @@ pub fn wait<C: TreeCall + Drop, B: NodeRead>(
     request: &Request,
     holders: List<u32>,
 ) -> Result<Answer, C>
-    requires seated { IsSome (seat_in (get nat_cmp parts.old.places session)) }
-    requires room { length parts.old.book.items + 1 ≤ vec_capacity parts.old.book }
+    requires seated { IsSeated parts.old }
+    requires ready { wait_in (get nat_cmp parts.old.places session) ≡ Some None }
+    requires room { HasRoom 2 parts.old }
     ensures ok { IfOk result (λ a. IsStopped C.is_valid C.meaning B.contents parts.old session call request.now holders a parts.new) }
-    ensures err { OnErr result (Stays C.is_valid C.meaning B.contents parts.old parts.new × (parts.new.book ≡ parts.old.book)) }
+    ensures err { OnErr result (Stays C.is_valid C.meaning B.contents parts.old parts.new) }
     ensures call { IfErr result (λ e. e ≡ call) }
+    ensures seated { IsSeatedAs parts.old parts.new }
+    ensures still { OnErr result (HasRoom 2 parts.new × (wait_in (get nat_cmp parts.new.places session) ≡ Some None)) }
+    ensures base { parts.new.base ≡ parts.old.base }
 {
     let Ok(closed) = cycle_of(alloc, parts, session, request) else {
         return Err(call);
@@ -373,11 +415,16 @@ fn end_by_cycle<C: TreeCall + Drop, B: NodeRead>(
     request: &Request,
     cycle: List<u32>,
 ) -> Result<Answer, C>
-    requires room { length parts.old.book.items + 1 ≤ vec_capacity parts.old.book }
+    requires seated { IsSeated parts.old }
+    requires ready { wait_in (get nat_cmp parts.old.places session) ≡ Some None }
+    requires room { HasRoom 2 parts.old }
     requires closes { (st : State C) (t : Live C) → Stands C.is_valid C.meaning B.contents parts.old st → of_session session st.live ≡ Some t → cycle_through (with_wait st t call request.now).live session ≡ Some cycle }
     ensures ok { IfOk result (λ a. IsClosed C.is_valid C.meaning B.contents parts.old session call request.now a parts.new) }
-    ensures err { OnErr result (Stays C.is_valid C.meaning B.contents parts.old parts.new × (parts.new.book ≡ parts.old.book)) }
+    ensures err { OnErr result (Stays C.is_valid C.meaning B.contents parts.old parts.new) }
     ensures call { IfErr result (λ e. e ≡ call) }
+    ensures seated { IsSeatedAs parts.old parts.new }
+    ensures still { OnErr result (HasRoom 2 parts.new × (wait_in (get nat_cmp parts.new.places session) ≡ Some None)) }
+    ensures base { parts.new.base ≡ parts.old.base }
 {
     // The conditions alone speak of the request.
     let _request = request;
@@ -388,6 +435,8 @@ fn end_by_cycle<C: TreeCall + Drop, B: NodeRead>(
     parts.table.release_all(session);
     parts.graph.stop(session);
     stop_waiting(&mut parts.waiting, session);
+    parts.live -= 1;
+    parts.prepared = None;
     note(
         &mut parts.book,
         Noted {
@@ -400,7 +449,7 @@ fn end_by_cycle<C: TreeCall + Drop, B: NodeRead>(
 }
 
 /// The most requests of a call, so that their number fits an entry.
-const MOST_REQUESTS: usize = 4_294_967_295;
+pub const MOST_REQUESTS: usize = 4_294_967_295;
 
 /// Gives an attempt up after so many grants: where something was granted or the count of faults rose, that is noted.
 fn give_up<C: TreeCall + Drop, B: NodeRead>(
@@ -410,9 +459,14 @@ fn give_up<C: TreeCall + Drop, B: NodeRead>(
     granted: usize,
     error: SeqError,
 ) -> CallError
-    requires room { length parts.old.book.items + 1 ≤ vec_capacity parts.old.book }
+    requires seated { IsSeated parts.old }
+    requires ready { wait_in (get nat_cmp parts.old.places session) ≡ Some None }
+    requires room { HasRoom 2 parts.old }
     requires fits { granted ≤ 4_294_967_295 }
-    ensures { IsGivenUp C.is_valid C.meaning B.contents parts.old session call granted parts.new }
+    ensures given_up { IsGivenUp C.is_valid C.meaning B.contents parts.old session call granted parts.new }
+    ensures error { result ≡ call_error_of error }
+    ensures seated { IsSeatedAs parts.old parts.new }
+    ensures base { parts.new.base ≡ parts.old.base }
 {
     match error {
         SeqError::DiskFault => {
@@ -440,12 +494,17 @@ fn settle<C: TreeCall + Drop, B: NodeRead>(
     requests: &[Request],
     got: Got,
 ) -> Result<Answer, CallError>
-    requires seated { IsSome (seat_in (get nat_cmp parts.old.places session)) }
-    requires room { length parts.old.book.items + 1 ≤ vec_capacity parts.old.book }
+    requires seated { IsSeated parts.old }
+    requires ready { wait_in (get nat_cmp parts.old.places session) ≡ Some None }
+    requires room { HasRoom 2 parts.old }
     requires inside { IsInside requests.now got }
     requires fits { granted_in requests.now got ≤ 4_294_967_295 }
     ensures ok { IfOk result (λ a. IsSettled C.is_valid C.meaning B.contents parts.old session call requests.now got a parts.new) }
     ensures err { OnErr result (IsLeft C.is_valid C.meaning B.contents parts.old session call (granted_in requests.now got) parts.new) }
+    ensures refused { shown_call_refusal result ≡ None }
+    ensures seated { IsSeatedAs parts.old parts.new }
+    ensures unchanged { B.unchanged parts.old.base parts.new.base }
+    ensures cause { HasCause call_error.DiskFault (B.count parts.old.base) (B.count parts.new.base) result }
 {
     match got {
         Got::All => match answer(alloc, parts, session, call) {
@@ -471,13 +530,22 @@ pub fn attempt<C: TreeCall + Drop, B: NodeRead>(
     session: u32,
     call: C,
 ) -> Result<Answer, CallError>
+    requires { IsSeated parts.old }
     ensures ok { IfOk result (λ a. Goes C.is_valid C.meaning B.contents parts.old (call_entry session call a) parts.new) }
     ensures err { OnErr result (IsUnanswered C.is_valid C.meaning B.contents parts.old session call parts.new) }
+    ensures refused { shown_call_refusal result ≡ refused_call (live_in parts.old.book.items session) }
+    ensures same { IfSome (shown_call_refusal result) (λ why. parts.new ≡ parts.old) }
+    ensures seated { IsSeatedAs parts.old parts.new }
+    ensures unchanged { B.unchanged parts.old.base parts.new.base }
+    ensures cause { HasCause call_error.DiskFault (B.count parts.old.base) (B.count parts.new.base) result }
 {
     let requests = requests_of(alloc, parts, session, &call)?;
-    if requests.len() > MOST_REQUESTS || parts.book.reserve(1).is_err() {
+    if requests.len() > MOST_REQUESTS {
         return Err(CallError::NoMemory);
     }
+    let Ok(()) = make_room(parts) else {
+        return Err(CallError::NoMemory);
+    };
     let got = ask_in_turn(alloc, parts, session, requests.as_slice());
     settle(alloc, parts, session, call, requests.as_slice(), got)
 }

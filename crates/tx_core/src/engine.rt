@@ -1,20 +1,28 @@
 //! The core: what it was opened with, and its calls.
 
-ghost use Rattle.std.specs.Prelude.{◌≡◌, ℕ, ◌≤◌, [], None, IfOk, IfErr, OnErr};
+ghost use Rattle.std.specs.Prelude.{◌≡◌, ◌≢◌, ℕ, ◌+◌, ◌≤◌, [], None, Some, Err, IfOk, IfErr, IfSome, OnErr, Option, IsTrue};
 ghost use Rattle.lock_resources.specs.declared.resource.Resource.{Resource};
 ghost use Rattle.lock_table.specs.Tables.{held};
 ghost use Rattle.wait_graph.specs.Graphs.{waits};
-ghost use Rattle.tree_model.specs.Tree.{Tree};
+ghost use Rattle.outside_traits.specs.Faults.{HasCause};
+ghost use Rattle.tree_model.specs.Tree.{Tree, map_of};
 ghost use Rattle.node_seq.specs.Trees.{StandsFor};
-ghost use Rattle.call_contract.specs.Books.{entry as entry_of, IsBookFrom};
+ghost use Rattle.call_contract.specs.Books.{entry as entry_of, FaultsRise, HasValidCalls, IsBookFrom, IsSerial};
+ghost use Rattle.call_contract.specs.Sessions.{live_in, begins_of, queue_after};
 ghost use Rattle.call_contract.specs.declared.events.Event.TheVariants as event;
 ghost use Rattle.call_contract.specs.declared.events.EventAnswer.TheVariants as said;
-ghost use Rattle.tx_core.specs.Cores.{with_entry, state_from, HasNoAnswer};
+ghost use Rattle.tx_core.specs.Commits.{IsPrepared, HasChangesOf, IsPastLimitIn, ReplaysOthers};
+ghost use Rattle.tx_core.specs.Cores.{with_entry, over, state_from, next_number, waits_in, HasNoAnswer};
+ghost use Rattle.tx_core.specs.Queues.{HasQueue};
+ghost use Rattle.tx_core.specs.Refusals.{begin_refused, call_refused, abort_refused, shown_refusal, shown_prepare_refusal, shown_call_refusal};
+ghost use Rattle.tx_core.specs.Retries.{HasRetried};
 
 use crate::attempts::attempt;
+use crate::commits::{Prepared, commit, prepare, rebase};
 use crate::ends::{abort, begin};
 use crate::errors::{CallError, SessionError};
 use crate::parts::Parts;
+use crate::retries::retry;
 use call_contract::{Answer, Noted, TreeCall};
 use dewey_labels::NoMemory;
 use lock_table::LockTable;
@@ -45,9 +53,16 @@ impl<C: TreeCall + Drop, B: NodeRead + Drop> Model for Core<C, B> {
 
     ghost coded = { Prim.hlevel (codes, fragment.the_row.coded) };
 
-    ghost view = { λ h. record { opening = h.opening.value; number = h.number; limit = h.limit; book = h.parts.book.items } };
+    ghost view = { λ h. record {
+      opening = h.opening.value;
+      number = h.number;
+      limit = h.limit;
+      base = h.parts.base;
+      book = h.parts.book.items;
+      prepared = h.parts.prepared;
+    } };
 
-    ghost invariant = { λ h. IsCore C.is_valid C.meaning B.contents h.opening.value h.number h.limit h.parts };
+    ghost invariant = { λ h. IsCore C.is_valid C.meaning B.contents B.count h.opening.value h.number h.limit h.parts };
 }
 
 /// Want of memory for a core, with the base that it was to be opened over.
@@ -68,13 +83,14 @@ impl<C: TreeCall + Drop, B: NodeRead + Drop> Core<C, B> {
     /// A core over a base, whose last commit has this number, with an empty book.
     pub fn new(alloc: Global, base: B, number: u32, limit: u32) -> Result<Core<C, B>, NoCore<B>>
         requires { number ≤ limit }
-        ensures ok { IfOk result (λ core. core ≡ record { opening = base; number = number; limit = limit; book = [] }) }
+        ensures ok { IfOk result (λ core. core ≡ record { opening = base; number = number; limit = limit; base = base; book = []; prepared = None }) }
         ensures err { IfErr result (λ none. none.base ≡ base) }
     {
         let Ok(locks) = no_locks(alloc) else {
             return Err(NoCore { base });
         };
         let (table, graph) = locks;
+        let count = base.faults();
         Ok(Core {
             opening: Snapshot::of(&base),
             number,
@@ -86,12 +102,14 @@ impl<C: TreeCall + Drop, B: NodeRead + Drop> Core<C, B> {
                 limit,
                 number,
                 begun: 0,
+                live: 0,
                 places: BTreeMap::new(alloc),
                 table,
                 graph,
                 waiting: Vec::new(alloc),
-                faults: None,
+                faults: Some(count),
                 book: Vec::new(alloc),
+                prepared: None,
             },
         })
     }
@@ -99,25 +117,80 @@ impl<C: TreeCall + Drop, B: NodeRead + Drop> Core<C, B> {
     /// Begins a transaction, and answers how many the session has begun.
     pub fn begin(&mut self, alloc: Global, session: u32) -> Result<u32, SessionError>
         ensures ok { IfOk result (λ ordinal. self.new ≡ with_entry self.old (entry_of session event.Begin (said.Number ordinal))) }
+        ensures ordinal { IfOk result (λ ordinal. ordinal ≡ begins_of self.old.book session + 1) }
         ensures err { OnErr result (self.new ≡ self.old) }
+        ensures refused { shown_refusal result ≡ begin_refused self.old session }
     {
         begin(alloc, &mut self.parts, session)
     }
 
     /// An attempt of a call: it is answered, waits or ends in a deadlock, or it is given up.
+    /// After a refusal all is as it was. After a fault or want of memory the session sees what it saw and doesn't wait, and may hold more.
     pub fn attempt(&mut self, alloc: Global, session: u32, call: C) -> Result<Answer, CallError>
-        ensures ok { IfOk result (λ a. self.new ≡ with_entry self.old (entry_of session (event.Call call) (said.Call a))) }
+        ensures ok { IfOk result (λ a. self.new ≡ over (with_entry self.old (entry_of session (event.Call call) (said.Call a))) self.new.base) }
         ensures err { OnErr result (HasNoAnswer self.old session call self.new) }
+        ensures refused { shown_call_refusal result ≡ call_refused self.old session }
+        ensures same { IfSome (shown_call_refusal result) (λ why. self.new ≡ self.old) }
+        ensures unchanged { B.unchanged self.old.base self.new.base }
+        ensures cause { HasCause CallError.DiskFault (B.count self.old.base) (B.count self.new.base) result }
     {
         attempt(alloc, &mut self.parts, session, call)
     }
 
-    /// Ends a session's transaction, a waiting call with it.
+    /// A further attempt of the call with which a session waits. One that waits again is an entry of the book only where it holds more or waits for something else.
+    pub fn retry(&mut self, alloc: Global, session: u32) -> Result<Answer, CallError>
+        requires { IsTrue (waits_in (live_in self.old.book session)) }
+        ensures ok { IfOk result (λ a. HasRetried C.meaning B.contents self.old session a self.new) }
+        ensures err { OnErr result ((k : ℕ) × (f : Option ℕ) × (self.new ≡ over (with_entry self.old (entry_of session (event.Fail None k f) said.Nothing)) self.new.base)) }
+        ensures refused { shown_call_refusal result ≡ None }
+        ensures unchanged { B.unchanged self.old.base self.new.base }
+        ensures cause { HasCause CallError.DiskFault (B.count self.old.base) (B.count self.new.base) result }
+    {
+        retry(alloc, &mut self.parts, session)
+    }
+
+    /// Takes all memory of a session's commit, and answers what is to be made durable before it. It costs what the transaction has changed.
+    pub fn prepare(&mut self, alloc: Global, session: u32) -> Result<Prepared, SessionError>
+        ensures ok { IfOk result (λ _. self.new ≡ record self.old { prepared = Some session }) }
+        ensures commit { IfOk result (λ prepared. IsPrepared self.old prepared) }
+        ensures changes { IfOk result (λ prepared. (t : Tree) → StandsFor (B.contents self.old.opening) t → HasChangesOf C.meaning (state_from C.meaning t self.old) session prepared) }
+        ensures err { OnErr result (self.new ≡ record self.old { prepared = self.new.prepared }) }
+        ensures refused { shown_prepare_refusal result ≡ call_refused self.old session }
+        ensures limit { result ≡ Err SessionError.CommitLimit → (t : Tree) → StandsFor (B.contents self.old.opening) t → IsPastLimitIn C.meaning (state_from C.meaning t self.old) session }
+    {
+        prepare(alloc, &mut self.parts, session)
+    }
+
+    /// Makes the commit that was prepared for a session, and answers its number. It costs what the transaction has changed, and takes no memory.
+    /// For every other live transaction it is as if its calls had been made on the new tree.
+    pub fn commit(&mut self, session: u32, prepared: Prepared) -> u32
+        requires prepared { self.old.prepared ≡ Some session }
+        requires commit { IsPrepared self.old prepared }
+        ensures number { result ≡ next_number self.old }
+        ensures committed { self.new ≡ with_entry self.old (entry_of session event.Commit (said.Number result)) }
+        ensures others { (t : Tree) → StandsFor (B.contents self.old.opening) t → ReplaysOthers C.meaning (state_from C.meaning t self.old) session }
+    {
+        commit(&mut self.parts, session, prepared)
+    }
+
+    /// Ends a session's transaction, a waiting call with it. It takes no memory.
     pub fn abort(&mut self, session: u32) -> Result<(), SessionError>
         ensures ok { IfOk result (λ _. self.new ≡ with_entry self.old (entry_of session event.Abort said.Nothing)) }
         ensures err { OnErr result (self.new ≡ self.old) }
+        ensures refused { shown_refusal result ≡ abort_refused self.old session }
+        ensures memory { result ≢ Err SessionError.NoMemory }
     {
         abort(&mut self.parts, session)
+    }
+
+    /// Goes on over another base that stands for the committed tree, and answers the old one.
+    pub fn rebase(&mut self, alloc: Global, base: B) -> B
+        requires committed { (t : Tree) → StandsFor (B.contents self.old.opening) t → B.contents base ≡ Some (map_of (state_from C.meaning t self.old).tree) }
+        requires later { B.count self.old.base ≤ B.count base }
+        ensures old { result ≡ self.old.base }
+        ensures same { self.new ≡ over self.old base }
+    {
+        rebase(alloc, &mut self.parts, base)
     }
 
     /// All that came to the core, in its order, with the answers.
@@ -129,14 +202,19 @@ impl<C: TreeCall + Drop, B: NodeRead + Drop> Core<C, B> {
 
     /// The sessions whose transactions wait, in the order in which they began to.
     pub fn waiting(&self) -> &[u32]
-        ensures { (t : Tree) → StandsFor (B.contents self.now.opening) t → result.now ≡ (state_from C.meaning t self.now).waiting }
+        ensures { result.now ≡ queue_after [] self.now.book }
     {
         self.parts.waiting.as_slice()
     }
 
-    /// The book is legal from the tree of the opening's map, and its calls are valid.
+    /// The book's calls are valid, its counts of faults rise, all above the base's at the opening, and who waits stands in its queue.
+    /// It is legal from the tree of the opening's map: so it is serial, its live transactions were answered what they would be answered on the committed tree, and nobody waits for himself.
     pub fn is_legal(&self)
-        ensures { (t : Tree) → StandsFor (B.contents self.now.opening) t → IsBookFrom C.is_valid C.meaning t self.now.number self.now.limit self.now.book }
+        ensures valid { HasValidCalls C.is_valid self.now.book }
+        ensures faults { FaultsRise (Some (B.count self.now.opening)) self.now.book }
+        ensures queue { HasQueue self.now.book }
+        ensures book { (t : Tree) → StandsFor (B.contents self.now.opening) t → IsBookFrom C.is_valid C.meaning t self.now.number self.now.limit self.now.book }
+        ensures serial { (t : Tree) → StandsFor (B.contents self.now.opening) t → IsSerial C.meaning t self.now.number self.now.limit self.now.book }
     {
         // The invariant is read off the parts.
         let _parts = &self.parts;

@@ -1,17 +1,21 @@
 //! The transaction core: the lock machine of `call_contract` over a base that is read as a map, with the book of all that came to it.
-//! `Core` begins a transaction, attempts a call and aborts a transaction; the book gains the machine's entry. It shows its book, which is legal, and the sessions that wait.
-//! An attempt is answered, waits, is a deadlock, or is given up. Retrying a call that waits, preparing and committing a transaction, and changing the base are not here.
+//! `Core` begins a transaction, attempts a call, tries one that waits again, prepares and makes a commit, and aborts a transaction; the book gains the machine's entry. It goes on over another base, and shows its book, which is legal, and the sessions that wait.
+//! What a session may do, and its ordinals, are read off the book, whatever is known of the base. The book has room for the end of each transaction, so that commits and aborts take no memory.
+//! An attempt is answered, waits, is a deadlock, or is given up. A retry of a call that waits keeps its place in the queue where it waits again, and is an entry only where it holds more or waits for something else.
 //! `asking` asks the lock table for a call's requests in turn, up to the first that is barred, and looks at what a call asks for and answers on what a transaction sees.
-//! `ends` begins and aborts, `attempts` attempts a call: the parts stand for the machine's state before and after.
+//! `ends` begins and aborts, `attempts` attempts a call, `retries` tries one that waits again, `commits` prepares and makes commits: the parts stand for the machine's state before and after.
 #![tactic(auto)]
 
 mod asking;
 mod attempts;
+mod commits;
 mod ends;
 mod engine;
 mod errors;
 mod parts;
 mod places;
+mod retries;
 
+pub use commits::Prepared;
 pub use engine::{Core, NoCore};
 pub use errors::{CallError, SessionError};

@@ -36,12 +36,17 @@ pub struct Parts<C, B> {
     pub number: u32,
     /// How many transactions have been begun.
     pub begun: u32,
+    /// How many of them are live.
+    pub live: usize,
     pub places: Places,
     pub table: LockTable,
     pub graph: WaitGraph,
     /// The waiting sessions, in the order in which they began to wait.
     pub waiting: Vec<u32>,
-    /// The last count of faults in the book.
+    /// The last count of faults in the book, or the base's at the opening.
     pub faults: Option<u64>,
+    /// The book has room for a further entry of each live and of each waiting transaction.
     pub book: Vec<Noted<C>>,
+    /// The session whose commit was prepared since the last entry, if one was.
+    pub prepared: Option<u32>,
 }

@@ -1,12 +1,10 @@
 -- How a call of the core moves its state.
-use Rattle.std.specs.Prelude.{◌≡◌, ◌⊎◌, ◌↔◌, ℕ, ◌+◌, true, cond, ◌||◌, nat_lt, ◌==◌, List, [], ◌∷◌, ◌++◌, take, length, get_or, ◌<◌, nat_le, Option, Some, None, is_some}
-use Rattle.tree_model.specs.Tree.{map_of}
-use Rattle.tree_model.specs.Entries.{Entries, changed}
-use Rattle.tree_model.specs.Changes.{differences}
+use Rattle.std.specs.Prelude.{◌≡◌, ◌⊎◌, ℕ, true, ◌||◌, nat_lt, List, [], ◌∷◌, ◌++◌, take, length, get_or, ◌<◌, nat_le, Option, Some, None, is_some}
+use Rattle.tree_model.specs.Entries.{Entries}
 use Rattle.tree_model.specs.declared.reply.Reply.{Reply}
 use Rattle.lock_resources.specs.declared.request.Request.{Request}
 use Rattle.call_contract.specs.Calls.{CallMeaning, changes_of}
-use Rattle.call_contract.specs.States.{Live, State, view, of_session, put, others, without, sessions, ended}
+use Rattle.call_contract.specs.States.{Live, State, view, of_session, put, others, without, ended}
 use Rattle.call_contract.specs.Attempts.{holders, free, barred, asked}
 use Rattle.call_contract.specs.Waits.{cycle_through}
 use Rattle.call_contract.specs.Steps.{step}
@@ -20,26 +18,7 @@ use Rattle.tx_core.specs.declared.parts.Parts.{Parts}
 use Rattle.tx_core.specs.declared.asking.Outcome.{Outcome}
 use Rattle.tx_core.specs.declared.asking.Got.{Got}
 use Rattle.tx_core.specs.declared.asking.Got.TheVariants.{All, Barred, NoMemory}
-use Rattle.tx_core.specs.declared.errors.SessionError.{SessionError}
-use Rattle.tx_core.specs.declared.errors.SessionError.TheVariants as error
 use Rattle.tx_core.specs.inside.Standing.{Stands}
-
--- ---- refusals, in their order
-
--- why a begin is refused
-abbrev pub begin_refused : {C : Type 0} → State C → Option (Live C) → Option SessionError
-begin_refused st (Some t) = Some (cond (is_some t.waits) error.IsWaiting error.InTransaction)
-begin_refused st None = cond (st.opening + st.begun == st.limit) (Some error.TxLimit) None
-
--- why an abort is refused
-abbrev pub abort_refused : {C : Type 0} → Option (Live C) → Option SessionError
-abort_refused None = Some error.NoTransaction
-abort_refused (Some t) = None
-
--- why an attempt is refused
-abbrev pub attempt_refused : {C : Type 0} → Option (Live C) → Option SessionError
-attempt_refused None = Some error.NoTransaction
-attempt_refused (Some t) = cond (is_some t.waits) (Some error.IsWaiting) None
 
 -- ---- entries
 
@@ -74,18 +53,20 @@ abbrev pub unqueued : {C : Type 0} → State C → ℕ → State C
 unqueued st s = record st { waiting = without s st.waiting }
 
 module _ {C B : Type 0} (is_valid : C → Type 0) (m : CallMeaning C) (told : B → Option Entries) where
-  -- the state stays, and so does the book
+  -- the state stays, and so do the book and what is prepared
   pub record Stays (p q : Parts C B) : Type 0 where
     pub book : q.book.items ≡ p.book.items
     pub faults : q.faults ≡ p.faults
+    pub prepared : q.prepared ≡ p.prepared
     pub state : (st : State C) → Stands is_valid m told p st → Stands is_valid m told q st
 
-  -- the book gains the machine's entry, with a count of faults above all before, and the core stands for the state after it
+  -- the book gains the machine's entry, with a count of faults above all before, nothing is prepared, and the core stands for the state after it
   pub record Goes (p : Parts C B) (n : Noted C) (q : Parts C B) : Type 0 where
     pub book : q.book.items ≡ p.book.items ++ n ∷ []
     pub valid : HasValidCall is_valid n.event
     pub above : IsAbove p.faults (fault_in n.event)
     pub faults : q.faults ≡ latest p.faults (fault_in n.event)
+    pub prepared : q.prepared ≡ None
     pub entry : (st : State C) → Stands is_valid m told p st → IsAnswer n.answer (step m st n.session n.event)
     pub state : (st : State C) → Stands is_valid m told p st → Stands is_valid m told q (next m st n)
 
@@ -119,6 +100,7 @@ module _ {C B : Type 0} (is_valid : C → Type 0) (m : CallMeaning C) (told : B 
   pub record IsAnswered (p : Parts C B) (s : ℕ) (c : C) (a : Answer) (q : Parts C B) : Type 0 where
     pub book : q.book.items ≡ p.book.items ++ call_entry s c a ∷ []
     pub faults : q.faults ≡ p.faults
+    pub prepared : q.prepared ≡ None
     pub reply : Reply
     pub is : a ≡ answer.Answered reply
     pub means : (st : State C) (t : Live C) → Stands is_valid m told p st → of_session s st.live ≡ Some t → reply ≡ m.reply c (view m t.calls st.tree)
@@ -128,6 +110,7 @@ module _ {C B : Type 0} (is_valid : C → Type 0) (m : CallMeaning C) (told : B 
   pub record IsPut (p : Parts C B) (s : ℕ) (c : C) (g : Request) (hs : List ℕ) (a : Answer) (q : Parts C B) : Type 0 where
     pub book : q.book.items ≡ p.book.items ++ call_entry s c a ∷ []
     pub faults : q.faults ≡ p.faults
+    pub prepared : q.prepared ≡ None
     pub is : a ≡ shown_wait g hs
     pub alone : (st : State C) (t : Live C) → Stands is_valid m told p st → of_session s st.live ≡ Some t → cycle_through (with_wait st t c g).live s ≡ None
     pub state : (st : State C) (t : Live C) → Stands is_valid m told p st → of_session s st.live ≡ Some t → Stands is_valid m told q (record (with_wait st t c g) { waiting = st.waiting ++ s ∷ [] })
@@ -136,6 +119,7 @@ module _ {C B : Type 0} (is_valid : C → Type 0) (m : CallMeaning C) (told : B 
   pub record IsClosed (p : Parts C B) (s : ℕ) (c : C) (g : Request) (a : Answer) (q : Parts C B) : Type 0 where
     pub book : q.book.items ≡ p.book.items ++ call_entry s c a ∷ []
     pub faults : q.faults ≡ p.faults
+    pub prepared : q.prepared ≡ None
     pub cycle : List ℕ
     pub is : a ≡ answer.Deadlock cycle
     pub closes : (st : State C) (t : Live C) → Stands is_valid m told p st → of_session s st.live ≡ Some t → cycle_through (with_wait st t c g).live s ≡ Some cycle
@@ -150,6 +134,7 @@ module _ {C B : Type 0} (is_valid : C → Type 0) (m : CallMeaning C) (told : B 
     pub book : q.book.items ≡ p.book.items ++ fail_entry s c k f ∷ []
     pub above : IsAbove p.faults f
     pub faults : q.faults ≡ latest p.faults f
+    pub prepared : q.prepared ≡ None
     pub some : (is_some f || nat_lt 0 k) ≡ true
     pub state : (st : State C) → Stands is_valid m told p st → Stands is_valid m told q (unqueued st s)
 

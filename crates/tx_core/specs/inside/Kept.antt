@@ -1,12 +1,13 @@
 -- What the type of a core keeps.
-use Rattle.std.specs.Prelude.{◌≡◌, ℕ, Option, None}
+use Rattle.std.specs.Prelude.{◌≡◌, ℕ, Option, Some}
 use Rattle.tree_model.specs.Tree.{Tree}
 use Rattle.tree_model.specs.Entries.{Entries}
 use Rattle.node_seq.specs.Trees.{StandsFor}
 use Rattle.call_contract.specs.Calls.{CallMeaning}
-use Rattle.call_contract.specs.States.{State, start}
+use Rattle.call_contract.specs.States.{start}
 use Rattle.call_contract.specs.Books.{last, IsRun, FaultsRise, last_fault, HasValidCalls}
 use Rattle.tx_core.specs.declared.parts.Parts.{Parts}
+use Rattle.tx_core.specs.inside.Sessions.{IsSeated}
 use Rattle.tx_core.specs.inside.Standing.{Stands}
 
 module _ {C B : Type 0} (is_valid : C → Type 0) (m : CallMeaning C) (told : B → Option Entries) where
@@ -15,9 +16,13 @@ module _ {C B : Type 0} (is_valid : C → Type 0) (m : CallMeaning C) (told : B 
     pub run : IsRun m (start t number limit) p.book.items
     pub stands : Stands is_valid m told p (last m (start t number limit) p.book.items)
 
-  -- the book's calls are valid and its counts of faults rise; where the opening's map is known, the book is a run from its tree
-  pub record IsCore (opening : B) (number limit : ℕ) (p : Parts C B) : Type 0 where
+  -- the book's calls are valid, its counts of faults rise, above the base's at the opening, and the sessions are as it tells;
+  -- where the opening's map is known, the book is a run from its tree
+  pub record IsCore (count : B → ℕ) (opening : B) (number limit : ℕ) (p : Parts C B) : Type 0 where
     pub valid : HasValidCalls is_valid p.book.items
-    pub rise : FaultsRise None p.book.items
-    pub last : p.faults ≡ last_fault None p.book.items
+    pub rise : FaultsRise (Some (count opening)) p.book.items
+    pub last : p.faults ≡ last_fault (Some (count opening)) p.book.items
+    pub seated : IsSeated p
+    pub opened : p.opened ≡ number
+    pub limited : p.limit ≡ limit
     pub run : (t : Tree) → StandsFor (told opening) t → IsRunFrom t number limit p

@@ -1,5 +1,5 @@
 -- What a core's parts keep of the machine's state.
-use Rattle.std.specs.Prelude.{◌≡◌, ℕ, List, [], Option, Some, None, option_map, is_some}
+use Rattle.std.specs.Prelude.{◌≡◌, ℕ, List, [], Option, Some, None, is_some}
 use Rattle.std.specs.List.{AllByRecursion}
 use Rattle.std.specs.Ordering.{nat_cmp}
 use Rattle.std.specs.BTreeMap.{get}
@@ -11,6 +11,7 @@ use Rattle.lock_table.specs.Grants.{IsTableOf}
 use Rattle.wait_cycles.specs.Walks.{Rises}
 use Rattle.wait_graph.specs.Graphs.{waits}
 use Rattle.overlays.specs.Views.{contents_after}
+use Rattle.call_contract.specs.CallChanges.{changes_of_calls}
 use Rattle.call_contract.specs.Calls.{CallMeaning}
 use Rattle.call_contract.specs.States.{Waiting, Live, State, view, of_session, sessions}
 use Rattle.tx_core.specs.declared.parts.Parts.{Parts}
@@ -43,8 +44,9 @@ request_of None = None
 request_of (Some t) = waited_of t.waits
 
 module _ {C : Type 0} (is_valid : C → Type 0) (m : CallMeaning C) where
-  -- what is kept of a live transaction: the map that it sees, whether it waits, and that its calls are valid
+  -- what is kept of a live transaction: what its calls change on the committed tree, the map that it sees, whether it waits, and that its calls are valid
   pub record IsSeatOf (committed : Tree) (seat : Seat) (t : Live C) : Type 0 where
+    pub changes : seat.own ≡ changes_of_calls m t.calls committed
     pub own : changed seat.own (map_of committed) ≡ map_of (view m t.calls committed)
     pub waits : is_some seat.waiting ≡ is_some t.waits
     pub valid : AllByRecursion (λ a. is_valid a.call) t.calls

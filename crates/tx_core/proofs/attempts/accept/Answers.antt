@@ -11,7 +11,7 @@ returns-in-Ok-clause-ok g c =
     let s = c.args.session in
     record {
       each = accepted g.C.TreeCall.is_valid g.C.TreeCall.meaning g.B.NodeRead.contents g.met.C.TreeCall.laws p _ s c.in-Some.seat c.add.new.self c.args.outcome.changes
-          (sym c.in-Some.ensures.seat) c.in-Ok.ensures.effect
+          (sym c.in-Some.ensures.seat) c.in-Ok.ensures.changes c.in-Ok.ensures.effect
           (taken_again s (record { own = c.add.new.self; waiting = _ }) (λ o. seat_in (tree.get nat_cmp p.places o)) (λ o. seat_in (tree.get nat_cmp c.unseat.new.places o)) (λ o. seat_in (tree.get nat_cmp c.seat_again.new.places o)) c.unseat.ensures.seats c.seat_again.ensures.seats)
           (λ o. c.seat_again.ensures.ordinals o ∙ c.unseat.ensures.ordinals o)
           (record { base = refl; layers = refl; opened = refl; limit = refl; number = refl }) refl refl c.stop.ensures.waits refl;

@@ -1,5 +1,8 @@
-use Rattle.std.proofs.Common.{sym, ◌∙◌}
+use Rattle.std.proofs.Common.{sym, ap, ◌∙◌, Bool, cond, Some, None}
 use Rattle.call_contract.specs.States.{view}
+use Rattle.tx_core.specs.declared.errors.SessionError.TheVariants.{IsWaiting}
+use Rattle.tx_core.specs.inside.Sessions.{wait_of}
+use Rattle.tx_core.proofs.Told.{call_refused}
 use Rattle.tx_core.proofs.Moves.{is_live}
 use Rattle.tx_core.proofs.Reached.{sees, ready}
 use Rattle.tx_core.proofs.attempts.requests_of.Goals as goal
@@ -21,3 +24,8 @@ returns-in-Ok-clause-value g c =
       ready = ready v m told p st s seat live.0 stands there live.1 (sym c.is_some.ensures ∙ c.if-is_some.false);
       are = c.in-Ok.ensures.value (view m live.0.calls st.tree) (sees v m told g.met.C.TreeCall.laws p st s seat live.0 stands there live.1);
     }
+
+pub returns-in-Ok-clause-refused : goal.returns-in-Ok-clause-refused
+returns-in-Ok-clause-refused g c =
+    sym (call_refused c.args.parts.now c.args.session c.in-Some.seat.now.waiting c.requires (ap wait_of (sym c.in-Some.ensures))
+    ∙ ap (λ (b : Bool). cond b (Some IsWaiting) None) (sym c.if-is_some.ensures))

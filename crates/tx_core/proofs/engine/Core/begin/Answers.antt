@@ -8,5 +8,5 @@ invariant_of-self g c =
     let told = g.B.NodeRead.contents in
     let h = c.self.inside in
     of_both c.begin.result c.begin.ensures.ok c.begin.ensures.err
-    (λ x is. core_goes v m told h.opening.value h.number h.limit h.parts _ c.begin.new.parts c.self.invariant is)
-    (λ is. core_stays v m told h.opening.value h.number h.limit h.parts c.begin.new.parts c.self.invariant is)
+    (λ x is. core_goes v m told g.B.NodeRead.count h.opening.value h.number h.limit h.parts _ c.begin.new.parts c.self.invariant is c.begin.ensures.seated)
+    (λ is. core_stays v m told g.B.NodeRead.count h.opening.value h.number h.limit h.parts c.begin.new.parts c.self.invariant is c.begin.ensures.seated)

@@ -1,8 +1,21 @@
-use Rattle.std.proofs.Common.{sym}
+use Rattle.std.proofs.Common.{sym, ap, subst, ◌∙◌}
+use Rattle.tx_core.specs.Cores.{CoreView}
+use Rattle.tx_core.specs.Queues.{HasQueue, times}
+use Rattle.call_contract.proofs.BookLaws.{serial_book}
 use Rattle.tx_core.proofs.Kept.{core_legal}
 use Rattle.tx_core.proofs.engine.Core.is_legal.Goals as goal
 
-pub returns : goal.returns
-returns g c =
+pub returns-clause-book : goal.returns-clause-book
+returns-clause-book g c =
     let h = c.self.inside in
-    core_legal g.C.TreeCall.is_valid g.C.TreeCall.meaning g.B.NodeRead.contents h.opening.value h.number h.limit h.parts c.args.self.now (sym c.self.view_is) c.self.invariant
+    core_legal g.C.TreeCall.is_valid g.C.TreeCall.meaning g.B.NodeRead.contents g.B.NodeRead.count h.opening.value h.number h.limit h.parts c.args.self.now (sym c.self.view_is) c.self.invariant
+
+pub returns-clause-serial : goal.returns-clause-serial
+returns-clause-serial g c =
+    let h = c.self.inside in
+    λ t opens. serial_book g.C.TreeCall.is_valid g.C.TreeCall.meaning g.met.C.TreeCall.laws t c.args.self.now.number c.args.self.now.limit c.args.self.now.book
+    (core_legal g.C.TreeCall.is_valid g.C.TreeCall.meaning g.B.NodeRead.contents g.B.NodeRead.count h.opening.value h.number h.limit h.parts c.args.self.now (sym c.self.view_is) c.self.invariant t opens)
+
+pub returns-clause-queue : goal.returns-clause-queue
+returns-clause-queue g c =
+    subst (λ (v : CoreView _ _). HasQueue v.book) c.self.view_is (λ s. ap (times s) (sym c.self.invariant.seated.queue) ∙ c.self.invariant.seated.waits s)

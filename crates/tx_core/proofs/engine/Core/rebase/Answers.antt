@@ -1,0 +1,19 @@
+use Rattle.std.proofs.Common.{◌≡◌, ◌≤◌, Some, ap, sym, subst, arith}
+use Rattle.tree_model.specs.Tree.{Tree, map_of}
+use Rattle.node_seq.specs.Trees.{StandsFor}
+use Rattle.overlays.specs.Layered.{Layered}
+use Rattle.tx_core.specs.Cores.{CoreView, state_from}
+use Rattle.tx_core.proofs.CommitsKept.{core_rebased}
+use Rattle.tx_core.proofs.Told.{rebased_seated}
+use Rattle.tx_core.proofs.engine.Core.rebase.Goals as goal
+
+pub invariant_of-self : goal.invariant_of-self
+invariant_of-self g c =
+    let m = g.C.TreeCall.meaning in
+    let told = g.B.NodeRead.contents in
+    let p = c.self.inside.parts in
+    let q = c.rebase.new.parts in
+    let spare : 1 ≤ q.layers.spare = omega (arith, ap (λ (l : Layered). l.spare) c.rebase.ensures.layers) in
+    core_rebased g.C.TreeCall.is_valid m told g.B.NodeRead.count c.self.inside.opening.value c.self.inside.number c.self.inside.limit p q c.args.base c.rebase.ensures.same c.rebase.ensures.state
+    (subst (λ (v : CoreView _ _). (t : Tree) → StandsFor (told v.opening) t → told c.args.base ≡ Some (map_of (state_from m t v).tree)) (sym c.self.view_is) c.requires.committed)
+    (rebased_seated p q c.args.base c.self.invariant.seated c.rebase.ensures.same spare) c.self.invariant

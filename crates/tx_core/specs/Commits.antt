@@ -1,0 +1,38 @@
+-- Commits: what is prepared of them, and when a transaction has changed too much for one.
+use Rattle.std.specs.Prelude.{◌≡◌, ◌≢◌, ◌≤◌, ℕ, nat_lt, Bool, true, length, Some}
+use Rattle.node_records.specs.Changes.{changes_bytes, changes_of as changes_read}
+use Rattle.node_seq.specs.ChangeLists.{IsChangeList}
+use Rattle.call_contract.specs.CallChanges.{changes_of_calls}
+use Rattle.call_contract.specs.Calls.{CallMeaning}
+use Rattle.call_contract.specs.Lives.{IsReplayed}
+use Rattle.call_contract.specs.States.{Live, State, of_session}
+use Rattle.tx_core.specs.Cores.{CoreView, next_number}
+use Rattle.tx_core.specs.declared.commits.Prepared.{Prepared}
+
+-- the most bytes that a commit's body may have
+abbrev pub body_limit : ℕ
+body_limit = 4294967295
+
+-- what the transaction has changed is more than a commit may hold
+abbrev pub is_past_limit : {C : Type 0} → CallMeaning C → State C → Live C → Bool
+is_past_limit m st t = nat_lt body_limit (length (changes_bytes (changes_of_calls m t.calls st.tree)))
+
+-- what is prepared is the next commit: its body has the changes, and they are read off it again
+pub record IsPrepared {C B : Type 0} (v : CoreView C B) (p : Prepared) : Type 0 where
+  pub number : p.number ≡ next_number v
+  pub list : IsChangeList p.changes
+  pub body : p.body ≡ changes_bytes p.changes
+  pub read : changes_read p.body ≡ Some p.changes
+  pub short : length p.body ≤ body_limit
+
+-- the changes are those of the session's transaction in this state
+abbrev pub HasChangesOf : {C : Type 0} → CallMeaning C → State C → ℕ → Prepared → Type 0
+HasChangesOf {C = C} m st s p = (x : Live C) → of_session s st.live ≡ Some x → p.changes ≡ changes_of_calls m x.calls st.tree
+
+-- the session's transaction has changed too much in this state
+abbrev pub IsPastLimitIn : {C : Type 0} → CallMeaning C → State C → ℕ → Type 0
+IsPastLimitIn {C = C} m st s = (x : Live C) → of_session s st.live ≡ Some x → is_past_limit m st x ≡ true
+
+-- when a session's transaction commits in this state, every other live one's calls have on the new tree the same requests, replies and written values
+abbrev pub ReplaysOthers : {C : Type 0} → CallMeaning C → State C → ℕ → Type 0
+ReplaysOthers {C = C} m st s = (u : ℕ) (x y : Live C) → of_session s st.live ≡ Some x → of_session u st.live ≡ Some y → u ≢ s → IsReplayed m st x y

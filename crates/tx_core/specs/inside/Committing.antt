@@ -1,0 +1,57 @@
+-- Preparing a commit and making it.
+use Rattle.std.specs.Prelude.{◌≡◌, ◌≤◌, ◌++◌, ◌∷◌, [], List, ℕ, cond, is_some, length, Option, Some, None}
+use Rattle.std.specs.Ordering.{nat_cmp}
+use Rattle.std.specs.BTreeMap.{get}
+use Rattle.node_records.specs.Changes.{changes_bytes, changes_of as changes_read}
+use Rattle.node_seq.specs.ChangeLists.{IsChangeList}
+use Rattle.tree_model.specs.Entries.{Entries}
+use Rattle.tree_model.specs.declared.change.Change.{Change}
+use Rattle.call_contract.specs.Books.{next, IsAnswer, HasValidCall, IsAbove, IsReached, latest, fault_in}
+use Rattle.call_contract.specs.Calls.{CallMeaning}
+use Rattle.call_contract.specs.States.{State}
+use Rattle.call_contract.specs.Steps.{step}
+use Rattle.call_contract.specs.declared.events.Noted.{Noted}
+use Rattle.tx_core.specs.Commits.{body_limit}
+use Rattle.tx_core.specs.declared.commits.Prepared.{Prepared}
+use Rattle.tx_core.specs.declared.errors.SessionError.{SessionError}
+use Rattle.tx_core.specs.declared.errors.SessionError.TheVariants.{IsWaiting, NoTransaction}
+use Rattle.tx_core.specs.declared.parts.Parts.{Parts}
+use Rattle.tx_core.specs.declared.parts.Seat.{Seat}
+use Rattle.tx_core.specs.inside.Standing.{Stands, seat_in}
+
+-- there is a transaction, and it doesn't wait
+abbrev pub IsReady : Option Seat → Type 0
+IsReady None = ⊥
+IsReady (Some seat) = seat.waiting ≡ None
+
+-- there is a transaction, and these are its changes
+abbrev pub HasChanges : Option Seat → List Change → Type 0
+HasChanges None changes = ⊥
+HasChanges (Some seat) changes = changes ≡ seat.own
+
+-- why no commit of it is prepared, before what it has changed is looked at
+abbrev pub commit_refused : Option Seat → Option SessionError
+commit_refused None = Some NoTransaction
+commit_refused (Some seat) = cond (is_some seat.waiting) (Some IsWaiting) None
+
+-- what is prepared is a commit of this number: its body has the changes, and they are read off it again
+pub record IsCommit (n : ℕ) (p : Prepared) : Type 0 where
+  pub number : p.number ≡ n
+  pub list : IsChangeList p.changes
+  pub body : p.body ≡ changes_bytes p.changes
+  pub read : changes_read p.body ≡ Some p.changes
+  pub short : length p.body ≤ body_limit
+
+-- the session whose commit was prepared is ready for it, and its layer has its memory
+abbrev pub KeepsPrepared : {C B : Type 0} → Parts C B → Type 0
+KeepsPrepared p = (s : ℕ) → p.prepared ≡ Some s → IsReady (seat_in (get nat_cmp p.places s)) × (1 ≤ p.layers.spare)
+
+module _ {C B : Type 0} (is_valid : C → Type 0) (m : CallMeaning C) (told : B → Option Entries) where
+  -- the book gains the machine's entry, and the core stands for the state after it, wherever it stood for a state that a legal book comes to
+  pub record GoesOn (p : Parts C B) (n : Noted C) (q : Parts C B) : Type 0 where
+    pub book : q.book.items ≡ p.book.items ++ n ∷ []
+    pub valid : HasValidCall is_valid n.event
+    pub above : IsAbove p.faults (fault_in n.event)
+    pub faults : q.faults ≡ latest p.faults (fault_in n.event)
+    pub entry : (st : State C) → IsReached is_valid m st → Stands is_valid m told p st → IsAnswer n.answer (step m st n.session n.event)
+    pub state : (st : State C) → IsReached is_valid m st → Stands is_valid m told p st → Stands is_valid m told q (next m st n)

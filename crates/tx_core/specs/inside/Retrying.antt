@@ -1,0 +1,191 @@
+-- How a retry moves the core.
+use Rattle.std.specs.Prelude.{◌≡◌, ◌⊎◌, ℕ, zero, suc, Bool, true, false, not, ◌||◌, List, [], ◌∷◌, ◌++◌, take, get_or, Option, Some, None, if◌then◌else◌}
+use Rattle.std.specs.Ordering.{nat_cmp}
+use Rattle.std.specs.BTreeMap.{get}
+use Rattle.tree_model.specs.Entries.{Entries}
+use Rattle.tree_model.specs.declared.reply.Reply.{Reply}
+use Rattle.lock_resources.specs.declared.request.Request.{Request}
+use Rattle.call_contract.specs.Calls.{CallMeaning}
+use Rattle.call_contract.specs.States.{Waiting, Live, State, view, of_session, put, ended}
+use Rattle.call_contract.specs.Waits.{cycle_through}
+use Rattle.call_contract.specs.Steps.{step}
+use Rattle.call_contract.specs.Books.{Book, next, IsAnswer, IsAbove, latest, fault_in, entry}
+use Rattle.call_contract.specs.declared.events.Event.{Event}
+use Rattle.call_contract.specs.declared.events.Event.TheVariants as event
+use Rattle.call_contract.specs.declared.events.EventAnswer.TheVariants as said
+use Rattle.call_contract.specs.declared.events.Answer.{Answer}
+use Rattle.call_contract.specs.declared.events.Answer.TheVariants as answer
+use Rattle.call_contract.specs.declared.events.Noted.{Noted}
+use Rattle.tx_core.specs.Retries.{IsRetried, IsNotedRetry, hold_more, same_request}
+use Rattle.tx_core.specs.declared.parts.Parts.{Parts}
+use Rattle.tx_core.specs.declared.parts.Seat.{Seat}
+use Rattle.tx_core.specs.declared.asking.Got.{Got}
+use Rattle.tx_core.specs.declared.asking.Got.TheVariants.{All, Barred, NoMemory}
+use Rattle.tx_core.specs.inside.Goes.{shown_wait, with_answer, with_wait, unqueued}
+use Rattle.tx_core.specs.inside.Standing.{Stands, seat_in}
+
+-- ---- the call that waits, as the book has it
+
+abbrev pub call_of : {C : Type 0} → Event C → Option C
+call_of (event.Call c) = Some c
+call_of e = None
+
+abbrev pub call_at : {C : Type 0} → Book C → ℕ → Option C
+call_at [] k = None
+call_at (n ∷ ns) zero = call_of n.event
+call_at (n ∷ ns) (suc k) = call_at ns k
+
+abbrev pub call_by : {C : Type 0} → Book C → Option ℕ → Option C
+call_by book None = None
+call_by book (Some k) = call_at book k
+
+-- the call with which the transaction in a seat waits
+abbrev pub call_in : {C : Type 0} → Book C → Option Seat → Option C
+call_in book None = None
+call_in book (Some seat) = call_by book seat.waiting
+
+-- the call with which a session waits
+abbrev pub waiting_call : {C B : Type 0} → Parts C B → ℕ → Option C
+waiting_call p s = call_in p.book.items (seat_in (get nat_cmp p.places s))
+
+-- the session waits with this call in this state
+pub record IsWaitingWith {C : Type 0} (st : State C) (s : ℕ) (c : C) : Type 0 where
+  pub live : Live C
+  pub found : of_session s st.live ≡ Some live
+  pub waiting : Waiting C
+  pub waits : live.waits ≡ Some waiting
+  pub call : waiting.call ≡ c
+
+-- ---- entries
+
+abbrev pub retry_entry : {C : Type 0} → ℕ → Answer → Noted C
+retry_entry s a = entry s event.Retry (said.Call a)
+
+abbrev pub failed_retry : {C : Type 0} → ℕ → ℕ → Option ℕ → Noted C
+failed_retry s k f = entry s (event.Fail None k f) said.Nothing
+
+-- ---- lists
+
+-- where the first one stands that passes a test; the length where none does
+abbrev pub first_at : {A : Type 0} → (A → Bool) → List A → ℕ
+first_at p [] = 0
+first_at p (x ∷ xs) = if p x then 0 else suc (first_at p xs)
+
+-- those that were granted
+abbrev pub granted_front : List Request → Got → List Request
+granted_front qs All = qs
+granted_front qs (Barred k hs) = take k qs
+granted_front qs (NoMemory k) = take k qs
+
+-- what is waited for is this request
+abbrev pub waits_for_it : Option Request → Request → Bool
+waits_for_it None g = false
+waits_for_it (Some h) g = same_request h g
+
+-- ---- states
+
+-- a transaction that doesn't wait
+abbrev pub at_rest : {C : Type 0} → State C → Live C → State C
+at_rest st t = record st { live = put (record t { waits = None }) st.live }
+
+module _ {C B : Type 0} (is_valid : C → Type 0) (m : CallMeaning C) (told : B → Option Entries) where
+  -- the book gains the machine's entry of the retry of a waiting call, and the core stands for the state after it
+  pub record GoesAgain (p : Parts C B) (s : ℕ) (c : C) (n : Noted C) (q : Parts C B) : Type 0 where
+    pub book : q.book.items ≡ p.book.items ++ n ∷ []
+    pub prepared : q.prepared ≡ None
+    pub above : IsAbove p.faults (fault_in n.event)
+    pub faults : q.faults ≡ latest p.faults (fault_in n.event)
+    pub entry : (st : State C) → Stands is_valid m told p st → IsWaitingWith st s c → IsAnswer n.answer (step m st n.session n.event)
+    pub state : (st : State C) → Stands is_valid m told p st → IsWaitingWith st s c → Stands is_valid m told q (next m st n)
+
+  -- all stays, as far as books and states tell
+  pub record StaysWaiting (p : Parts C B) (s : ℕ) (c : C) (q : Parts C B) : Type 0 where
+    pub book : q.book.items ≡ p.book.items
+    pub prepared : q.prepared ≡ p.prepared
+    pub faults : q.faults ≡ p.faults
+    pub places : q.places ≡ p.places
+    pub queue : q.waiting.items ≡ p.waiting.items
+    pub state : (st : State C) → Stands is_valid m told p st → IsWaitingWith st s c → Stands is_valid m told q st
+
+  -- the retry is an entry, or none
+  abbrev pub HasMoved : Parts C B → ℕ → C → Answer → Bool → Parts C B → Type 0
+  HasMoved p s c a true q = GoesAgain p s c (retry_entry s a) q
+  HasMoved p s c a false q = StaysWaiting p s c q
+
+  -- the retry was answered so, and is an entry or none
+  pub record IsAgain (p : Parts C B) (s : ℕ) (c : C) (a : Answer) (q : Parts C B) : Type 0 where
+    pub noted : Bool
+    pub may_be : IsNotedRetry a noted
+    pub moved : HasMoved p s c a noted q
+    pub step : (st : State C) → Stands is_valid m told p st → IsWaitingWith st s c → IsRetried m st s a noted
+
+  -- ---- what each part of a retry comes to
+
+  -- the call was answered to a transaction that has all that it asks for
+  pub record IsAnsweredAgain (p : Parts C B) (s : ℕ) (c : C) (a : Answer) (q : Parts C B) : Type 0 where
+    pub book : q.book.items ≡ p.book.items ++ retry_entry s a ∷ []
+    pub prepared : q.prepared ≡ None
+    pub faults : q.faults ≡ p.faults
+    pub reply : Reply
+    pub is : a ≡ answer.Answered reply
+    pub means : (st : State C) (t : Live C) → Stands is_valid m told p st → of_session s st.live ≡ Some t → reply ≡ m.reply c (view m t.calls st.tree)
+    pub state : (st : State C) (t : Live C) → Stands is_valid m told p st → of_session s st.live ≡ Some t → Stands is_valid m told q (unqueued (with_answer st t c reply) s)
+
+  -- it is an entry, with the request that it now waits for
+  pub record PutsAgain (p : Parts C B) (s : ℕ) (g : Request) (a : Answer) (q : Parts C B) : Type 0 where
+    pub book : q.book.items ≡ p.book.items ++ retry_entry s a ∷ []
+    pub prepared : q.prepared ≡ None
+    pub state : (st : State C) (t : Live C) (w : Waiting C) (c : C) → Stands is_valid m told p st → of_session s st.live ≡ Some t → t.waits ≡ Some w → Stands is_valid m told q (with_wait st t c g)
+
+  -- it is none, and all stays
+  pub record KeepsWaiting (p : Parts C B) (q : Parts C B) : Type 0 where
+    pub book : q.book.items ≡ p.book.items
+    pub prepared : q.prepared ≡ p.prepared
+    pub places : q.places ≡ p.places
+    pub queue : q.waiting.items ≡ p.waiting.items
+    pub state : (st : State C) → Stands is_valid m told p st → Stands is_valid m told q st
+
+  abbrev pub IsPutAgain : Parts C B → ℕ → Request → Answer → Bool → Parts C B → Type 0
+  IsPutAgain p s g a true q = PutsAgain p s g a q
+  IsPutAgain p s g a false q = KeepsWaiting p q
+
+  -- the transaction waits in its place, and no session waits for itself by it; more is what was granted beyond what it held
+  pub record WaitsAgain (p : Parts C B) (s : ℕ) (g : Request) (hs : List ℕ) (more : Bool) (a : Answer) (q : Parts C B) : Type 0 where
+    pub is : a ≡ shown_wait g hs
+    pub faults : q.faults ≡ p.faults
+    pub alone : (st : State C) (t : Live C) (c : C) → Stands is_valid m told p st → of_session s st.live ≡ Some t → cycle_through (with_wait st t c g).live s ≡ None
+    pub noted : Bool
+    pub changed : (st : State C) (t : Live C) (w : Waiting C) → Stands is_valid m told p st → of_session s st.live ≡ Some t → t.waits ≡ Some w → (more || not (same_request w.request g)) ≡ noted
+    pub moved : IsPutAgain p s g a noted q
+
+  -- waiting would close this cycle, and the transaction is ended
+  pub record IsClosedAgain (p : Parts C B) (s : ℕ) (g : Request) (a : Answer) (q : Parts C B) : Type 0 where
+    pub book : q.book.items ≡ p.book.items ++ retry_entry s a ∷ []
+    pub prepared : q.prepared ≡ None
+    pub faults : q.faults ≡ p.faults
+    pub cycle : List ℕ
+    pub is : a ≡ answer.Deadlock cycle
+    pub closes : (st : State C) (t : Live C) (c : C) → Stands is_valid m told p st → of_session s st.live ≡ Some t → cycle_through (with_wait st t c g).live s ≡ Some cycle
+    pub state : (st : State C) → Stands is_valid m told p st → Stands is_valid m told q (ended st s)
+
+  abbrev pub IsStoppedAgain : Parts C B → ℕ → Request → List ℕ → Bool → Answer → Parts C B → Type 0
+  IsStoppedAgain p s g hs more a q = WaitsAgain p s g hs more a q ⊎ IsClosedAgain p s g a q
+
+  -- that the retry failed is noted, with a count of faults above all before, and nothing else
+  pub record IsFailedAgain (p : Parts C B) (s : ℕ) (k : ℕ) (f : Option ℕ) (q : Parts C B) : Type 0 where
+    pub book : q.book.items ≡ p.book.items ++ failed_retry s k f ∷ []
+    pub prepared : q.prepared ≡ None
+    pub above : IsAbove p.faults f
+    pub faults : q.faults ≡ latest p.faults f
+    pub state : (st : State C) (t : Live C) → Stands is_valid m told p st → of_session s st.live ≡ Some t → Stands is_valid m told q (unqueued (at_rest st t) s)
+
+  -- what a settled retry is answered
+  abbrev pub IsSettledAgain : Parts C B → ℕ → C → List Request → Got → Bool → Answer → Parts C B → Type 0
+  IsSettledAgain p s c qs All more a q = IsAnsweredAgain p s c a q
+  IsSettledAgain p s c qs (Barred k hs) more a q = (g : Request) → g ≡ get_or qs k g → IsStoppedAgain p s g hs more a q
+  IsSettledAgain p s c qs (NoMemory k) more a q = ⊥
+
+  -- what the requests of a retry have come to, and whether the transaction holds more than before
+  pub record AreAsked (p : Parts C B) (s : ℕ) (qs : List Request) (got : Got) (more : Bool) (q : Parts C B) : Type 0 where
+    pub raised : (st : State C) (t : Live C) → Stands is_valid m told p st → of_session s st.live ≡ Some t → hold_more t.grants (t.grants ++ granted_front qs got) ≡ more
+    pub kept : more ≡ false → (st : State C) → Stands is_valid m told p st → Stands is_valid m told q st

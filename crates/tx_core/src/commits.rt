@@ -1,0 +1,169 @@
+//! Commits: what one needs is prepared first, and then it takes no memory.
+
+ghost use Rattle.std.specs.Prelude.{◌≡◌, ◌≢◌, ℕ, cond, ◌==◌, ◌+◌, ◌≤◌, ◌<◌, [], Some, None, Err, true, nat_lt, length, vec_capacity, IfOk, OnOk, OnErr};
+ghost use Rattle.std.specs.Ordering.{nat_cmp};
+ghost use Rattle.std.specs.BTreeMap.{get};
+ghost use Rattle.node_records.specs.Changes.{changes_bytes, changes_of as changes_read};
+ghost use Rattle.node_seq.specs.ChangeLists.{IsChangeList};
+ghost use Rattle.tree_model.specs.Tree.{map_of};
+ghost use Rattle.call_contract.specs.States.{State, without};
+ghost use Rattle.call_contract.specs.Books.{entry as entry_of};
+ghost use Rattle.call_contract.specs.declared.events.Event.TheVariants as event;
+ghost use Rattle.call_contract.specs.declared.events.EventAnswer.TheVariants as said;
+ghost use Rattle.tx_core.specs.declared.errors.SessionError.TheVariants as error;
+ghost use Rattle.tx_core.specs.Commits.{body_limit, HasChangesOf, IsPastLimitIn};
+ghost use Rattle.tx_core.specs.Refusals.{shown_prepare_refusal};
+ghost use Rattle.tx_core.specs.inside.Committing.{IsReady, HasChanges, commit_refused, IsCommit, GoesOn};
+ghost use Rattle.tx_core.specs.inside.Sessions.{IsSeated, IsSeatedAs};
+ghost use Rattle.tx_core.specs.inside.Standing.{Stands, seat_in, ordinal_in};
+
+use crate::SessionError;
+use crate::ends::{note, stop_waiting};
+use crate::parts::{Parts, Places, Seat};
+use crate::places::{seat_at, unseat};
+use call_contract::{Event, EventAnswer, Noted, TreeCall};
+use dewey_labels::List;
+use node_records::write_change;
+use node_seq::NodeRead;
+use overlays::Layers;
+use std::alloc::Global;
+use std::mem;
+use tree_model::Changes;
+
+/// A commit that may be made durable and then made.
+#[derive(Debug, Drop)]
+pub struct Prepared {
+    pub number: u32,
+    /// What the transaction has changed, by rising keys.
+    pub changes: Changes,
+    /// The bytes of these changes, as a journal has them.
+    pub body: List<u8>,
+}
+
+/// The most bytes that a commit's body may have.
+const BODY_LIMIT: usize = 4_294_967_295;
+
+/// What a session's transaction has changed, where it may be committed.
+fn changes_at(alloc: Global, places: &Places, session: u32) -> Result<Changes, SessionError>
+    ensures ready { OnOk result (IsReady (seat_in (get nat_cmp places.now session))) }
+    ensures changes { IfOk result (λ changes. HasChanges (seat_in (get nat_cmp places.now session)) changes) }
+    ensures list { IfOk result (λ changes. IsChangeList changes) }
+    ensures refused { shown_prepare_refusal result ≡ commit_refused (seat_in (get nat_cmp places.now session)) }
+    ensures limit { result ≢ Err error.CommitLimit }
+{
+    let Some(seat) = seat_at(places, session) else {
+        return Err(SessionError::NoTransaction);
+    };
+    if seat.waiting.is_some() {
+        return Err(SessionError::IsWaiting);
+    }
+    match seat.own.fold(alloc) {
+        Ok(changes) => Ok(changes),
+        Err(_) => Err(SessionError::NoMemory),
+    }
+}
+
+/// The bytes of changes, where a commit may have so many.
+fn body_of(alloc: Global, changes: &Changes) -> Result<List<u8>, SessionError>
+    ensures body { IfOk result (λ body. body ≡ changes_bytes changes.now) }
+    ensures read { IfOk result (λ body. changes_read body ≡ Some changes.now) }
+    ensures short { IfOk result (λ body. length body ≤ body_limit) }
+    ensures refused { shown_prepare_refusal result ≡ None }
+    ensures limit { result ≡ Err error.CommitLimit → nat_lt body_limit (length (changes_bytes changes.now)) ≡ true }
+{
+    let mut body = List::new(alloc);
+    for change in changes.as_slice() {
+        if write_change(alloc, change, &mut body).is_err() {
+            return Err(SessionError::NoMemory);
+        }
+        if body.len() > BODY_LIMIT {
+            return Err(SessionError::CommitLimit);
+        }
+    }
+    Ok(body)
+}
+
+/// Takes all memory of a session's commit, and answers what is to be made durable before it. It costs what the transaction has changed.
+pub fn prepare<C: TreeCall + Drop, B: NodeRead>(
+    alloc: Global,
+    parts: &mut Parts<C, B>,
+    session: u32,
+) -> Result<Prepared, SessionError>
+    requires { IsReady (seat_in (get nat_cmp parts.old.places session)) → parts.old.number < 4294967295 }
+    ensures commit { IfOk result (IsCommit (parts.old.number + 1)) }
+    ensures changes { IfOk result (λ prepared. (st : State C) → Stands C.is_valid C.meaning B.contents parts.old st → HasChangesOf C.meaning st session prepared) }
+    ensures prepared { OnOk result (parts.new.prepared ≡ Some session) }
+    ensures spare { OnOk result (1 ≤ parts.new.layers.spare) }
+    ensures ready { OnOk result (IsReady (seat_in (get nat_cmp parts.new.places session))) }
+    ensures refused { shown_prepare_refusal result ≡ commit_refused (seat_in (get nat_cmp parts.old.places session)) }
+    ensures limit { result ≡ Err error.CommitLimit → (st : State C) → Stands C.is_valid C.meaning B.contents parts.old st → IsPastLimitIn C.meaning st session }
+    ensures err { OnErr result ((parts.new.prepared ≡ parts.old.prepared) × (parts.new.layers.spare ≡ parts.old.layers.spare)) }
+    ensures same { parts.new ≡ record parts.old { layers = parts.new.layers; prepared = parts.new.prepared } }
+    ensures state { (st : State C) → Stands C.is_valid C.meaning B.contents parts.old st → Stands C.is_valid C.meaning B.contents parts.new st }
+{
+    let changes = changes_at(alloc, &parts.places, session)?;
+    let body = body_of(alloc, &changes)?;
+    if parts.layers.reserve_layer(alloc).is_err() {
+        return Err(SessionError::NoMemory);
+    }
+    parts.prepared = Some(session);
+    Ok(Prepared {
+        number: parts.number + 1,
+        changes,
+        body,
+    })
+}
+
+/// Makes the commit that was prepared for a session, and answers its number. It takes no memory.
+pub fn commit<C: TreeCall + Drop, B: NodeRead>(
+    parts: &mut Parts<C, B>,
+    session: u32,
+    prepared: Prepared,
+) -> u32
+    requires seated { IsSeated parts.old }
+    requires ready { IsReady (seat_in (get nat_cmp parts.old.places session)) }
+    requires spare { 1 ≤ parts.old.layers.spare }
+    requires number { prepared.number ≡ parts.old.number + 1 }
+    ensures number { result ≡ prepared.number }
+    ensures goes { GoesOn C.is_valid C.meaning B.contents parts.old (entry_of session event.Commit (said.Number result)) parts.new }
+    ensures seated { IsSeatedAs parts.old parts.new }
+    ensures base { parts.new.base ≡ parts.old.base }
+    ensures none_prepared { parts.new.prepared ≡ None }
+{
+    // The count tells that a known base's map is in the order of its keys.
+    let _faults = parts.base.faults();
+    match unseat(&mut parts.places, session) {
+        Some(seat) => {
+            let Seat { own, waiting: _ } = seat;
+            parts.layers.push_layer(own);
+        }
+        None => unreachable!(),
+    }
+    let number = prepared.number;
+    parts.number = number;
+    parts.live -= 1;
+    parts.prepared = None;
+    parts.table.release_all(session);
+    parts.graph.stop(session);
+    stop_waiting(&mut parts.waiting, session);
+    note(
+        &mut parts.book,
+        Noted {
+            session,
+            event: Event::Commit,
+            answer: EventAnswer::Number(number),
+        },
+    );
+    number
+}
+
+/// Goes on over another base that stands for the committed tree, with no layers, and answers the old one.
+pub fn rebase<C: TreeCall + Drop, B: NodeRead>(alloc: Global, parts: &mut Parts<C, B>, base: B) -> B
+    ensures old { result ≡ parts.old.base }
+    ensures layers { parts.new.layers ≡ record { changes = []; deletions = 0; spare = 1 } }
+    ensures same { parts.new ≡ record parts.old { base = base; layers = parts.new.layers } }
+    ensures state { (st : State C) → Stands C.is_valid C.meaning B.contents parts.old st → B.contents base ≡ Some (map_of st.tree) → Stands C.is_valid C.meaning B.contents parts.new st }
+{
+    parts.layers = Layers::new(alloc);
+    mem::replace(&mut parts.base, base)
+}
