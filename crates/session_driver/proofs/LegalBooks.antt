@@ -14,7 +14,8 @@ use Rattle.call_contract.proofs.Appends.{faults_append}
 use Rattle.call_contract.proofs.BookLaws.{serial_book}
 use Rattle.command_lines.specs.declared.line_reply.SessionRefusal.{SessionRefusal}
 use Rattle.session_driver.specs.Progress.{Progress, noted}
-use Rattle.session_driver.specs.Retries.{has_changed, retried, if_retried, round, rounds}
+use Rattle.tx_core.specs.Retries.{has_changed}
+use Rattle.session_driver.specs.Retries.{retried, if_retried, round, rounds}
 use Rattle.session_driver.specs.Refusals.{refusal}
 use Rattle.session_driver.specs.Lines.{Asked, IsValidDoing, AreValid, event_of, then_retries, stepped, unless_refused, after_line, after_lines}
 use Rattle.session_driver.specs.declared.doing.Doing.{Doing}

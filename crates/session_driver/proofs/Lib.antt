@@ -1,4 +1,11 @@
+pub mod Left
 pub mod LegalBooks
+pub mod Committing
+pub mod Driven
+pub mod Kept
+pub mod Retried
+pub mod Rounds
 pub mod Runs
+pub mod Stepped
 pub mod Stopped
 pub mod Waiters

@@ -13,7 +13,8 @@ use Rattle.call_contract.proofs.Appends.{last_append, run_append}
 use Rattle.command_lines.specs.declared.line_reply.LineReply.{LineReply}
 use Rattle.command_lines.specs.declared.line_reply.SessionRefusal.{SessionRefusal}
 use Rattle.session_driver.specs.Progress.{Progress, noted, and_then, line_of}
-use Rattle.session_driver.specs.Retries.{has_changed, retried, if_retried, round, rounds, retries}
+use Rattle.tx_core.specs.Retries.{has_changed}
+use Rattle.session_driver.specs.Retries.{retried, if_retried, round, rounds, retries}
 use Rattle.session_driver.specs.Refusals.{refusal}
 use Rattle.session_driver.specs.Lines.{Asked, event_of, then_retries, stepped, unless_refused, after_line, after_lines}
 use Rattle.session_driver.specs.declared.doing.Doing.{Doing}

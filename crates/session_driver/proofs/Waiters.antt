@@ -20,7 +20,8 @@ use Rattle.call_contract.specs.declared.events.EventAnswer.TheVariants as said
 use Rattle.call_contract.proofs.Lists.{found_named, found_put, found_put_other, found_others, found_ended}
 use Rattle.command_lines.specs.declared.line_reply.SessionRefusal.{SessionRefusal}
 use Rattle.session_driver.specs.Progress.{Progress, noted}
-use Rattle.session_driver.specs.Retries.{has_changed, if_retried, round, rounds, retries}
+use Rattle.tx_core.specs.Retries.{has_changed}
+use Rattle.session_driver.specs.Retries.{if_retried, round, rounds, retries}
 use Rattle.session_driver.specs.Refusals.{refusal}
 use Rattle.session_driver.specs.Lines.{Asked, event_of, stepped, unless_refused, after_line, after_lines}
 use Rattle.session_driver.specs.Waiters.{IsStopped, StoppedBut, AllStopped, AllListed}

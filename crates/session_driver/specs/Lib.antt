@@ -4,3 +4,6 @@ pub mod Progress
 pub mod Retries
 pub mod Lines
 pub mod Waiters
+pub mod Driving
+-- words that only private functions and the proof use
+pub mod inside

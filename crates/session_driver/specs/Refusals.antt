@@ -1,21 +1,12 @@
 -- Why a session is refused a line, in the order of the tests (docs/PROFILE.md, "Lines of sessions"). A refused line changes nothing.
-use Rattle.std.specs.Prelude.{ℕ, ◌+◌, ◌==◌, nat_lt, Bool, cond, length, is_some, Option, None, Some}
-use Rattle.call_contract.specs.CallChanges.{changes_of_calls}
+use Rattle.std.specs.Prelude.{ℕ, ◌+◌, ◌==◌, cond, is_some, Option, None, Some}
 use Rattle.call_contract.specs.Calls.{CallMeaning}
 use Rattle.call_contract.specs.States.{Live, State, of_session}
 use Rattle.command_lines.specs.declared.line_reply.SessionRefusal.{SessionRefusal}
 use Rattle.command_lines.specs.declared.line_reply.SessionRefusal.TheVariants.{IsWaiting, InTransaction, NoTransaction, TxLimit, CommitLimit}
-use Rattle.node_records.specs.Changes.{changes_bytes}
+use Rattle.tx_core.specs.Commits.{is_past_limit}
 use Rattle.session_driver.specs.declared.doing.Doing.{Doing}
 use Rattle.session_driver.specs.declared.doing.Doing.TheVariants.{Begin, Commit, Abort, Call}
-
--- the most bytes that a commit's body may have
-abbrev pub body_limit : ℕ
-body_limit = 4294967295
-
--- what the transaction has changed is more than a commit may hold
-abbrev pub is_past_limit : {C : Type 0} → CallMeaning C → State C → Live C → Bool
-is_past_limit m st t = nat_lt body_limit (length (changes_bytes (changes_of_calls m t.calls st.tree)))
 
 -- a waiting session is asked for nothing but to abort
 abbrev pub unless_waiting : {C : Type 0} → Live C → Option SessionRefusal → Option SessionRefusal

@@ -1,49 +1,15 @@
 -- Retries: after a transaction has ended, the calls that wait are attempted again, in the order in which their sessions began to wait (docs/PROFILE.md, "Lines of sessions").
-use Rattle.std.specs.Prelude.{ℕ, suc, zero, Bool, true, false, not, ◌&&◌, ◌||◌, cond, length, List, [], ◌∷◌, Option, None, Some}
-use Rattle.std.specs.List.{list_any}
-use Rattle.std.specs.Str.{bytes_eq}
+use Rattle.std.specs.Prelude.{ℕ, suc, zero, true, cond, length, List, [], ◌∷◌, Option, None, Some}
 use Rattle.call_contract.specs.Books.{entry}
 use Rattle.call_contract.specs.Calls.{CallMeaning}
-use Rattle.call_contract.specs.States.{Live, Waiting, State, of_session}
+use Rattle.call_contract.specs.States.{State, of_session}
 use Rattle.call_contract.specs.Steps.{Outcome, step}
 use Rattle.call_contract.specs.declared.events.Answer.TheVariants as answer
 use Rattle.call_contract.specs.declared.events.EventAnswer.{EventAnswer}
 use Rattle.call_contract.specs.declared.events.EventAnswer.TheVariants as said
 use Rattle.call_contract.specs.declared.events.Event.TheVariants.{Retry}
-use Rattle.lock_modes.specs.ModeNames.{ask_name}
-use Rattle.lock_modes.specs.declared.ask.Ask.{Ask}
-use Rattle.lock_resources.specs.declared.request.Request.{Request}
-use Rattle.lock_table.specs.Asks.{join_with}
-use Rattle.lock_table.specs.Grants.{join_of}
-use Rattle.lock_table.specs.Resources.{same_resource}
+use Rattle.tx_core.specs.Retries.{has_changed}
 use Rattle.session_driver.specs.Progress.{Progress, stays, noted, line_of}
-
--- ---- whether a retry that waits again changed anything
-
-abbrev pub same_ask : Ask → Ask → Bool
-same_ask a b = bytes_eq (ask_name a) (ask_name b)
-
--- what is held has the mode already
-abbrev pub has_mode : Option Ask → Ask → Bool
-has_mode None a = false
-has_mode (Some held) a = same_ask (join_with a (Some held)) held
-
--- one of the grants asks for more than these hold
-abbrev pub hold_more : List Request → List Request → Bool
-hold_more grants more = list_any (λ g. not (has_mode (join_of grants g.resource) g.ask)) more
-
-abbrev pub same_request : Request → Request → Bool
-same_request g h = same_resource g.resource h.resource && same_ask g.ask h.ask
-
--- they wait for one request
-abbrev pub wait_alike : {C : Type 0} → Option (Waiting C) → Option (Waiting C) → Bool
-wait_alike (Some w) (Some v) = same_request w.request v.request
-wait_alike w v = false
-
--- the transaction holds more than before, or waits for something else
-abbrev pub has_changed : {C : Type 0} → Option (Live C) → Option (Live C) → Bool
-has_changed (Some t) (Some u) = hold_more t.grants u.grants || not (wait_alike t.waits u.waits)
-has_changed t u = true
 
 -- ---- retries
 

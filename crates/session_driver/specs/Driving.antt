@@ -1,0 +1,91 @@
+-- What driving lines over a core does to it and to the lines written, by what the lines are to do (docs/PROFILE.md, "Lines of sessions").
+use Rattle.std.specs.Prelude.{◌≡◌, ℕ, Bool, true, false, List, [], ◌∷◌, ◌++◌, Option, Some, None, is_some, IsTrue}
+use Rattle.call_contract.specs.Books.{Book}
+use Rattle.call_contract.specs.Calls.{CallMeaning}
+use Rattle.call_contract.specs.States.{State}
+use Rattle.call_contract.specs.declared.events.Event.{Event}
+use Rattle.call_contract.specs.declared.events.Event.TheVariants.{Fail}
+use Rattle.command_lines.specs.declared.line_reply.LineReply.{LineReply}
+use Rattle.command_lines.specs.declared.line_reply.SessionRefusal.{SessionRefusal}
+use Rattle.command_lines.specs.declared.line_reply.SessionRefusal.TheVariants as refusal
+use Rattle.tx_core.specs.Commits.{HasChangesOf}
+use Rattle.tx_core.specs.Cores.{CoreView}
+use Rattle.tx_core.specs.Refusals.{begin_refused, call_refused, abort_refused}
+use Rattle.tx_core.specs.declared.commits.Prepared.{Prepared}
+use Rattle.tx_core.specs.declared.errors.SessionError.{SessionError}
+use Rattle.tx_core.specs.declared.errors.SessionError.TheVariants.{IsWaiting, InTransaction, NoTransaction, TxLimit, CommitLimit, NoMemory}
+use Rattle.session_driver.specs.Lines.{Asked, after_line}
+use Rattle.session_driver.specs.Progress.{Progress}
+use Rattle.session_driver.specs.Refusals as refusals
+use Rattle.session_driver.specs.declared.doing.Doing.{Doing}
+use Rattle.session_driver.specs.declared.doing.Doing.TheVariants.{Begin, Commit, Abort, Call}
+
+-- ---- refusals by the book
+
+-- a refusal of the core, as a line has it
+abbrev pub shown_why : SessionError → Option SessionRefusal
+shown_why IsWaiting = Some refusal.IsWaiting
+shown_why InTransaction = Some refusal.InTransaction
+shown_why NoTransaction = Some refusal.NoTransaction
+shown_why TxLimit = Some refusal.TxLimit
+shown_why CommitLimit = Some refusal.CommitLimit
+shown_why NoMemory = None
+
+abbrev pub shown_of : Option SessionError → Option SessionRefusal
+shown_of None = None
+shown_of (Some e) = shown_why e
+
+-- why the book refuses a line; of a commit, before it is looked at what it has changed
+abbrev pub refused_by_book : {C B : Type 0} → CoreView C B → ℕ → Doing C → Option SessionRefusal
+refused_by_book v s Begin = shown_of (begin_refused v s)
+refused_by_book v s Commit = shown_of (call_refused v s)
+refused_by_book v s Abort = shown_of (abort_refused v s)
+refused_by_book v s (Call c) = shown_of (call_refused v s)
+
+-- ---- what was done
+
+-- the core that was opened so, with further entries
+abbrev pub with_entries : {C B : Type 0} → CoreView C B → Book C → CoreView C B → CoreView C B
+with_entries v b w = record v { book = v.book ++ b; base = w.base; prepared = w.prepared }
+
+-- with the core that was opened so, and lines written: entries and lines were added at the end at most
+pub record HasGrown {C B : Type 0} (old new : CoreView C B) (before after : List LineReply) : Type 0 where
+  pub entries : Book C
+  pub said : List LineReply
+  pub core : new ≡ with_entries old entries new
+  pub out : after ≡ before ++ said
+
+-- all that was to be done is done: the entries stand in the book, and the lines are written
+pub record HasDone {C B : Type 0} (old new : CoreView C B) (before after : List LineReply) (p : Progress C) : Type 0 where
+  pub core : new ≡ with_entries old p.book new
+  pub lines : after ≡ before ++ p.lines
+
+-- an attempt that failed, or none
+abbrev pub is_failure : {C : Type 0} → Event C → Bool
+is_failure (Fail c k f) = true
+is_failure e = false
+
+abbrev pub IsFailureAtMost : {C : Type 0} → Book C → Type 0
+IsFailureAtMost [] = Unit {0}
+IsFailureAtMost (n ∷ []) = IsTrue (is_failure n.event)
+IsFailureAtMost (n ∷ k ∷ b) = ⊥
+
+-- the first entries of what was to be done stand in the book, with one of a failed attempt behind them at most, and its first lines are written
+pub record HasBegun {C B : Type 0} (old new : CoreView C B) (before after : List LineReply) (p : Progress C) : Type 0 where
+  pub entries : Book C
+  pub rest : Book C
+  pub failed : Book C
+  pub said : List LineReply
+  pub unsaid : List LineReply
+  pub book : p.book ≡ entries ++ rest
+  pub lines : p.lines ≡ said ++ unsaid
+  pub failure : IsFailureAtMost failed
+  pub core : new ≡ with_entries old (entries ++ failed) new
+  pub out : after ≡ before ++ said
+
+-- ---- a line
+
+-- it is done; or it is a commit that isn't refused, of which is answered what is to be made durable before
+abbrev pub IsDriven : {C B : Type 0} → CallMeaning C → State C → Asked C → CoreView C B → CoreView C B → List LineReply → List LineReply → Option Prepared → Type 0
+IsDriven m st line old new before after None = HasDone old new before after (after_line m st line) × (line.doing ≡ Commit → IsTrue (is_some (refusals.refusal m st line.session Commit)))
+IsDriven m st line old new before after (Some p) = (line.doing ≡ Commit) × (refusals.refusal m st line.session Commit ≡ None) × HasChangesOf m st line.session p
