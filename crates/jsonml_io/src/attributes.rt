@@ -1,3 +1,4 @@
+// The attributes of an element, read from the members of a JSON object.
 ghost use Rattle.std.specs.Prelude.{◌≡◌, [], IsTrue, IfOk, string_bytes};
 ghost use Rattle.std.specs.Fmt.{decimal, signed_decimal};
 ghost use Rattle.serde_json.specs.View.{view, members_view, number_view};

@@ -1,3 +1,4 @@
+// Why a fragment isn't read, with the place as a JSON pointer that grows from the inside out.
 ghost use Rattle.std.specs.Prelude.{◌≡◌, ◌≢◌, ◌++◌, IfOk};
 ghost use Rattle.jsonml_io.specs.Pointers.{step_to_item, step_to_member};
 ghost use Rattle.jsonml_io.specs.JsonMl.{refusal_name, refusal_path, seen_from_above};

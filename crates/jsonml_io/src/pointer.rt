@@ -1,3 +1,4 @@
+// The steps of a JSON pointer (RFC 6901): an item's index and a member's escaped name.
 ghost use Rattle.std.specs.Prelude.{◌≡◌, IfOk, string_bytes};
 ghost use Rattle.jsonml_io.specs.Pointers.{step_to_member, step_to_item};
 

@@ -1,3 +1,4 @@
+// A fragment read from bytes or a JSON value: an element and its attributes, then its content, in the order of JsonML.
 ghost use Rattle.std.specs.Prelude.{◌≡◌, ◌≢◌, ◌+◌, ◌^◌, ◌<◌, [], Ok, Err, IsTrue, IfOk, IfErr, option_map, string_bytes};
 ghost use Rattle.std.specs.Vec.Iter.{into_iter_items, into_iter_len};
 ghost use Rattle.serde_json.specs.Data.{item, string};

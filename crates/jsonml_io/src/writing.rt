@@ -1,3 +1,4 @@
+// A fragment written as a JSON value, or as the bytes of compact JSON.
 ghost use Rattle.std.specs.Prelude.{◌≡◌, ◌≤◌, ◌++◌, map, Ok, IfOk, OnOk, OnErr};
 ghost use Rattle.serde_json.specs.Data.{no_members, string};
 ghost use Rattle.serde_json.specs.View.{view, members_view};

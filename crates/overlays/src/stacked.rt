@@ -1,3 +1,4 @@
+// A map that owns its base and the layers over it.
 ghost use Rattle.std.specs.Prelude.{◌≡◌};
 
 use crate::direction::Direction;

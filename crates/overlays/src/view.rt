@@ -1,3 +1,4 @@
+// The map that is seen through the layers and an overlay: each read asks the changes first and the base once.
 ghost use Rattle.std.specs.Prelude.{◌≡◌, Some, None, IfOk, option_copied};
 ghost use Rattle.outside_traits.specs.Faults.{HasCause};
 ghost use Rattle.tree_model.specs.declared.key.Key as declared;
