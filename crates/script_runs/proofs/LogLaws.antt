@@ -1,6 +1,7 @@
 -- How the steps of a script follow each other in what they leave of the disks, for any machine.
 use Rattle.std.proofs.Common.{◌≡◌, ℕ, ◌+◌, ◌≤◌, List, [], ◌∷◌, ◌++◌, length, take, refl, sym, ap, ◌∙◌, subst, arith, inl, inr, append_assoc, append-nil, length-append}
 use Rattle.std.specs.Prelude.{Option, Result, Ok, Err, OnOk, OnErr}
+use Rattle.std.specs.List.{AllByRecursion}
 use Rattle.std.proofs.lemmas.List.{take-append-le}
 use Rattle.std.proofs.Math.Seq.{take-append-add, take-append_seam}
 use Rattle.outside_traits.specs.Bytes.{TookAllBut, TookPrefix}
@@ -35,6 +36,10 @@ goes_on P (Err (Halted halt)) p = tt
 
 take_all : (xs : List (List ℕ)) → take (length xs) xs ≡ xs
 take_all xs = ap (take (length xs)) (sym (append-nil xs)) ∙ take-append_seam xs []
+
+all_on : (P : List ℕ → Type 0) (xs ys : List (List ℕ)) → AllByRecursion P xs → AllByRecursion P ys → AllByRecursion P (xs ++ ys)
+all_on P [] ys p q = q
+all_on P (x ∷ xs) ys p q = (p.0, all_on P xs ys p.1 q)
 
 module _ {M : Type 0} (m : Machine M) where
   -- ---- lines that are held
@@ -74,6 +79,7 @@ module _ {M : Type 0} (m : Machine M) where
       counted = goes_on _ r (omega (arith, count));
       fixed = ap m.fixed same;
       short = tt;
+      valid = tt;
       wrote = subst (TookPrefix h i) (sym (append-nil a.pending)) wrote;
       any_moment = λ settled. subst (λ (n : M). PairsLeave (HoldsFrom m 0 (0 + slack_of r) a.state lines) (m.disks k) (m.disks n)) (sym same) (none _ (m.disks k));
       kept = λ settled. goes_on _ r (subst m.settled (sym same) settled.kept);
@@ -86,16 +92,17 @@ module _ {M : Type 0} (m : Machine M) where
     either_from a line most le journal pages (inr holds) = record { count = 1; enough = omega arith; bound = le; within = omega arith; holds = holds }
 
     -- a line was done
-    pub does_line : (a : Standing m) (held : Option (List ℕ)) (k : M) (new : Script M) (line : List ℕ) → length line ≤ limit → new.lines ≡ a.lines + 1 → m.fixed new.machine ≡ m.fixed k
+    pub does_line : (a : Standing m) (held : Option (List ℕ)) (k : M) (new : Script M) (line : List ℕ) → length line ≤ limit → m.valid line → new.lines ≡ a.lines + 1 → m.fixed new.machine ≡ m.fixed k
         → (IsSettled m k a.state → IsSettled m new.machine (m.next a.state line)) → (IsSettled m k a.state → PairsLeave (HoldsEither m a.state (m.next a.state line)) (m.disks k) (m.disks new.machine))
         → DoneFrom m limit a held held k new (line ∷ []) (Ok tt)
-    does_line a held k new line short count fixed after run = record {
+    does_line a held k new line short valid count fixed after run = record {
       done = 1;
       within = omega arith;
       whole = refl;
       counted = count;
       fixed = fixed;
       short = (short, tt);
+      valid = (valid, tt);
       wrote = (_, took_nothing held _);
       any_moment = λ settled. pairs_weaker _ _ (either_from a line 1 (omega arith)) (m.disks k) (m.disks new.machine) (run settled);
       kept = λ settled. (after settled).kept;
@@ -116,6 +123,7 @@ module _ {M : Type 0} (m : Machine M) where
           counted = tt;
           fixed = fixed;
           short = tt;
+          valid = tt;
           wrote = (_, took_nothing held _);
           any_moment = moments;
           kept = λ settled. tt;
@@ -145,6 +153,7 @@ module _ {M : Type 0} (m : Machine M) where
           kept = p.kept settled;
           holds = λ journal pages of_journal of_pages. subst (λ (t : m.State). m.holds t journal pages) (sym state) (holds_all _ _ a.state xs journal pages (omega (arith, p.whole)) (p.left settled journal pages of_journal of_pages));
         } in
+        let all_done : take p.done xs ≡ xs = ap (λ n. take n xs) p.whole ∙ take_all xs in
         let most : ℕ = length xs + q.done + slack_of r in
         record {
           done = length xs + q.done;
@@ -153,6 +162,7 @@ module _ {M : Type 0} (m : Machine M) where
           counted = goes_map _ _ r (λ (e : new.lines ≡ b.lines + q.done). omega (arith, e, lines)) q.counted;
           fixed = q.fixed ∙ p.fixed;
           short = subst (AllShort limit) (sym taken) (short_on limit xs (take q.done ys) short (q.short));
+          valid = subst (AllByRecursion m.valid) (sym taken) (all_on m.valid xs (take q.done ys) (subst (AllByRecursion m.valid) all_done p.valid) q.valid);
           wrote = (q.wrote.0, subst (λ (t : List ℕ). TookAllBut h j t q.wrote.0) text (took_more h i j prefix b.pending _ q.wrote.0 wrote q.wrote.1));
           any_moment = λ settled. pairs_joined (HoldsFrom m 0 most a.state (xs ++ ys)) (m.disks k) (m.disks mid.machine) (m.disks new.machine)
               (pairs_weaker _ _ (λ journal pages. holds_more 0 (p.done + 0) most a.state xs ys journal pages (omega (arith, p.within))) (m.disks k) (m.disks mid.machine) (p.any_moment settled))
@@ -174,6 +184,7 @@ module _ {M : Type 0} (m : Machine M) where
           counted = p.counted;
           fixed = p.fixed;
           short = subst (AllShort limit) (sym taken) p.short;
+          valid = subst (AllByRecursion m.valid) (sym taken) p.valid;
           wrote = subst (λ (ls : List (List ℕ)). TookPrefix h i (a.pending ++ answers m a.state a.lines ls)) (sym taken) p.wrote;
           any_moment = λ settled. pairs_weaker _ _ (λ journal pages. holds_more 0 _ _ a.state xs ys journal pages (omega arith)) (m.disks k) (m.disks new.machine) (p.any_moment settled);
           kept = p.kept;

@@ -101,6 +101,7 @@ module _ {M : Type 0} (m : Machine M) (limit : ℕ) where
         done = d.done;
         within = d.within;
         short = d.short;
+        valid = d.valid;
         wrote = wrote;
         exact = exact;
         prompt = prompt;

@@ -5,7 +5,7 @@ use Rattle.script_runs.specs.Counts.{Counts}
 
 -- A type `Self` that does lines.
 -- `State`: what its answers depend on. `text`: what a line, by its number from 1, is answered in a state; `next`: the state after it.
--- `holds`: which two files stand for what is committed in a state.
+-- `valid`: what is sure of a line that was done. `holds`: which two files stand for what is committed in a state.
 -- `stands`: in which states a value is. `usable`: whether it may be asked. `settled`: what it knows of its disks between two lines.
 -- `fixed`: what of a value no line changes, a `Fixed`.
 -- `is_known`: whether the histories of its disks are known; `disks`: those histories; `faults`: the disks' counts.
@@ -13,6 +13,7 @@ pub record Machine (Self : Type 0) : Type 1 where
   pub State : Type 0
   pub text : State → ℕ → List ℕ → List ℕ
   pub next : State → List ℕ → State
+  pub valid : List ℕ → Type 0
   pub holds : State → List ℕ → List ℕ → Type 0
   pub stands : Self → State → Type 0
   pub usable : Self → Type 0

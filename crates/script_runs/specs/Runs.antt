@@ -1,5 +1,6 @@
 -- What a run of a script leaves, by its end.
 use Rattle.std.specs.Prelude.{◌≡◌, ◌⊎◌, ℕ, ◌+◌, ◌≤◌, List, [], ◌++◌, length, take, Option, Some, IfSome}
+use Rattle.std.specs.List.{AllByRecursion}
 use Rattle.outside_traits.specs.Bytes.{Took, TookPrefix}
 use Rattle.outside_traits.specs.DiskPairs.{PairsHave, PairsLeave}
 use Rattle.script_runs.specs.Lines.{ended, lines_of, first_long, AllShort}
@@ -49,7 +50,7 @@ IfAnswered ReadFault P = P
 IfAnswered end P = Unit {0}
 
 -- A run from this state, of which these bytes were read, the first `asked` of them before the last read was asked for.
--- Of the lines that it was to do it did so many, all short; the sink took a prefix of what these are answered;
+-- Of the lines that it was to do it did so many, all short and valid; the sink took a prefix of what these are answered;
 -- and the files stand for these, and for one more at most where the machine stopped within it.
 pub record Ran {M : Type 0} (m : Machine M) (limit : ℕ) (s : m.State) (end : End) (read : List ℕ) (asked : ℕ) (left_now : Option (List ℕ)) (before now : Option (List ℕ)) (old new : M) : Type 0 where
   pub lines : List (List ℕ)
@@ -57,6 +58,7 @@ pub record Ran {M : Type 0} (m : Machine M) (limit : ℕ) (s : m.State) (end : E
   pub done : ℕ
   pub within : done ≤ length lines
   pub short : AllShort limit (take done lines)
+  pub valid : AllByRecursion m.valid (take done lines)
   pub wrote : TookPrefix before now (text_of m s (take done lines))
   pub exact : IsExact m limit s end read before now lines done
   pub prompt : IsPrompt m limit s (take asked read) before now

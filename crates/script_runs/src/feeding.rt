@@ -192,6 +192,7 @@ impl<M: LineMachine> Script<M> {
         requires ready { IsReady M.machine self.old.machine }
         ensures fed { OnOk result ((held : Option (List ℕ)) (s : M.machine.State) → M.machine.stands self.old.machine s
             → FedFrom M.machine line_limit s self.old self.new held held (10 ∷ [])) }
+        ensures valid { OnOk result (M.machine.valid self.old.unended) }
         ensures ready { OnOk result (IsReady M.machine self.new.machine) }
         ensures settled { OnOk result ((s : M.machine.State) → M.machine.stands self.old.machine s → IsSettled M.machine self.old.machine s
             → IsSettled M.machine self.new.machine (M.machine.next s self.old.unended)) }

@@ -1,3 +1,4 @@
+// What does the lines of a script, as the loop sees it.
 ghost use Rattle.std.specs.Prelude.{◌≡◌, ◌++◌, Err, OnOk};
 ghost use Rattle.outside_traits.specs.DiskPairs.{PairsLeave};
 ghost use Rattle.script_runs.specs.Counts.{DisksCountedWhere};
@@ -21,6 +22,7 @@ pub trait LineMachine {
         requires ready { IsReady machine self.old }
         ensures state { OnOk result ((s : machine.State) → machine.stands self.old s → machine.stands self.new (machine.next s line.now)) }
         ensures text { OnOk result ((s : machine.State) → machine.stands self.old s → out.new.items ≡ out.old.items ++ machine.text s number line.now) }
+        ensures valid { OnOk result (machine.valid line.now) }
         ensures ready { OnOk result (IsReady machine self.new) }
         ensures settled { OnOk result ((s : machine.State) → machine.stands self.old s → IsSettled machine self.old s
             → IsSettled machine self.new (machine.next s line.now)) }

@@ -10,6 +10,7 @@ echo faults = record {
   State = Unit {0};
   text = λ s n line. line ++ 10 ∷ [];
   next = λ s line. s;
+  valid = λ line. Unit {0};
   holds = λ s journal pages. Unit {0};
   stands = λ k s. Unit {0};
   usable = λ k. Unit {0};

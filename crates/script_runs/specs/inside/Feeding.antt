@@ -1,5 +1,6 @@
 -- Where a script is between two pieces of its input, and what a step that takes a piece leaves.
 use Rattle.std.specs.Prelude.{◌≡◌, ℕ, suc, ◌+◌, ◌≤◌, ◌<◌, ◌≢◌, List, [], ◌∷◌, ◌++◌, length, take, drop, Option, Some, None, Result, Ok, Err, OnOk}
+use Rattle.std.specs.List.{AllByRecursion}
 use Rattle.outside_traits.specs.Bytes.{TookAllBut, TookPrefix}
 use Rattle.outside_traits.specs.DiskPairs.{PairsHave, PairsLeave}
 use Rattle.script_runs.specs.Lines.{ended, unended, last_line, AllShort}
@@ -99,7 +100,7 @@ slack_of (Err LineTooLong) = 0
 slack_of (Err WriteFault) = 0
 slack_of (Err (Halted halt)) = 1
 
--- of the lines that a step was to do it did so many, all of them short; the sink took a prefix of what these are answered, and the files stand for these, and for one more at most where the machine stopped within it
+-- of the lines that a step was to do it did so many, all of them short and valid; the sink took a prefix of what these are answered, and the files stand for these, and for one more at most where the machine stopped within it
 pub record DoneFrom {M : Type 0} (m : Machine M) (limit : ℕ) (old : Standing m) (before now : Option (List ℕ)) (from : M) (new : Script M) (lines : List (List ℕ)) (result : Result (Unit {0}) Stop) : Type 0 where
   pub done : ℕ
   pub within : done ≤ length lines
@@ -107,6 +108,7 @@ pub record DoneFrom {M : Type 0} (m : Machine M) (limit : ℕ) (old : Standing m
   pub counted : IfGoesOn (new.lines ≡ old.lines + done) result
   pub fixed : m.fixed new.machine ≡ m.fixed from
   pub short : AllShort limit (take done lines)
+  pub valid : AllByRecursion m.valid (take done lines)
   pub wrote : TookPrefix before now (old.pending ++ answers m old.state old.lines (take done lines))
   pub any_moment : IsSettled m from old.state → PairsLeave (HoldsFrom m 0 (done + slack_of result) old.state lines) (m.disks from) (m.disks new.machine)
   pub kept : IsSettled m from old.state → IfGoesOn (m.settled new.machine) result

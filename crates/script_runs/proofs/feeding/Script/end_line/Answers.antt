@@ -19,5 +19,5 @@ returns-clause-leaves g c = λ held s stands.
     let fed = c.in_ok-do_line.ensures.fed held s stands in
     record {
       comes = fed;
-      does = does_line m line_limit (with_state m c.args.self.now s) held c.args.self.now.machine c.do_line.new.self c.args.self.now.unended (fed.2.short.0) fed.2.lines c.do_line.ensures.fixed (c.in_ok-do_line.ensures.settled s stands) (c.do_line.ensures.any_moment s stands);
+      does = does_line m line_limit (with_state m c.args.self.now s) held c.args.self.now.machine c.do_line.new.self c.args.self.now.unended (fed.2.short.0) c.in_ok-do_line.ensures.valid fed.2.lines c.do_line.ensures.fixed (c.in_ok-do_line.ensures.settled s stands) (c.do_line.ensures.any_moment s stands);
     }
