@@ -5,6 +5,7 @@ pub mod Driven
 pub mod Kept
 pub mod Retried
 pub mod Rounds
+pub mod OnlyCommits
 pub mod Runs
 pub mod Stepped
 pub mod Stopped

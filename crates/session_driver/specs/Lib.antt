@@ -4,6 +4,7 @@ pub mod Progress
 pub mod Retries
 pub mod Lines
 pub mod Waiters
+pub mod Committed
 pub mod Driving
 -- words that only private functions and the proof use
 pub mod inside
