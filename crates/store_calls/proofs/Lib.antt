@@ -1,3 +1,4 @@
 pub mod Fragments
 pub mod Reading
+pub mod StoreCallLaws
 pub mod ValidParts

@@ -1,7 +1,6 @@
 //! A call on the store's tree as a call of the lock machine.
 ghost use Rattle.std.specs.Prelude.{◌≡◌, ◌++◌, [], IsTrue, OnErr};
-ghost use Rattle.tree_changes.specs.ValidCalls.{IsValidCall, fragment_brought};
-ghost use Rattle.tree_model.specs.Fragments.{IsValid};
+ghost use Rattle.tree_changes.specs.ValidCalls.{IsValidCall};
 ghost use Rattle.command_lines.specs.ValidCommands.{IsValidWhat};
 ghost use Rattle.command_lines.specs.declared.command.What.TheVariants.{Call};
 ghost use Rattle.store_calls.specs.StoreCalls.{dom_call};
@@ -51,11 +50,13 @@ impl StoreOp {
         StoreOp { call }
     }
 
-    /// The call. Its fragment is valid.
+    /// The call, which is valid.
     pub fn call(&self) -> &StoreCall
         ensures call { result.now ≡ self.now }
-        ensures fragment { IsValid (fragment_brought (dom_call self.now)) }
+        ensures valid { IsValidCall (dom_call self.now) }
     {
+        let StoreCall::Dom(call) = &self.call;
+        tell_parts(call);
         &self.call
     }
 
@@ -72,15 +73,14 @@ impl StoreOp {
 
 impl TreeCall for StoreOp {
     ghost use Rattle.tree_changes.specs.ValidCalls.{IsValidCall};
-    ghost use Rattle.call_contract.specs.Calls.{held_meaning};
     ghost use Rattle.call_contract.proofs.HeldCalls.{held_laws};
     ghost use Rattle.dom_laws.specs.Meaning.{dom_meaning};
     ghost use Rattle.dom_laws.proofs.Contract.{dom_laws};
-    ghost use Rattle.store_calls.specs.StoreCalls.{dom_call};
+    ghost use Rattle.store_calls.specs.StoreCalls.{dom_call, store_meaning, IsValidStoreCall};
 
-    ghost meaning = { held_meaning dom_call dom_meaning };
+    ghost meaning = { store_meaning };
 
-    ghost is_valid = { λ op. IsValidCall (dom_call op) };
+    ghost is_valid = { IsValidStoreCall };
 
     fn requests<S: NodeRead>(
         &self,
