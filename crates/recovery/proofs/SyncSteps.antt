@@ -9,6 +9,7 @@ use Rattle.outside_traits.proofs.ImageLaws.{image-all_synced, image-unsynced}
 use Rattle.outside_traits.proofs.MomentLaws.{started, goes_on, goes_wrong, weaker}
 use Rattle.outside_traits.proofs.PairLaws.{journal_phase, pages_phase, pairs_joined, pairs_now}
 use Rattle.recovery.specs.Opened.{contents_beside}
+use Rattle.recovery.specs.Openings.{LeavesUnopened}
 use Rattle.recovery.specs.Trees.{StoodFor, LeaveWhatStood}
 
 synced : (t u : History) → IsImage t.now t.now.reads → TakesStep Synced t u → (image : List ℕ) → IsImage u.now image → IsImage t.now image
@@ -69,3 +70,7 @@ stand_for_themselves pair journal pages of_journal of_pages = record { journal_t
 -- so what such a run leaves in the end stood for the same
 pub still_stand : (old new : Pair) → LeaveWhatStood old new → PairsHave (StoodFor old) new
 still_stand old new run = pairs_now (StoodFor old) old new run (stand_for_themselves old)
+
+-- what a crash leaves at any moment it leaves now
+pub left_unopened : (old new : Pair) → LeaveWhatStood old new → LeavesUnopened old new
+left_unopened old new run = record { any_moment = run; left = still_stand old new run }

@@ -1,14 +1,11 @@
 // A store is opened on its two disks: both are synced and looked at, the journal is opened, and its commits are followed.
-ghost use Rattle.std.specs.Prelude.{◌≡◌, ◌≤◌, ◌+◌, false, IsTrue, IfOk, IfErr, MatchResult};
-ghost use Rattle.outside_traits.specs.DiskPairs.{pair_of, PairsHave};
-ghost use Rattle.outside_traits.specs.Disks.{Synced};
+ghost use Rattle.std.specs.Prelude.{◌≡◌, IsTrue, IfOk, IfErr, MatchResult};
+ghost use Rattle.outside_traits.specs.DiskPairs.{pair_of};
 ghost use Rattle.tree_model.specs.StoredTree.{IsStoredTree};
-ghost use Rattle.journal.specs.Groups.{is_next};
 ghost use Rattle.journal.specs.Refusals.{HasReason, UnlessFault};
-ghost use Rattle.recovery.specs.Causes.{OneRose};
-ghost use Rattle.recovery.specs.Opened.{KeepsJournal};
-ghost use Rattle.recovery.specs.Openings.{FoundDamaged, IsOpened, OpensStore};
-ghost use Rattle.recovery.specs.Trees.{LeaveWhatStood, StoodFor};
+ghost use Rattle.recovery.specs.Causes.{OneRose, RiseOnlyAtFault};
+ghost use Rattle.recovery.specs.Openings.{AreOpened, FoundDamaged, KeepsFiles, LeavesUnopened, OpensStore, TakesBehind};
+ghost use Rattle.recovery.specs.Trees.{LeaveWhatStood};
 
 use crate::look::look;
 use crate::recovered::{Recovered, recover};
@@ -48,17 +45,14 @@ pub fn open_store<J: Disk, P: Disk>(
     ensures tree { IfOk result (λ store. IsStoredTree store.base) }
 
     // A crash leaves what a read gives; a fresh journal has nine bytes, any other its own; the journal takes the number that follows.
-    ensures journal { IfOk result (λ store. IsTrue J.is_known → IsOpened (J.history journal) store.journal.history) }
-    ensures pages { IfOk result (λ store. IsTrue P.is_known → Synced (P.history pages).now (P.history store.pages).now) }
-    ensures ok { IfOk result (λ store. store.journal.failed ≡ false) }
-    ensures next { IfOk result (λ store. IsTrue (is_next store.journal.last (store.number + 1))) }
+    ensures synced { IfOk result (λ store. AreOpened J.is_known P.is_known
+        (pair_of (J.history journal) (P.history pages)) (pair_of store.journal.history (P.history store.pages))) }
+    ensures next { IfOk result (λ store. TakesBehind store.journal store.number) }
 
     // A crash at any moment of the call leaves files that stand for what such files stood for at its start, and so does one after an error.
     ensures any_moment { IsTrue J.is_known → IsTrue P.is_known → MatchResult result
         (λ store. LeaveWhatStood (pair_of (J.history journal) (P.history pages)) (pair_of store.journal.history (P.history store.pages)))
-        (λ refused. LeaveWhatStood (pair_of (J.history journal) (P.history pages)) (pair_of (J.history refused.journal) (P.history refused.pages))) }
-    ensures left { IfErr result (λ refused. IsTrue J.is_known → IsTrue P.is_known
-        → PairsHave (StoodFor (pair_of (J.history journal) (P.history pages))) (pair_of (J.history refused.journal) (P.history refused.pages))) }
+        (λ refused. LeavesUnopened (pair_of (J.history journal) (P.history pages)) (pair_of (J.history refused.journal) (P.history refused.pages))) }
 
     // Why it isn't opened: the place of the first broken rule, the files being synced and as they were; or a fault of a disk.
     ensures reason { IfErr result (λ refused. HasReason
@@ -67,16 +61,13 @@ pub fn open_store<J: Disk, P: Disk>(
         (OneRose (J.faults journal) (J.faults refused.journal) (P.faults pages) (P.faults refused.pages)) refused.fault) }
 
     // After any error but a fault the pages are as they were, and the journal as it was or as it is made in a fresh file.
-    ensures kept { IfErr result (λ refused. UnlessFault refused.fault
-        (IsTrue J.is_known → KeepsJournal (J.history journal).now.reads (J.history refused.journal).now.reads)) }
-    ensures kept_pages { IfErr result (λ refused. UnlessFault refused.fault
-        (IsTrue P.is_known → Synced (P.history pages).now (P.history refused.pages).now)) }
+    ensures kept { IfErr result (λ refused. UnlessFault refused.fault (KeepsFiles J.is_known P.is_known
+        (pair_of (J.history journal) (P.history pages)) (pair_of (J.history refused.journal) (P.history refused.pages)))) }
 
     // No fault is passed over: the counts are as they were but after a fault that is answered.
-    ensures exact { IfOk result (λ store. (store.journal.faults ≡ J.faults journal) × (P.faults store.pages ≡ P.faults pages)) }
-    ensures uncounted { IfErr result (λ refused. UnlessFault refused.fault
-        ((J.faults refused.journal ≡ J.faults journal) × (P.faults refused.pages ≡ P.faults pages))) }
-    ensures later { IfErr result (λ refused. (J.faults journal ≤ J.faults refused.journal) × (P.faults pages ≤ P.faults refused.pages)) }
+    ensures counts { MatchResult result
+        (λ store. (store.journal.faults ≡ J.faults journal) × (P.faults store.pages ≡ P.faults pages))
+        (λ refused. RiseOnlyAtFault refused.fault (J.faults journal) (J.faults refused.journal) (P.faults pages) (P.faults refused.pages)) }
 {
     let mut journal = journal;
     let mut pages = pages;
