@@ -1,5 +1,5 @@
 -- What a line does to the committed tree and its number: only a commit that isn't refused changes them.
-use Rattle.std.proofs.Common.{◌≡◌, ◌≢◌, ℕ, suc, zero, ◌+◌, Bool, IsTrue, true, false, cond, List, [], ◌∷◌, length, Option, Some, None, refl, sym, ap, subst, ◌∙◌}
+use Rattle.std.proofs.Common.{◌≡◌, ◌≢◌, ℕ, suc, zero, ◌+◌, Bool, IsTrue, true, false, cond, List, [], ◌∷◌, length, Option, Some, None, refl, sym, subst, ◌∙◌}
 use Rattle.std.proofs.lemmas.Bool.{false≢true}
 use Rattle.std.proofs.lemmas.Option.{none-some}
 use Rattle.std.specs.Prelude.{is_some, if◌then◌else◌, ◌==◌}
@@ -7,7 +7,7 @@ use Rattle.lock_resources.specs.declared.request.Request.{Request}
 use Rattle.call_contract.specs.Attempts.{stopped_at, waits_with}
 use Rattle.call_contract.specs.Books.{entry}
 use Rattle.call_contract.specs.Calls.{CallMeaning}
-use Rattle.call_contract.specs.States.{Live, Waiting, State, of_session, view}
+use Rattle.call_contract.specs.States.{Live, Waiting, State, of_session}
 use Rattle.call_contract.specs.Steps.{Outcome, step, step_of, settled, unless_cycle, retried as attempted_again, begun_by, committed}
 use Rattle.call_contract.specs.Waits.{cycle_through}
 use Rattle.call_contract.specs.declared.events.Answer.TheVariants as answer
@@ -19,7 +19,7 @@ use Rattle.command_lines.specs.declared.line_reply.SessionRefusal.TheVariants.{I
 use Rattle.tx_core.specs.Commits.{is_past_limit}
 use Rattle.tx_core.specs.Retries.{has_changed}
 use Rattle.session_driver.specs.Committed.{SameCommitted, Commits}
-use Rattle.session_driver.specs.Progress.{Progress, noted, line_of}
+use Rattle.session_driver.specs.Progress.{Progress, noted}
 use Rattle.session_driver.specs.Refusals.{refusal, refusal_of}
 use Rattle.session_driver.specs.Retries.{retried, if_retried, round, rounds, retries}
 use Rattle.session_driver.specs.Lines.{event_of, then_retries, stepped, unless_refused, after_line}
