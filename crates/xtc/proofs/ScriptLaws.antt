@@ -1,29 +1,41 @@
 -- What a script that ran over a store leaves, in the words of its book.
-use Rattle.std.proofs.Common.{◌≡◌, ℕ, ◌+◌, ◌≤◌, List, [], Bool, length, take, Option, refl, sym, ap, ◌∙◌, subst, arith}
-use Rattle.std.proofs.lemmas.List.{take-take, length-take}
-use Rattle.std.proofs.Math.Seq.{take-length}
+use Rattle.std.proofs.Common.{◌≡◌, ◌⊎◌, ℕ, zero, suc, ◌+◌, ◌≤◌, List, [], ◌∷◌, ◌++◌, Bool, true, false, length, take, drop, Option, Ok, inl, inr, refl, sym, ap, ◌∙◌, subst, append-nil, arith}
+use Rattle.std.specs.Prelude.{nat_le}
+use Rattle.std.specs.List.{AllByRecursion}
+use Rattle.std.proofs.lemmas.Bool.Decides.{nat_tests}
+use Rattle.std.proofs.lemmas.List.{take-take, length-take, take-append-drop}
+use Rattle.std.proofs.Math.Seq.{take-length, take-append-add}
 use Rattle.outside_traits.specs.Bytes.{Took, TookPrefix}
 use Rattle.outside_traits.specs.CrashImages.{IsImage}
 use Rattle.outside_traits.specs.DiskPairs.{Pair, PairsHave, PairsLeave, pair_of}
 use Rattle.outside_traits.specs.Moments.{History}
 use Rattle.outside_traits.proofs.PairLaws.{pairs_weaker}
-use Rattle.tree_model.specs.Tree.{Tree}
+use Rattle.tree_model.specs.Tree.{Tree, map_of}
 use Rattle.tree_model.specs.ValidTrees.{IsValidTree}
 use Rattle.script_runs.specs.Lines.{ended, lines_of, line_limit}
-use Rattle.script_runs.specs.Machine.{IsSettled as IsSettledIn}
+use Rattle.script_runs.specs.Machine.{IsSettled}
 use Rattle.script_runs.specs.Runs.{Ran, HoldsFrom, slack_at, IsExact as IsExactRun, TookAtLeast}
-use Rattle.script_runs.specs.Texts.{text_of}
+use Rattle.script_runs.specs.Texts.{state_after, text_of}
 use Rattle.script_runs.specs.declared.halt.Halt.TheVariants as halt
 use Rattle.script_runs.specs.declared.running.End.{End}
 use Rattle.script_runs.specs.declared.running.End.TheVariants as end
-use Rattle.xtc.specs.Session.{State, fresh}
+use Rattle.script_runs.proofs.FeedingLaws.{state_after_on}
+use Rattle.call_contract.specs.States.{State, start}
+use Rattle.command_lines.specs.declared.command.StoreCall.{StoreCall}
+use Rattle.session_driver.specs.Committed.{SameCommitted}
+use Rattle.session_driver.specs.Lines.{IsValidDoing, after_line}
+use Rattle.session_driver.specs.Progress.{Progress}
+use Rattle.session_driver.specs.declared.doing.Doing.{Doing}
+use Rattle.session_driver.specs.declared.doing.Doing.TheVariants.{Begin, Commit, Abort, Call}
+use Rattle.session_driver.proofs.OnlyCommits.{unless_commit}
+use Rattle.store_calls.specs.StoreCalls.{store_meaning, IsValidStoreCall}
+use Rattle.xtc.specs.Book.{IsValidLine, done_by, script_of, replies_text}
+use Rattle.xtc.specs.Durable.{HoldState}
+use Rattle.xtc.specs.ScriptLine.{Line, nothing, bad, asked, line_of}
 use Rattle.xtc.specs.Statuses.{status_of_end}
-use Rattle.xtc.specs.Book.{Book, book_of, book_text, commits}
-use Rattle.xtc.specs.StoreMachine.{KeptStore, HoldState, store_machine}
-use Rattle.xtc.specs.TopCall.{OpenAfter, OpenAfterBook, slack, IsExact, ScriptRan}
-use Rattle.xtc.proofs.SerialLaws.{state_after, replies_are}
-use Rattle.xtc.proofs.BookLaws.{state_is, text_is, book_take, book_length}
-use Rattle.xtc.proofs.CrashLaws.{opens_after}
+use Rattle.xtc.specs.StoreMachine.{KeptStore, store_machine}
+use Rattle.xtc.specs.TopCall.{OpenAfterLines, slack, IsExact, ScriptRan}
+use Rattle.xtc.proofs.ScriptBooks.{AreValidLines, state_is, text_is, script_sound, opens_after}
 
 slack_is : (e : End) → slack_at e ≡ slack (status_of_end e)
 slack_is end.Done = refl
@@ -33,72 +45,201 @@ slack_is end.WriteFault = refl
 slack_is (end.Halted halt.DiskFault) = refl
 slack_is (end.Halted halt.NoMemory) = refl
 
-module _ {P : Type 0} (is_known : Bool) (history : P → History) (faults : P → ℕ) (t : Tree) (n limit : ℕ) (formed : IsValidTree t) where
-  abbrev s : State
-  s = fresh t n limit
+slack_small : (e : End) → slack_at e ≤ 1
+slack_small end.Done = omega arith
+slack_small (end.LineTooLong n) = omega arith
+slack_small end.ReadFault = omega arith
+slack_small end.WriteFault = omega arith
+slack_small (end.Halted h) = omega arith
 
-  -- the book of the first lines of some
-  first_entries : (k most : ℕ) (lines : List (List ℕ)) → k ≤ most → take k (book_of s (take most lines)) ≡ book_of s (take k lines)
-  first_entries k most lines le = book_take s 0 k (take most lines) ∙ ap (book_of s) (take-take k most lines le)
+-- ---- lists
+
+first_all : {A : Type 0} (P : A → Type 0) (k : ℕ) (xs : List A) → AllByRecursion P xs → AllByRecursion P (take k xs)
+first_all P zero xs all = tt
+first_all P (suc k) [] all = tt
+first_all P (suc k) (x ∷ xs) all = (all.0, first_all P k xs all.1)
+
+all_then : {A : Type 0} (P : A → Type 0) (xs ys : List A) → AllByRecursion P xs → AllByRecursion P ys → AllByRecursion P (xs ++ ys)
+all_then P [] ys one two = two
+all_then P (x ∷ xs) ys one two = (one.0, all_then P xs ys one.1 two)
+
+-- the first lines, where these come behind the first of them
+first_more : (done k : ℕ) (lines rest : List (List ℕ)) → done ≤ length lines → drop done lines ≡ rest → take (done + k) lines ≡ take done lines ++ take k rest
+first_more done k lines rest within is =
+    let count : length (take done lines) ≡ done = omega (arith, length-take done lines, within) in
+    ap (λ (i : ℕ). take (i + k) lines) (sym count)
+    ∙ ap (take (length (take done lines) + k)) (sym (take-append-drop done lines))
+    ∙ take-append-add (take done lines) (drop done lines) k
+    ∙ ap (λ (ls : List (List ℕ)). take done lines ++ take k ls) is
+
+-- ---- a line that was begun
+
+-- what is committed is as before, or the line is a valid one
+kept_or_valid : (st : State StoreCall) (n : ℕ) (line : Line) → SameCommitted st (done_by st n line).state ⊎ IsValidLine line
+kept_or_valid st n nothing = inl (record { tree = refl; number = refl })
+kept_or_valid st n (bad why) = inl (record { tree = refl; number = refl })
+kept_or_valid st n (asked a) = go a.doing
+  where
+    go : (d : Doing StoreCall) → SameCommitted st (after_line store_meaning st (record { session = a.session; doing = d })).state ⊎ IsValidDoing IsValidStoreCall d
+    go Begin = inl (unless_commit store_meaning st a.session Begin (λ e. cc))
+    go Abort = inl (unless_commit store_meaning st a.session Abort (λ e. cc))
+    go (Call c) = inl (unless_commit store_meaning st a.session (Call c) (λ e. cc))
+    go Commit = inr tt
+
+held_still : (st u : State StoreCall) (journal pages : List ℕ) → SameCommitted st u → HoldState u journal pages → HoldState st journal pages
+held_still st u journal pages same holds = holds ∙ (λ i. Ok (record { entries = map_of (same.tree i); number = same.number i }))
+
+module _ {P : Type 0} (is_known : Bool) (history : P → History) (faults : P → ℕ) (t : Tree) (n limit : ℕ) (formed : IsValidTree t) where
+  abbrev s : State StoreCall
+  s = start t n limit
 
   -- what files hold after some of the lines, by the book
-  opens_some : (least most : ℕ) (lines : List (List ℕ)) (journal pages : List ℕ) → HoldsFrom (store_machine is_known history faults) least most s lines journal pages → OpenAfterBook t n least (book_of s (take most lines)) journal pages
-  opens_some least most lines journal pages h =
-      let held : HoldState (state_after s (take h.count lines)) journal pages = subst (λ (m : State). HoldState m journal pages) (state_is is_known history faults s (take h.count lines)) h.holds in
+  opens_some : (least most : ℕ) (lines : List (List ℕ)) (journal pages : List ℕ) → AreValidLines (take most lines) → HoldsFrom (store_machine is_known history faults) least most s lines journal pages
+      → OpenAfterLines t n limit least (take most lines) journal pages
+  opens_some least most lines journal pages valid h =
+      let first : take h.count (take most lines) ≡ take h.count lines = take-take h.count most lines h.bound in
+      let held : HoldState (script_of s (take h.count (take most lines))).state journal pages
+      = subst (λ (u : State StoreCall). HoldState u journal pages) (state_is is_known history faults s (take h.count lines) ∙ ap (λ (ls : List (List ℕ)). (script_of s ls).state) (sym first)) h.holds in
       record {
         count = h.count;
         enough = h.enough;
-        within = subst (λ (k : ℕ). h.count ≤ k) (sym (book_length s 0 (take most lines))) (within_both h.count most lines h.bound h.within);
-        opens = subst (λ (b : Book). OpenAfter t n (commits b) journal pages) (sym (first_entries h.count most lines h.bound)) (opens_after t n limit (take h.count lines) journal pages formed held);
+        within = within_both h.count most lines h.bound h.within;
+        opens = opens_after t n limit formed (take h.count (take most lines)) (first_all _ h.count (take most lines) valid) journal pages held;
       }
     where
       within_both : (k most : ℕ) (lines : List (List ℕ)) → k ≤ most → k ≤ length lines → k ≤ length (take most lines)
       within_both k most lines le within = omega (arith, le, within, length-take most lines)
 
-  -- the text of all lines that were done, as the machine gives it, is that of their book
-  whole_text : (before now : Option (List ℕ)) (lines : List (List ℕ)) (book : Book) → book ≡ book_of s lines → Took before now (text_of (store_machine is_known history faults) s lines) → Took before now (book_text book)
-  whole_text before now lines book is took = subst (Took before now) (text_is is_known history faults s 0 lines ∙ ap book_text (sym is)) took
+  -- how many lines more count than those that were done: the next one only where it is valid, as a commit is
+  record Counted (most done : ℕ) (lines : List (List ℕ)) : Type 0 where
+    further : ℕ
+    at_most : further ≤ most
+    valid : AreValidLines (take (done + further) lines)
+    opens : (least : ℕ) (journal pages : List ℕ) → least ≤ done → HoldsFrom (store_machine is_known history faults) least (done + most) s lines journal pages → OpenAfterLines t n limit least (take (done + further) lines) journal pages
 
-  exact_is : (e : End) (read : List ℕ) (before now : Option (List ℕ)) (lines : List (List ℕ)) (done : ℕ) (book : Book) → (slack_at e ≡ 0 → book ≡ book_of s (take done lines)) → IsExactRun (store_machine is_known history faults) line_limit s e read before now lines done
-      → IsExact (status_of_end e) read lines done (Took before now (book_text book))
-  exact_is end.Done read before now lines done book is x =
+  counted_done : (most done : ℕ) (lines : List (List ℕ)) → AreValidLines (take done lines)
+      → ((least : ℕ) (journal pages : List ℕ) → least ≤ done → HoldsFrom (store_machine is_known history faults) least (done + most) s lines journal pages → HoldsFrom (store_machine is_known history faults) least done s lines journal pages)
+      → Counted most done lines
+  counted_done most done lines valid fewer =
+      let none : take (done + 0) lines ≡ take done lines = ap (λ k. take k lines) (let sum : done + 0 ≡ done = omega arith in sum) in
+      record {
+        further = 0;
+        at_most = omega arith;
+        valid = subst AreValidLines (sym none) valid;
+        opens = λ least journal pages le h. subst (λ ls. OpenAfterLines t n limit least ls journal pages) (sym none) (opens_some least done lines journal pages valid (fewer least journal pages le h));
+      }
+
+  -- the line behind those that were done leaves what is committed
+  without_next : (most done : ℕ) (line : List ℕ) (lines rest : List (List ℕ)) → most ≤ 1 → done ≤ length lines → drop done lines ≡ line ∷ rest
+      → SameCommitted (script_of s (take done lines)).state (done_by (script_of s (take done lines)).state 0 (line_of line)).state
+      → (least : ℕ) (journal pages : List ℕ) → least ≤ done → HoldsFrom (store_machine is_known history faults) least (done + most) s lines journal pages → HoldsFrom (store_machine is_known history faults) least done s lines journal pages
+  without_next most done line lines rest small within is same least journal pages le h = go (nat_le h.count done) refl
+    where
+      at_done : State StoreCall
+      at_done = state_after (store_machine is_known history faults) s (take done lines)
+
+      here : at_done ≡ (script_of s (take done lines)).state
+      here = state_is is_known history faults s (take done lines)
+
+      one_more : h.count ≡ done + 1 → state_after (store_machine is_known history faults) s (take h.count lines) ≡ (done_by at_done 0 (line_of line)).state
+      one_more count =
+          ap (λ k. state_after (store_machine is_known history faults) s (take k lines)) count
+          ∙ ap (state_after (store_machine is_known history faults) s) (first_more done 1 lines (line ∷ rest) within is)
+          ∙ state_after_on (store_machine is_known history faults) s (take done lines) (line ∷ [])
+
+      go : (b : Bool) → nat_le h.count done ≡ b → HoldsFrom (store_machine is_known history faults) least done s lines journal pages
+      go true few = record { count = h.count; enough = h.enough; bound = below few; within = h.within; holds = h.holds }
+        where
+          below : nat_le h.count done ≡ true → h.count ≤ done
+          below e = grind (arith, nat_tests, e)
+      go false many = record {
+        count = done;
+        enough = le;
+        bound = omega arith;
+        within = within;
+        holds = held_still at_done (done_by at_done 0 (line_of line)).state journal pages
+            (subst (λ (u : State StoreCall). SameCommitted u (done_by u 0 (line_of line)).state) (sym here) same)
+            (subst (λ (u : State StoreCall). HoldState u journal pages) (one_more (above many h.bound)) h.holds);
+      }
+        where
+          above : nat_le h.count done ≡ false → h.count ≤ done + most → h.count ≡ done + 1
+          above e bound = grind (arith, nat_tests, e, bound, small)
+
+  counted : (most done : ℕ) (lines rest : List (List ℕ)) → most ≤ 1 → done ≤ length lines → AreValidLines (take done lines) → drop done lines ≡ rest → Counted most done lines
+  counted most done lines [] small within valid is = counted_done most done lines valid (λ least journal pages le h. record {
+    count = h.count;
+    enough = h.enough;
+    bound = all_done h.count h.within;
+    within = h.within;
+    holds = h.holds;
+  })
+    where
+      all_done : (k : ℕ) → k ≤ length lines → k ≤ done
+      all_done k le = omega (arith, le, within, ap length (sym (take-append-drop done lines) ∙ ap (λ (ls : List (List ℕ)). take done lines ++ ls) is ∙ append-nil (take done lines)), length-take done lines)
+  counted most done lines (line ∷ rest) small within valid is = go (kept_or_valid (script_of s (take done lines)).state 0 (line_of line))
+    where
+      next_valid : IsValidLine (line_of line) → (k : ℕ) → k ≤ 1 → AreValidLines (take k (line ∷ rest))
+      next_valid v zero le = tt
+      next_valid v (suc zero) le = (v, tt)
+      next_valid v (suc (suc k)) le = absurd (omega (arith, le))
+
+      go : SameCommitted (script_of s (take done lines)).state (done_by (script_of s (take done lines)).state 0 (line_of line)).state ⊎ IsValidLine (line_of line) → Counted most done lines
+      go (inl same) = counted_done most done lines valid (without_next most done line lines rest small within is same)
+      go (inr v) =
+          let all : AreValidLines (take (done + most) lines) = subst AreValidLines (sym (first_more done most lines (line ∷ rest) within is)) (all_then _ (take done lines) (take most (line ∷ rest)) valid (next_valid v most small)) in
+          record {
+            further = most;
+            at_most = omega arith;
+            valid = all;
+            opens = λ least journal pages le h. opens_some least (done + most) lines journal pages all h;
+          }
+
+  -- the text of all lines that were done, as the machine gives it, is that of their replies
+  whole_text : (before now : Option (List ℕ)) (lines : List (List ℕ)) (script : Progress StoreCall) → script ≡ script_of s lines → Took before now (text_of (store_machine is_known history faults) s lines) → Took before now (replies_text script.lines)
+  whole_text before now lines script is took = subst (Took before now) (text_is is_known history faults s lines ∙ ap (λ (p : Progress StoreCall). replies_text p.lines) (sym is)) took
+
+  exact_is : (e : End) (read : List ℕ) (before now : Option (List ℕ)) (lines : List (List ℕ)) (done : ℕ) (script : Progress StoreCall) → (slack_at e ≡ 0 → script ≡ script_of s (take done lines))
+      → IsExactRun (store_machine is_known history faults) line_limit s e read before now lines done → IsExact (status_of_end e) read lines done (Took before now (replies_text script.lines))
+  exact_is end.Done read before now lines done script is x =
       let all : take done lines ≡ lines_of read = ap (λ k. take k lines) x.0 ∙ take-length lines ∙ x.1 in
-      (x.0, x.1, whole_text before now (lines_of read) book (is refl ∙ ap (book_of s) all) x.2)
-  exact_is (end.LineTooLong k) read before now lines done book is x = (x.0, x.1, whole_text before now (take done lines) book (is refl) x.2)
-  exact_is end.ReadFault read before now lines done book is x =
+      (x.0, x.1, whole_text before now (lines_of read) script (is refl ∙ ap (script_of s) all) x.2)
+  exact_is (end.LineTooLong k) read before now lines done script is x = (x.0, x.1, whole_text before now (take done lines) script (is refl) x.2)
+  exact_is end.ReadFault read before now lines done script is x =
       let all : take done lines ≡ lines = ap (λ k. take k lines) x.0 ∙ take-length lines in
-      (x.0, x.1, whole_text before now lines book (is refl ∙ ap (book_of s) all) x.2, x.3)
-  exact_is end.WriteFault read before now lines done book is x = tt
-  exact_is (end.Halted halt.DiskFault) read before now lines done book is x = tt
-  exact_is (end.Halted halt.NoMemory) read before now lines done book is x = tt
+      (x.0, x.1, whole_text before now lines script (is refl ∙ ap (script_of s) all) x.2, x.3)
+  exact_is end.WriteFault read before now lines done script is x = tt
+  exact_is (end.Halted halt.DiskFault) read before now lines done script is x = tt
+  exact_is (end.Halted halt.NoMemory) read before now lines done script is x = tt
 
   -- over a store that was opened
-  pub script_ran : (e : End) (read : List ℕ) (asked : ℕ) (rest before now : Option (List ℕ)) (k m : KeptStore P) (old new : Pair) → IsSettledIn (store_machine is_known history faults) k s → new ≡ pair_of m.session.journal.history (history m.pages) → IsImage new.journal.now new.journal.now.reads → IsImage new.pages.now new.pages.now.reads
-      → Ran (store_machine is_known history faults) line_limit s e read asked rest before now k m
-      → ScriptRan t n limit (status_of_end e) (pair_of k.session.journal.history (history k.pages)) (record { read = read; asked = asked; left = rest; before = before; now = now; old = old; new = new })
-  script_ran e read asked rest before now k m old new settled same of_journal of_pages ran =
-      let opening : Pair = pair_of k.session.journal.history (history k.pages) in
-      let most : ℕ = ran.done + slack (status_of_end e) in
-      let most_is : ran.done + slack_at e ≡ most = ap (λ x. ran.done + x) (slack_is e) in
-      let book : Book = book_of s (take most ran.lines) in
-      let first : take ran.done book ≡ book_of s (take ran.done ran.lines) = first_entries ran.done most ran.lines (omega arith) in
-      let only : slack_at e ≡ 0 → book ≡ book_of s (take ran.done ran.lines) = λ none. ap (λ x. book_of s (take x ran.lines)) (sym most_is ∙ (let zero : ran.done + slack_at e ≡ ran.done = omega (arith, none) in zero)) in
-      let left : PairsHave (OpenAfterBook t n ran.done book) new = subst (PairsHave (OpenAfterBook t n ran.done book)) (sym same) (λ journal pages is_journal is_pages.
-      opens_some ran.done most ran.lines journal pages (subst (λ x. HoldsFrom (store_machine is_known history faults) ran.done x s ran.lines journal pages) most_is (ran.left settled journal pages is_journal is_pages))) in
+  pub script_ran : (e : End) (read : List ℕ) (before_read : ℕ) (rest before now : Option (List ℕ)) (k m : KeptStore P) (old new : Pair) → IsSettled (store_machine is_known history faults) k s → new ≡ pair_of m.journal.history (history m.pages)
+      → IsImage new.journal.now new.journal.now.reads → IsImage new.pages.now new.pages.now.reads → Ran (store_machine is_known history faults) line_limit s e read before_read rest before now k m
+      → ScriptRan t n limit (status_of_end e) (pair_of k.journal.history (history k.pages)) (record { read = read; asked = before_read; left = rest; before = before; now = now; old = old; new = new })
+  script_ran e read before_read rest before now k m old new settled same of_journal of_pages ran =
+      let opening : Pair = pair_of k.journal.history (history k.pages) in
+      let counts = counted (slack_at e) ran.done ran.lines (drop ran.done ran.lines) (slack_small e) ran.within ran.valid refl in
+      let counting : List (List ℕ) = take (ran.done + counts.further) ran.lines in
+      let script : Progress StoreCall = script_of s counting in
+      let only : slack_at e ≡ 0 → script ≡ script_of s (take ran.done ran.lines)
+      = λ none. ap (λ x. script_of s (take x ran.lines)) (let sum : ran.done + counts.further ≡ ran.done = omega (arith, none, counts.at_most) in sum) in
+      let left : PairsHave (OpenAfterLines t n limit ran.done counting) new = subst (PairsHave (OpenAfterLines t n limit ran.done counting)) (sym same) (λ journal pages is_journal is_pages.
+      counts.opens ran.done journal pages (omega arith) (ran.left settled journal pages is_journal is_pages)) in
       record {
         lines = ran.lines;
         asked_for = ran.asked_for;
         done = ran.done;
         within = ran.within;
         short = ran.short;
-        book = book;
+        further = counts.further;
+        at_most = subst (λ x. counts.further ≤ x) (slack_is e) counts.at_most;
+        script = script;
         is = refl;
-        wrote = subst (TookPrefix before now) (text_is is_known history faults s 0 (take ran.done ran.lines) ∙ ap book_text (sym first)) ran.wrote;
-        exact = exact_is e read before now ran.lines ran.done book only ran.exact;
-        prompt = subst (TookAtLeast before now) (text_is is_known history faults s 0 (ended [] (take asked read))) ran.prompt.wrote;
+        sound = script_sound t n limit formed counting counts.valid;
+        wrote = subst (TookPrefix before now) (text_is is_known history faults s (take ran.done ran.lines)) ran.wrote;
+        exact = exact_is e read before now ran.lines ran.done script only ran.exact;
+        prompt = subst (TookAtLeast before now) (text_is is_known history faults s (ended [] (take before_read read))) ran.prompt.wrote;
         not_past = ran.prompt.short;
-        serial = replies_are s (take most ran.lines) refl;
-        any_moment = subst (PairsLeave (OpenAfterBook t n 0 book) opening) (sym same) (pairs_weaker _ _ (λ journal pages h. opens_some 0 most ran.lines journal pages (subst (λ x. HoldsFrom (store_machine is_known history faults) 0 x s ran.lines journal pages) most_is h)) opening _ (ran.any_moment settled));
+        any_moment = subst (PairsLeave (OpenAfterLines t n limit 0 counting) opening) (sym same) (pairs_weaker _ _ (λ journal pages h. counts.opens 0 journal pages (omega arith) h) opening _ (ran.any_moment settled));
         left = left;
         reads = left new.journal.now.reads new.pages.now.reads of_journal of_pages;
         pages = ap (λ p. p.pages) same ∙ ran.fixed;

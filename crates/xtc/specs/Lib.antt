@@ -1,12 +1,10 @@
-pub mod Book
-pub mod Calls
-pub mod Durable
-pub mod Kept
-pub mod OverlayView
-pub mod Replies
 pub mod ScriptLine
-pub mod Session
-pub mod Statuses
+pub mod ReadLines
+pub mod Book
+pub mod Durable
 pub mod StoreMachine
+pub mod Statuses
 pub mod TopCall
 pub mod Words
+-- words of private functions and of the proof
+pub mod inside

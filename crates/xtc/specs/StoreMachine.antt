@@ -1,49 +1,59 @@
--- A session over a store's two disks as a machine that does the lines of a script.
-use Rattle.std.specs.Prelude.{◌≡◌, ℕ, ◌+◌, Bool, false, List, [], IsTrue, Ok}
+-- A store's sessions over its two disks as a machine that does the lines of a script.
+use Rattle.std.specs.Prelude.{◌≡◌, ℕ, Bool, false, [], Some, IsTrue}
 use Rattle.outside_traits.specs.Disks.{all_synced}
 use Rattle.outside_traits.specs.DiskPairs.{pair_of}
-use Rattle.outside_traits.specs.Moments.{History}
-use Rattle.tree_model.specs.Tree.{map_of}
+use Rattle.outside_traits.specs.Moments.{History, IsAllSynced}
+use Rattle.tree_model.specs.Entries.{Entries}
+use Rattle.tree_model.specs.Tree.{Tree}
+use Rattle.node_seq.specs.Trees.{StandsFor}
 use Rattle.journal.specs.Groups.{is_next}
-use Rattle.recovery.specs.Opened.{contents_of_files}
+use Rattle.journal.specs.Views.{JournalView}
 use Rattle.script_runs.specs.Machine.{Machine}
-use Rattle.xtc.specs.Book.{after_line, entry_of, entry_text}
-use Rattle.xtc.specs.Kept.{Kept, Stands, IsSettled}
+use Rattle.call_contract.specs.States.{State}
+use Rattle.command_lines.specs.declared.command.StoreCall.{StoreCall}
+use Rattle.tx_core.specs.Cores.{CoreView, state_from, next_number}
+use Rattle.store_calls.specs.StoreCalls.{store_meaning}
+use Rattle.xtc.specs.Book.{done_by, replies_text, IsValidLine}
+use Rattle.xtc.specs.Durable.{HoldState}
 use Rattle.xtc.specs.ScriptLine.{line_of}
-use Rattle.xtc.specs.Session.{State as SessionState}
 
--- what a session over a store keeps: the session, and the disk of the pages
+-- what is kept of a store: the core of its sessions, the journal, and the disk of the pages
 pub record KeptStore (P : Type 0) : Type 0 where
-  pub session : Kept
+  pub core : CoreView StoreCall Entries
+  pub journal : JournalView
   pub pages : P
 
+-- the core was opened over the map of a tree, and its book led from there to this state
+pub record Stands (core : CoreView StoreCall Entries) (s : State StoreCall) : Type 0 where
+  pub tree : Tree
+  pub opened : StandsFor (Some core.opening) tree
+  pub state : state_from store_meaning tree core ≡ s
+
 -- the journal takes the next commit
-pub record IsUsable (k : Kept) : Type 0 where
+pub record IsUsable {P : Type 0} (k : KeptStore P) : Type 0 where
   pub usable : k.journal.failed ≡ false
-  pub next : IsTrue (is_next k.journal.last (k.number + 1))
+  pub next : IsTrue (is_next k.journal.last (next_number k.core))
 
--- two files stand for what is committed in this state
-abbrev pub HoldState : SessionState → List ℕ → List ℕ → Type 0
-HoldState s journal pages = contents_of_files journal pages ≡ Ok (record { entries = map_of s.committed; number = s.number })
-
--- the journal holds what is committed, and the pages are empty
-pub record IsSettledStore (session : Kept) (history : History) : Type 0 where
-  pub journal : IsSettled session
+-- a crash leaves of each file what a read gives: the journal stands for what is committed in the core's state, and the pages are empty
+pub record IsSettledStore {P : Type 0} (k : KeptStore P) (history : History) : Type 0 where
+  pub journal : IsAllSynced k.journal.history
+  pub holds : (s : State StoreCall) → Stands k.core s → HoldState s k.journal.history.now.reads []
   pub pages : history.now ≡ all_synced []
 
 -- over pages with these histories and counts of faults
 abbrev pub store_machine : {P : Type 0} → Bool → (P → History) → (P → ℕ) → Machine (KeptStore P)
 store_machine is_known history faults = record {
-  State = SessionState;
-  text = λ s n line. entry_text (entry_of s n (line_of line));
-  next = λ s line. after_line s (line_of line);
+  State = State StoreCall;
+  text = λ s n line. replies_text (done_by s n (line_of line)).lines;
+  next = λ s line. (done_by s 0 (line_of line)).state;
+  valid = λ line. IsValidLine (line_of line);
   holds = HoldState;
-  stands = λ k s. Stands k.session s;
-  usable = λ k. IsUsable k.session;
-  settled = λ k. IsSettledStore k.session (history k.pages);
+  stands = λ k s. Stands k.core s;
+  usable = λ k. IsUsable k;
+  settled = λ k. IsSettledStore k (history k.pages);
   Fixed = History;
   fixed = λ k. history k.pages;
   is_known = is_known;
-  disks = λ k. pair_of k.session.journal.history (history k.pages);
-  faults = λ k. record { journal = k.session.journal.faults; pages = faults k.pages };
+  disks = λ k. pair_of k.journal.history (history k.pages);
+  faults = λ k. record { journal = k.journal.faults; pages = faults k.pages };
 }

@@ -1,13 +1,23 @@
 -- What a run of the program leaves, by its status (docs/MANUAL.md, "Statuses").
-use Rattle.std.specs.Prelude.{◌≡◌, ◌≤◌, ◌⊎◌, ℕ, ◌+◌, List, [], length, map, take, Option, Some}
+use Rattle.std.specs.Prelude.{◌≡◌, ◌≤◌, ◌⊎◌, ℕ, ◌+◌, List, [], ◌∷◌, ◌++◌, length, take, Option, Some}
 use Rattle.outside_traits.specs.Bytes.{Took, TookPrefix}
 use Rattle.outside_traits.specs.DiskPairs.{Pair, PairsHave, PairsLeave}
 use Rattle.tree_model.specs.Tree.{Tree}
 use Rattle.recovery.specs.Trees.{StandFor, StoodFor, LeaveWhatStood}
 use Rattle.script_runs.specs.Lines.{ended, lines_of, first_long, AllShort, line_limit}
 use Rattle.script_runs.specs.Runs.{AskedLines, TookAtLeast}
-use Rattle.xtc.specs.Session.{fresh}
-use Rattle.xtc.specs.Book.{Book, book_of, book_text, Transaction, commits, replies_of, tree_after, serial_replies}
+use Rattle.call_contract.specs.Books.{Book, IsBookFrom, IsSerial, commits, last}
+use Rattle.call_contract.specs.Deadlocks.{DeadlockIsTrue}
+use Rattle.call_contract.specs.Ends.{LeavesAllElse}
+use Rattle.call_contract.specs.SerialRuns.{serial}
+use Rattle.call_contract.specs.States.{start}
+use Rattle.call_contract.specs.declared.events.Event.TheVariants.{Abort}
+use Rattle.call_contract.specs.declared.events.Noted.{Noted}
+use Rattle.command_lines.specs.declared.command.StoreCall.{StoreCall}
+use Rattle.session_driver.specs.Progress.{Progress}
+use Rattle.session_driver.specs.Waiters.{AllStopped}
+use Rattle.store_calls.specs.StoreCalls.{store_meaning, IsValidStoreCall}
+use Rattle.xtc.specs.Book.{script_of, replies_text}
 use Rattle.xtc.specs.declared.status.Status.{Status}
 use Rattle.xtc.specs.declared.status.Status.TheVariants.{Done, Usage, LineTooLong, Damaged, ReadFault, DiskFault, NoMemory}
 
@@ -28,16 +38,31 @@ pub record Outcome : Type 0 where
 
 -- ---- the files
 
--- two files stand for the tree after these commits, and for their number
-abbrev pub OpenAfter : Tree → ℕ → List Transaction → List ℕ → List ℕ → Type 0
-OpenAfter t n transactions journal pages = StandFor journal pages (tree_after t transactions) (n + length transactions)
+-- two files stand for the tree and the number after the commits of this book, run one after another by one thread on a plain tree
+abbrev pub OpenAfter : Tree → ℕ → Book StoreCall → List ℕ → List ℕ → Type 0
+OpenAfter t n book journal pages = StandFor journal pages (serial store_meaning (commits book) t).tree (n + length (commits book))
 
--- after the commits of the first entries of a book, at least so many
-pub record OpenAfterBook (t : Tree) (n : ℕ) (least : ℕ) (book : Book) (journal pages : List ℕ) : Type 0 where
+-- after the commits of the first of these lines, at least so many
+pub record OpenAfterLines (t : Tree) (n limit : ℕ) (least : ℕ) (lines : List (List ℕ)) (journal pages : List ℕ) : Type 0 where
   pub count : ℕ
   pub enough : least ≤ count
-  pub within : count ≤ length book
-  pub opens : OpenAfter t n (commits (take count book)) journal pages
+  pub within : count ≤ length lines
+  pub opens : OpenAfter t n (script_of (start t n limit) (take count lines)).book journal pages
+
+-- ---- the book
+
+-- What holds of the book of a script from this tree, number and limit, and of the state after it.
+-- It is legal; its committed transactions, run one after another by one thread on a plain tree, give the replies that were given, and the committed tree;
+-- a deadlock shows a true cycle; an aborted transaction leaves all else; and no session waits whose call would be answered.
+pub record IsSound (t : Tree) (n limit : ℕ) (script : Progress StoreCall) : Type 0 where
+  pub legal : IsBookFrom IsValidStoreCall store_meaning t n limit script.book
+  pub serial : IsSerial store_meaning t n limit script.book
+  pub deadlocks : (before : Book StoreCall) (e : Noted StoreCall) (behind : Book StoreCall) → script.book ≡ before ++ e ∷ behind
+      → DeadlockIsTrue store_meaning (last store_meaning (start t n limit) before) e
+  pub aborts : (before : Book StoreCall) (e : Noted StoreCall) (behind : Book StoreCall) → script.book ≡ before ++ e ∷ behind → e.event ≡ Abort
+      → LeavesAllElse (last store_meaning (start t n limit) before) (last store_meaning (start t n limit) (before ++ e ∷ [])) e.session
+  pub state : last store_meaning (start t n limit) script.book ≡ script.state
+  pub no_vain_wait : AllStopped store_meaning script.state
 
 -- ---- a script that ran
 
@@ -55,27 +80,29 @@ IsExact ReadFault read lines done all_written = (done ≡ length lines) × (line
 IsExact status read lines done all_written = Unit {0}
 
 -- A script over a store that was opened as a tree and a number. Of the lines that it was to do it did so many, none too long;
--- the book is that of these, and of the next one where it stopped within it.
--- The sink took a prefix of the book's text; the book's commits, run one after the other by one thread, give the replies in it
--- and the trees that the files stand for.
+-- `script` is what these do, and the next one where it stopped within that one's commit.
+-- The sink took a prefix of the text of the replies, whole where the status says so; the book is sound,
+-- and the files, now and as a crash leaves them at any moment, stand for a prefix of its commits with every one that was answered.
 pub record ScriptRan (t : Tree) (n limit : ℕ) (status : Status) (opening : Pair) (o : Outcome) : Type 0 where
   pub lines : List (List ℕ)
   pub asked_for : AskedLines o.left o.read lines
   pub done : ℕ
   pub within : done ≤ length lines
   pub short : AllShort line_limit (take done lines)
-  pub book : Book
-  pub is : book ≡ book_of (fresh t n limit) (take (done + slack status) lines)
-  pub wrote : TookPrefix o.before o.now (book_text (take done book))
-  pub exact : IsExact status o.read lines done (Took o.before o.now (book_text book))
+  pub further : ℕ
+  pub at_most : further ≤ slack status
+  pub script : Progress StoreCall
+  pub is : script ≡ script_of (start t n limit) (take (done + further) lines)
+  pub sound : IsSound t n limit script
+  pub wrote : TookPrefix o.before o.now (replies_text (script_of (start t n limit) (take done lines)).lines)
+  pub exact : IsExact status o.read lines done (Took o.before o.now (replies_text script.lines))
   -- before the last read that came back, the lines that had ended were answered and their answers written, and no line was too long
-  pub prompt : TookAtLeast o.before o.now (book_text (book_of (fresh t n limit) (ended [] (take o.asked o.read))))
+  pub prompt : TookAtLeast o.before o.now (replies_text (script_of (start t n limit) (ended [] (take o.asked o.read))).lines)
   pub not_past : AllShort line_limit (lines_of (take o.asked o.read))
-  pub serial : serial_replies t (commits book) ≡ map replies_of (commits book)
   -- a crash at any moment since the opening, a crash now, and the files as they read
-  pub any_moment : PairsLeave (OpenAfterBook t n 0 book) opening o.new
-  pub left : PairsHave (OpenAfterBook t n done book) o.new
-  pub reads : OpenAfterBook t n done book o.new.journal.now.reads o.new.pages.now.reads
+  pub any_moment : PairsLeave (OpenAfterLines t n limit 0 (take (done + further) lines)) opening o.new
+  pub left : PairsHave (OpenAfterLines t n limit done (take (done + further) lines)) o.new
+  pub reads : OpenAfterLines t n limit done (take (done + further) lines) o.new.journal.now.reads o.new.pages.now.reads
   -- the pages aren't written
   pub pages : o.new.pages ≡ opening.pages
 

@@ -3,9 +3,8 @@ ghost use Rattle.xtc.specs.declared.halt.Halt.TheVariants.{DiskFault as Fails, N
 
 use dewey_labels::NoMemory;
 use journal::DiskFault;
-use std::alloc::AllocError;
 
-/// Why a session can't go on.
+/// Why a store can't go on.
 #[derive(Clone, Copy, Debug, PartialEq, Eq)]
 pub enum Halt {
     /// A call of the journal's disk failed: the commit may be found at the next opening or not.
@@ -17,14 +16,6 @@ impl From<NoMemory> for Halt {
     ghost from_gives = { λ _ halt. halt ≡ WantsMemory };
 
     fn from(_refused: NoMemory) -> Halt {
-        Halt::NoMemory
-    }
-}
-
-impl From<AllocError> for Halt {
-    ghost from_gives = { λ _ halt. halt ≡ WantsMemory };
-
-    fn from(_refused: AllocError) -> Halt {
         Halt::NoMemory
     }
 }

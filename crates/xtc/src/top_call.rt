@@ -1,26 +1,28 @@
 // The program's one call: it tests the words, opens the store, and runs the script of the source over it.
-ghost use Rattle.std.specs.Prelude.{◌≡◌, ◌↔◌, ◌+◌, ℕ, List, [], ◌-◌, length, IsTrue, false, IfSome};
+ghost use Rattle.std.specs.Prelude.{◌≡◌, ◌↔◌, ◌+◌, ℕ, List, [], ◌-◌, length, IsTrue, false, IfSome, Some, Ok};
 ghost use Rattle.outside_traits.specs.Bytes.{Gave};
+ghost use Rattle.outside_traits.specs.CrashImages.{IsImage};
 ghost use Rattle.outside_traits.specs.DiskPairs.{Pair, pair_of};
 ghost use Rattle.outside_traits.specs.Disks.{all_synced};
+ghost use Rattle.outside_traits.specs.Moments.{IsAllSynced};
 ghost use Rattle.tree_model.specs.StoredTree.{IsStoredTree};
 ghost use Rattle.tree_model.specs.Tree.{Tree};
 ghost use Rattle.node_records.specs.declared.open_error.Place.{Place};
-ghost use Rattle.journal.specs.Groups.{is_next};
-ghost use Rattle.recovery.specs.Openings.{FoundDamaged};
+ghost use Rattle.node_seq.specs.Trees.{StandsFor};
+ghost use Rattle.recovery.specs.Opened.{contents_of_files};
+ghost use Rattle.recovery.specs.Openings.{FoundDamaged, TakesBehind};
 ghost use Rattle.script_runs.specs.Counts.{CountedWhere, DisksCountedWhere, ReadCountedWhere};
 ghost use Rattle.outside_kinds.specs.Bounds.{input_limit};
 ghost use Rattle.xtc.specs.Words.{are_run};
-ghost use Rattle.xtc.specs.Kept.{HoldsAll, IsMapOf};
 ghost use Rattle.xtc.specs.TopCall.{Leaves, ScriptRan, IsSilent, IsOfRun, tx_limit};
 
-use crate::session::Session;
 use crate::status::Status;
-use crate::store_session::StoreSession;
+use crate::store::Store;
 use crate::words::are_run;
 use outside_traits::{Disk, Sink, Source};
 use recovery::{Opened, StoreFault, open_store};
 use std::alloc::Global;
+use tx_core::Core;
 
 /// The greatest number that a commit may have.
 const TX_LIMIT: u32 = 4_294_967_295;
@@ -103,11 +105,11 @@ fn run_store<S: Source, K: Sink, J: Disk, P: Disk>(
     store: Opened<J, P>,
 ) -> Finish<J, P>
     requires tree { IsStoredTree store.base }
-    requires usable { store.journal.failed ≡ false }
-    requires next { IsTrue (is_next store.journal.last (store.number + 1)) }
+    requires next { TakesBehind store.journal store.number }
     ensures ran { (read : List ℕ) × Gave (S.left source.old) (S.left source.new) read × (S.given source.new ≡ S.given source.old + length read)
-        × (IsTrue J.is_known → IsTrue P.is_known → HoldsAll store.journal.history store.base store.number → (P.history store.pages).now ≡ all_synced []
-        → (t : Tree) → IsMapOf t store.base → (old : Pair)
+        × (IsTrue J.is_known → IsTrue P.is_known → IsAllSynced store.journal.history → (P.history store.pages).now ≡ all_synced []
+        → contents_of_files store.journal.history.now.reads [] ≡ Ok (record { entries = store.base; number = store.number })
+        → (t : Tree) → StandsFor (Some store.base) t → (old : Pair)
         → ScriptRan t store.number tx_limit result.status (pair_of store.journal.history (P.history store.pages)) (record {
           read = read;
           asked = S.asked source.new - S.given source.old;
@@ -132,13 +134,23 @@ fn run_store<S: Source, K: Sink, J: Disk, P: Disk>(
         base,
         number,
     } = store;
-    let session = Session::new(alloc, journal, base, number, TX_LIMIT);
-    let run = script_runs::run(alloc, StoreSession::new(session, pages), source, sink);
+    let Ok(core) = Core::new(alloc, base, number, TX_LIMIT) else {
+        return with_disks(Status::NoMemory, journal.into_disk(), pages);
+    };
+    let run = script_runs::run(alloc, Store::new(core, journal, pages), source, sink);
     let (journal, pages) = run.machine.into_disks();
-    // Asked for what it says of a disk: what a read gives is among what a crash may leave.
+    with_disks(Status::from(run.end), journal, pages)
+}
+
+/// The end of a run with its disks, of each of which what a read gives is among what a crash may leave.
+fn with_disks<J: Disk, P: Disk>(status: Status, journal: J, pages: P) -> Finish<J, P>
+    ensures same { result ≡ record { status = status; journal = journal; pages = pages } }
+    ensures journal { IsTrue J.is_known → IsImage (J.history journal).now (J.history journal).now.reads }
+    ensures pages { IsTrue P.is_known → IsImage (P.history pages).now (P.history pages).now.reads }
+{
     let _faults = (journal.faults(), pages.faults());
     Finish {
-        status: Status::from(run.end),
+        status,
         journal,
         pages,
     }

@@ -1,12 +1,12 @@
-use Rattle.std.proofs.Common.{◌≡◌, ◌-◌, ◌∙◌, [], refl, sym, ap, subst, add-zero, Ok}
+use Rattle.std.proofs.Common.{◌≡◌, ◌-◌, ◌∙◌, [], refl, sym, ap, subst, add-zero, Some, Ok}
 use Rattle.outside_traits.specs.DiskPairs.{Pair, pair_of}
 use Rattle.outside_traits.specs.Disks.{all_synced}
 use Rattle.outside_traits.proofs.Laws.{gave_none}
+use Rattle.node_seq.specs.Trees.{StandsFor}
 use Rattle.recovery.specs.Trees.{StandFor}
 use Rattle.recovery.proofs.CommitLaws.{pages_empty}
 use Rattle.script_runs.specs.Counts.{Counts, DisksCountedWhere}
 use Rattle.xtc.specs.declared.status.Status.TheVariants.{DiskFault}
-use Rattle.xtc.specs.Kept.{IsMapOf, HoldsAll}
 use Rattle.xtc.specs.TopCall.{Outcome, Leaves, tx_limit}
 use Rattle.xtc.proofs.StatusLaws.{beside_none, unopened_leaves, run_not_silent, run_leaves, run_not_damaged, damaged_of, cause_of, no_fault}
 use Rattle.xtc.proofs.top_call.xtc.Goals as goal
@@ -30,7 +30,7 @@ returns-in-Err-clause-leaves g c = (
         old = pair_of (g.J.Disk.history c.args.journal) (g.P.Disk.history c.args.pages);
         new = pair_of (g.J.Disk.history refused.journal) (g.P.Disk.history refused.pages);
       } in
-      subst (λ status. Leaves tx_limit status o) (sym c.from.ensures) (unopened_leaves tx_limit o refused.fault (record { read = refl; silent = refl; any_moment = c.in-Err.ensures.any_moment kj kp; left = c.in-Err.ensures.left kj kp })),
+      subst (λ status. Leaves tx_limit status o) (sym c.from.ensures) (unopened_leaves tx_limit o refused.fault (record { read = refl; silent = refl; any_moment = (c.in-Err.ensures.any_moment kj kp).any_moment; left = (c.in-Err.ensures.any_moment kj kp).left })),
 )
 
 pub returns-in-Err-clause-damaged : goal.returns-in-Err-clause-damaged
@@ -52,11 +52,10 @@ returns-in-Ok-clause-leaves g c =
           let opening : Pair = pair_of store.journal.history (g.P.Disk.history store.pages) in
           let opens = c.in-Ok.ensures.opens kj kp in
           let stand : StandFor old.journal.now.reads old.pages.now.reads t store.number = record { is_valid_tree = stored.is_valid_tree; opens = opens.stood ∙ ap (λ es. Ok (record { entries = es; number = store.number })) (sym stored.map) } in
-          let settled : HoldsAll store.journal.history store.base store.number = record { synced = (c.in-Ok.ensures.journal kj).synced; holds = beside_none _ _ _ opens.stands } in
-          let is : IsMapOf t store.base = record { formed = stored.is_valid_tree; map = sym stored.map } in
-          let none : opening.pages.now ≡ all_synced [] = c.in-Ok.ensures.pages kp ∙ ap all_synced (pages_empty _ _ _ opens.stood) in
+          let is : StandsFor (Some store.base) t = record { valid = stored.is_valid_tree; map = ap Some (sym stored.map) } in
+          let none : opening.pages.now ≡ all_synced [] = c.in-Ok.ensures.synced.pages kp ∙ ap all_synced (pages_empty _ _ _ opens.stood) in
           run_leaves tx_limit c.run_store.result.status _ c.run_store.ensures.status
-          (record { tree = t; number = store.number; stood = stand; opening = opening; until_open = c.in-Ok.ensures.any_moment kj kp; ran = run.3 kj kp settled none t is old }),
+          (record { tree = t; number = store.number; stood = stand; opening = opening; until_open = c.in-Ok.ensures.any_moment kj kp; ran = run.3 kj kp (c.in-Ok.ensures.synced.journal kj).synced none (beside_none _ _ _ opens.stands) t is old }),
     )
 
 pub returns-in-Ok-clause-silent : goal.returns-in-Ok-clause-silent
@@ -69,17 +68,17 @@ returns-in-Ok-clause-damaged g c = λ place is. absurd (run_not_damaged c.run_st
 
 pub returns-in-Err-clause-disk : goal.returns-in-Err-clause-disk
 returns-in-Err-clause-disk g c =
-    let later = c.in-Err.ensures.later in
+    let later = c.in-Err.ensures.counts.later in
     let fault = c.in-Err.field-0.fault in
     record {
       counted = λ is. record { one = cause_of _ _ fault c.in-Err.ensures.reason (sym c.from.ensures ∙ is); journal = later.0; pages = later.1 };
-      exact = λ no. let same = no_fault fault _ (λ e. no (c.from.ensures ∙ e)) c.in-Err.ensures.uncounted in λ i. record { journal = same.0 i; pages = same.1 i };
+      exact = λ no. let same = no_fault fault _ (λ e. no (c.from.ensures ∙ e)) c.in-Err.ensures.counts.uncounted in λ i. record { journal = same.0 i; pages = same.1 i };
     }
 
 pub returns-in-Ok-clause-disk : goal.returns-in-Ok-clause-disk
 returns-in-Ok-clause-disk g c =
     let run = c.run_store.ensures.disk in
-    let opened = c.in-Ok.ensures.exact in
+    let opened = c.in-Ok.ensures.counts in
     let before : Counts = record { journal = g.J.Disk.faults c.args.journal; pages = g.P.Disk.faults c.args.pages } in
     let opening : Counts = record { journal = c.in-Ok.store.journal.faults; pages = g.P.Disk.faults c.in-Ok.store.pages } in
     let same : opening ≡ before = λ i. record { journal = opened.0 i; pages = opened.1 i } in

@@ -1,0 +1,156 @@
+-- The lines of a script as lines of sessions: what they do, that it is sound, and what files stand for after them.
+use Rattle.std.proofs.Common.{◌≡◌, ℕ, ◌+◌, List, [], ◌∷◌, ◌++◌, Bool, length, Ok, refl, sym, ap, subst, ◌∙◌}
+use Rattle.std.specs.List.{AllByRecursion}
+use Rattle.std.proofs.lemmas.Grind.{flat_map-append}
+use Rattle.outside_traits.specs.Moments.{History}
+use Rattle.tree_model.specs.Tree.{Tree, map_of}
+use Rattle.tree_model.specs.ValidTrees.{IsValidTree}
+use Rattle.script_runs.specs.Texts.{answers, state_after}
+use Rattle.call_contract.specs.Books.{Book, IsAnswer, IsBookFrom, IsRun, IsSerial, commits, last, state_of}
+use Rattle.call_contract.specs.Ends.{LeavesAllElse}
+use Rattle.call_contract.specs.SerialRuns.{serial}
+use Rattle.call_contract.specs.States.{State, start}
+use Rattle.call_contract.specs.Steps.{step}
+use Rattle.call_contract.specs.declared.events.Event.{Event}
+use Rattle.call_contract.specs.declared.events.Event.TheVariants.{Abort}
+use Rattle.call_contract.specs.declared.events.Noted.{Noted}
+use Rattle.call_contract.proofs.Appends.{last_append, run_rest}
+use Rattle.call_contract.proofs.BookLaws.{sound as states_sound, serial_book, deadlock_shown, abort_leaves_all_else}
+use Rattle.call_contract.proofs.SessionBooks.{number_told}
+use Rattle.command_lines.specs.Replies.{reply_text}
+use Rattle.command_lines.specs.declared.command.StoreCall.{StoreCall}
+use Rattle.store_calls.specs.StoreCalls.{store_meaning, IsValidStoreCall}
+use Rattle.store_calls.proofs.StoreCallLaws.{store_laws}
+use Rattle.session_driver.specs.Lines.{Asked, AreValid, after_line, after_lines}
+use Rattle.session_driver.specs.Progress.{Progress, and_then}
+use Rattle.session_driver.specs.Waiters.{AllStopped}
+use Rattle.session_driver.proofs.LegalBooks.{lines_legal}
+use Rattle.session_driver.proofs.Runs.{lines_state}
+use Rattle.session_driver.proofs.Waiters.{nobody_waits_in_vain}
+use Rattle.xtc.specs.Book.{IsValidLine, done_by, done_from, script_of, replies_text}
+use Rattle.xtc.specs.Durable.{HoldState}
+use Rattle.xtc.specs.ScriptLine.{Line, nothing, bad, asked, line_of}
+use Rattle.xtc.specs.StoreMachine.{store_machine}
+use Rattle.xtc.specs.TopCall.{OpenAfter, IsSound}
+use Rattle.xtc.proofs.CommitCounts.{commits_counted}
+
+-- ---- what a store's machine does and answers
+
+-- the state that a line leaves doesn't depend on its number
+state_alone : (st : State StoreCall) (n k : ℕ) (line : Line) → (done_by st n line).state ≡ (done_by st k line).state
+state_alone st n k nothing = refl
+state_alone st n k (bad why) = refl
+state_alone st n k (asked a) = refl
+
+module _ {P : Type 0} (is_known : Bool) (history : P → History) (faults : P → ℕ) where
+  state_from : (st : State StoreCall) (n : ℕ) (lines : List (List ℕ)) → state_after (store_machine is_known history faults) st lines ≡ (done_from st n lines).state
+  state_from st n [] = refl
+  state_from st n (line ∷ lines) =
+      ap (λ (u : State StoreCall). state_after (store_machine is_known history faults) u lines) (state_alone st 0 (n + 1) (line_of line))
+      ∙ state_from (done_by st (n + 1) (line_of line)).state (n + 1) lines
+
+  pub state_is : (st : State StoreCall) (lines : List (List ℕ)) → state_after (store_machine is_known history faults) st lines ≡ (script_of st lines).state
+  state_is st lines = state_from st 0 lines
+
+  answers_are : (st : State StoreCall) (n : ℕ) (lines : List (List ℕ)) → answers (store_machine is_known history faults) st n lines ≡ replies_text (done_from st n lines).lines
+  answers_are st n [] = refl
+  answers_are st n (line ∷ lines) =
+      let first : Progress StoreCall = done_by st (n + 1) (line_of line) in
+      ap (λ (u : State StoreCall). replies_text first.lines ++ answers (store_machine is_known history faults) u (n + 1) lines) (state_alone st 0 (n + 1) (line_of line))
+      ∙ ap (λ (text : List ℕ). replies_text first.lines ++ text) (answers_are first.state (n + 1) lines)
+      ∙ sym (flat_map-append reply_text first.lines (done_from first.state (n + 1) lines).lines)
+
+  pub text_is : (st : State StoreCall) (lines : List (List ℕ)) → answers (store_machine is_known history faults) st 0 lines ≡ replies_text (script_of st lines).lines
+  text_is st lines = answers_are st 0 lines
+
+-- ---- the lines that ask a session something
+
+abbrev with_asked : Line → List (Asked StoreCall) → List (Asked StoreCall)
+with_asked nothing asks = asks
+with_asked (bad why) asks = asks
+with_asked (asked a) asks = a ∷ asks
+
+abbrev all_asked : List (List ℕ) → List (Asked StoreCall)
+all_asked [] = []
+all_asked (line ∷ lines) = with_asked (line_of line) (all_asked lines)
+
+record IsSame (p q : Progress StoreCall) : Type 0 where
+  book : p.book ≡ q.book
+  state : p.state ≡ q.state
+
+-- the lines do what these do
+as_asked : (st : State StoreCall) (n : ℕ) (lines : List (List ℕ)) → IsSame (done_from st n lines) (after_lines store_meaning st (all_asked lines))
+as_asked st n [] = record { book = refl; state = refl }
+as_asked st n (line ∷ lines) = go (λ u. as_asked u (n + 1) lines) (line_of line)
+  where
+    go : ((u : State StoreCall) → IsSame (done_from u (n + 1) lines) (after_lines store_meaning u (all_asked lines))) → (l : Line)
+        → IsSame (and_then (done_by st (n + 1) l) (done_from (done_by st (n + 1) l).state (n + 1) lines)) (after_lines store_meaning st (with_asked l (all_asked lines)))
+    go rest nothing = record { book = (rest st).book; state = (rest st).state }
+    go rest (bad why) = record { book = (rest st).book; state = (rest st).state }
+    go rest (asked a) =
+        let then = rest (after_line store_meaning st a).state in
+        record { book = ap (λ (b : Book StoreCall). (after_line store_meaning st a).book ++ b) then.book; state = then.state }
+
+abbrev pub AreValidLines : List (List ℕ) → Type 0
+AreValidLines lines = AllByRecursion (λ line. IsValidLine (line_of line)) lines
+
+asked_valid : (lines : List (List ℕ)) → AreValidLines lines → AreValid IsValidStoreCall (all_asked lines)
+asked_valid [] valid = tt
+asked_valid (line ∷ lines) valid = go (line_of line) valid.0 (asked_valid lines valid.1)
+  where
+    go : (l : Line) → IsValidLine l → AreValid IsValidStoreCall (all_asked lines) → AreValid IsValidStoreCall (with_asked l (all_asked lines))
+    go nothing is rest = rest
+    go (bad why) is rest = rest
+    go (asked a) is rest = (is, rest)
+
+-- ---- a script of valid lines from a valid tree
+
+module _ (t : Tree) (n limit : ℕ) (formed : IsValidTree t) (lines : List (List ℕ)) (valid : AreValidLines lines) where
+  abbrev opened : State StoreCall
+  opened = start t n limit
+
+  abbrev script : Progress StoreCall
+  script = script_of opened lines
+
+  same : IsSame script (after_lines store_meaning opened (all_asked lines))
+  same = as_asked opened 0 lines
+
+  legal : IsBookFrom IsValidStoreCall store_meaning t n limit script.book
+  legal = subst (IsBookFrom IsValidStoreCall store_meaning t n limit) (sym same.book) (lines_legal IsValidStoreCall store_meaning t n limit (all_asked lines) formed (asked_valid lines valid))
+
+  serial_is : IsSerial store_meaning t n limit script.book
+  serial_is = serial_book IsValidStoreCall store_meaning store_laws t n limit script.book legal
+
+  state_of_book : last store_meaning opened script.book ≡ script.state
+  state_of_book = ap (last store_meaning opened) same.book ∙ lines_state store_meaning opened (all_asked lines) ∙ sym same.state
+
+  abort_leaves : (before : Book StoreCall) (e : Noted StoreCall) (behind : Book StoreCall) → script.book ≡ before ++ e ∷ behind → e.event ≡ Abort
+      → LeavesAllElse (last store_meaning opened before) (last store_meaning opened (before ++ e ∷ [])) e.session
+  abort_leaves before e behind is aborts =
+      let st : State StoreCall = last store_meaning opened before in
+      let run : IsRun store_meaning st (e ∷ behind) = run_rest store_meaning opened before (e ∷ behind) (subst (IsRun store_meaning opened) is legal.legal.run) in
+      let here : IsAnswer e.answer (step store_meaning st e.session Abort) = subst (λ (v : Event StoreCall). IsAnswer e.answer (step store_meaning st e.session v)) aborts run.0 in
+      subst (λ (u : State StoreCall). LeavesAllElse st u e.session)
+      (ap (λ (v : Event StoreCall). state_of st (step store_meaning st e.session v)) (sym aborts) ∙ sym (last_append store_meaning opened before (e ∷ [])))
+      (abort_leaves_all_else store_meaning st e.session e.answer here)
+
+  pub script_sound : IsSound t n limit script
+  script_sound = record {
+    legal = legal;
+    serial = serial_is;
+    deadlocks = λ before e behind is cycle shown answered. deadlock_shown store_meaning t n limit before e cycle answered shown;
+    aborts = abort_leaves;
+    state = state_of_book;
+    no_vain_wait = subst (AllStopped store_meaning) (sym same.state) (nobody_waits_in_vain store_meaning t n limit (all_asked lines));
+  }
+
+  -- files that hold what is committed in the state after the lines stand for the tree and the number after the commits of their book
+  pub opens_after : (journal pages : List ℕ) → HoldState script.state journal pages → OpenAfter t n script.book journal pages
+  opens_after journal pages holds =
+      let tree_is : (serial store_meaning (commits script.book) t).tree ≡ script.state.tree = serial_is.tree ∙ ap (λ (u : State StoreCall). u.tree) state_of_book in
+      let number_is : n + length (commits script.book) ≡ script.state.number
+      = ap (λ (k : ℕ). n + k) (commits_counted store_meaning opened script.book legal.legal.run) ∙ number_told store_meaning opened script.book legal.legal.run ∙ ap (λ (u : State StoreCall). u.number) state_of_book in
+      record {
+        is_valid_tree = subst IsValidTree (sym serial_is.tree) (states_sound IsValidStoreCall store_meaning store_laws t n limit script.book legal).valid_tree;
+        opens = holds ∙ (λ i. Ok (record { entries = map_of (sym tree_is i); number = sym number_is i }));
+      }

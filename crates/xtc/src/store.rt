@@ -1,0 +1,238 @@
+// A store's sessions over its two disks, as a machine that does the lines of a script.
+ghost use Rattle.std.specs.Prelude.{◌≡◌, ◌<◌, ◌++◌, length, Some, Err, OnOk, vec_capacity};
+ghost use Rattle.call_contract.specs.States.{State};
+ghost use Rattle.command_lines.specs.Replies.{reply_text};
+ghost use Rattle.command_lines.specs.declared.command.StoreCall.{StoreCall};
+ghost use Rattle.command_lines.specs.declared.line_reply.LineReply.TheVariants as line_reply;
+ghost use Rattle.session_driver.specs.declared.doing.Doing.TheVariants.{Commit};
+ghost use Rattle.xtc.specs.Book.{done_by, replies_text};
+ghost use Rattle.xtc.specs.ReadLines.{line_in};
+ghost use Rattle.xtc.specs.StoreMachine.{Stands};
+ghost use Rattle.xtc.specs.inside.Stores.{asked_from, MayBeAsked, TakesNext, LeadsTo, LeavesEither, Counts, IsDue};
+
+use crate::halt::Halt;
+use crate::line::{ReadLine, read_line};
+use command_lines::{LineReply, write_reply};
+use dewey_labels::{List, NoMemory, Text};
+use journal::Journal;
+use node_seq::SortedSeq;
+use outside_traits::Disk;
+use script_runs::LineMachine;
+use session_driver::{Doing, drive, finish_commit};
+use std::alloc::Global;
+use std::marker::Model;
+use std::mem;
+use store_calls::StoreOp;
+use tx_core::{Core, Prepared};
+
+/// The sessions of a store, the journal that their commits go to, and the disk of the pages, which no line touches.
+#[derive(Drop)]
+pub struct Store<J: Disk, P> {
+    core: Core<StoreOp, SortedSeq>,
+    journal: Journal<J>,
+    pages: P,
+}
+
+impl<J: Disk, P> Model for Store<J, P> {
+    ghost use Rattle.std.specs.Coded.{codes};
+    ghost use Rattle.tree_model.specs.contracts.fragment.Fragment as fragment;
+    ghost use Rattle.xtc.specs.StoreMachine.{KeptStore};
+
+    ghost Value = { KeptStore P };
+
+    ghost coded = { Prim.hlevel (codes, fragment.the_row.coded) };
+
+    ghost view = { λ s. record { core = s.core; journal = s.journal; pages = s.pages } };
+}
+
+impl<J: Disk, P> Store<J, P> {
+    pub fn new(core: Core<StoreOp, SortedSeq>, journal: Journal<J>, pages: P) -> Store<J, P>
+        ensures { result ≡ record { core = core; journal = journal; pages = pages } }
+    {
+        Store {
+            core,
+            journal,
+            pages,
+        }
+    }
+}
+
+impl<J: Disk, P: Disk> Store<J, P> {
+    /// Hands the disks out.
+    pub fn into_disks(self) -> (J, P)
+        ensures journal { J.history result.0 ≡ self.journal.history }
+        ensures faults { J.faults result.0 ≡ self.journal.faults }
+        ensures pages { result.1 ≡ self.pages }
+    {
+        let Store { journal, pages, .. } = self;
+        (journal.into_disk(), pages)
+    }
+}
+
+/// Does a line that was read, by its number from 1, and adds its replies to `out`.
+fn do_line<J: Disk>(
+    alloc: Global,
+    core: &mut Core<StoreOp, SortedSeq>,
+    journal: &mut Journal<J>,
+    number: u64,
+    line: ReadLine,
+    out: &mut Vec<u8>,
+) -> Result<(), Halt>
+    requires may { MayBeAsked core.old journal.old }
+    ensures state { OnOk result ((s : State StoreCall) → Stands core.old s
+        → LeadsTo J.is_known journal.old.history core.new journal.new.history s (done_by s 0 (line_in line)).state) }
+    ensures text { OnOk result ((s : State StoreCall) → Stands core.old s
+        → out.new.items ≡ out.old.items ++ replies_text (done_by s number (line_in line)).lines) }
+    ensures takes { OnOk result (TakesNext core.new journal.new) }
+    ensures any_moment { (s : State StoreCall) → Stands core.old s
+        → LeavesEither J.is_known journal.old.history journal.new.history s (done_by s 0 (line_in line)).state }
+    ensures counts { Counts (result ≡ Err Halt.DiskFault) journal.old.faults journal.new.faults }
+{
+    match line {
+        ReadLine::Nothing => Ok(()),
+        ReadLine::Bad(why) => Ok(write_bad(alloc, why, number, out)?),
+        ReadLine::Asked(session, doing) => ask(alloc, core, journal, session, doing, out),
+    }
+}
+
+/// Does what a session is asked, and adds the replies to `out`.
+fn ask<J: Disk>(
+    alloc: Global,
+    core: &mut Core<StoreOp, SortedSeq>,
+    journal: &mut Journal<J>,
+    session: u32,
+    doing: Doing<StoreOp>,
+    out: &mut Vec<u8>,
+) -> Result<(), Halt>
+    requires may { MayBeAsked core.old journal.old }
+    ensures state { OnOk result ((s : State StoreCall) → Stands core.old s
+        → LeadsTo J.is_known journal.old.history core.new journal.new.history s (asked_from s session doing).state) }
+    ensures text { OnOk result ((s : State StoreCall) → Stands core.old s
+        → out.new.items ≡ out.old.items ++ replies_text (asked_from s session doing).lines) }
+    ensures takes { OnOk result (TakesNext core.new journal.new) }
+    ensures any_moment { (s : State StoreCall) → Stands core.old s
+        → LeavesEither J.is_known journal.old.history journal.new.history s (asked_from s session doing).state }
+    ensures counts { Counts (result ≡ Err Halt.DiskFault) journal.old.faults journal.new.faults }
+{
+    let mut replies = Vec::new(alloc);
+    answer(alloc, core, journal, session, doing, &mut replies)?;
+    Ok(write_replies(alloc, replies.as_slice(), out)?)
+}
+
+/// Does what a session is asked. A commit is made once it is durable.
+fn answer<J: Disk>(
+    alloc: Global,
+    core: &mut Core<StoreOp, SortedSeq>,
+    journal: &mut Journal<J>,
+    session: u32,
+    doing: Doing<StoreOp>,
+    replies: &mut Vec<LineReply>,
+) -> Result<(), Halt>
+    requires may { MayBeAsked core.old journal.old }
+    ensures state { OnOk result ((s : State StoreCall) → Stands core.old s
+        → LeadsTo J.is_known journal.old.history core.new journal.new.history s (asked_from s session doing).state) }
+    ensures replies { OnOk result ((s : State StoreCall) → Stands core.old s
+        → replies.new.items ≡ replies.old.items ++ (asked_from s session doing).lines) }
+    ensures takes { OnOk result (TakesNext core.new journal.new) }
+    ensures any_moment { (s : State StoreCall) → Stands core.old s
+        → LeavesEither J.is_known journal.old.history journal.new.history s (asked_from s session doing).state }
+    ensures counts { Counts (result ≡ Err Halt.DiskFault) journal.old.faults journal.new.faults }
+{
+    // It tells that the book is legal, before and after.
+    core.is_legal();
+    match drive(alloc, core, session, doing, replies) {
+        Ok(None) => {
+            core.is_legal();
+            Ok(())
+        }
+        Ok(Some(prepared)) => commit(alloc, core, journal, session, prepared, replies),
+        // The map is in memory: a read of it doesn't fail.
+        Err(_) => Err(Halt::NoMemory),
+    }
+}
+
+/// Makes a commit durable, then makes it and does what it leads to. What memory the journal wants is taken before its first write.
+fn commit<J: Disk>(
+    alloc: Global,
+    core: &mut Core<StoreOp, SortedSeq>,
+    journal: &mut Journal<J>,
+    session: u32,
+    prepared: Prepared,
+    replies: &mut Vec<LineReply>,
+) -> Result<(), Halt>
+    requires may { MayBeAsked core.old journal.old }
+    requires prepared { core.old.prepared ≡ Some session }
+    requires due { IsDue core.old session prepared }
+    requires room { length replies.old.items < vec_capacity replies.old }
+    ensures state { OnOk result ((s : State StoreCall) → Stands core.old s
+        → LeadsTo J.is_known journal.old.history core.new journal.new.history s (asked_from s session Commit).state) }
+    ensures replies { OnOk result ((s : State StoreCall) → Stands core.old s
+        → replies.new.items ≡ replies.old.items ++ (asked_from s session Commit).lines) }
+    ensures takes { OnOk result (TakesNext core.new journal.new) }
+    ensures any_moment { (s : State StoreCall) → Stands core.old s
+        → LeavesEither J.is_known journal.old.history journal.new.history s (asked_from s session Commit).state }
+    ensures counts { Counts (result ≡ Err Halt.DiskFault) journal.old.faults journal.new.faults }
+{
+    // It tells that the book is legal, before and after.
+    core.is_legal();
+    journal.make_room(alloc, prepared.body.len())?;
+    journal.append_group(prepared.number, prepared.body.as_slice())?;
+    match finish_commit(alloc, core, session, prepared, replies) {
+        Ok(()) => {
+            core.is_legal();
+            Ok(())
+        }
+        Err(_) => Err(Halt::NoMemory),
+    }
+}
+
+/// Adds the reply to a line that is no command.
+fn write_bad(alloc: Global, why: Text, line: u64, out: &mut Vec<u8>) -> Result<(), NoMemory>
+    ensures { OnOk result (out.new.items ≡ out.old.items ++ reply_text (line_reply.Bad why line)) }
+{
+    write_line(alloc, &LineReply::Bad { why, line }, out)
+}
+
+/// Adds a reply.
+fn write_line(alloc: Global, reply: &LineReply, out: &mut Vec<u8>) -> Result<(), NoMemory>
+    ensures { OnOk result (out.new.items ≡ out.old.items ++ reply_text reply.now) }
+{
+    let mut text = List::from_vec(mem::replace(out, Vec::new(alloc)));
+    let written = write_reply(alloc, reply, &mut text);
+    *out = text.into_vec();
+    written
+}
+
+/// Adds replies.
+fn write_replies(alloc: Global, replies: &[LineReply], out: &mut Vec<u8>) -> Result<(), NoMemory>
+    ensures { OnOk result (out.new.items ≡ out.old.items ++ replies_text replies.now) }
+{
+    for reply in replies {
+        write_line(alloc, reply, out)?;
+    }
+    Ok(())
+}
+
+impl<J: Disk, P: Disk> LineMachine for Store<J, P> {
+    ghost use Rattle.std.specs.Prelude.{◌&&◌};
+    ghost use Rattle.xtc.specs.StoreMachine.{store_machine};
+
+    ghost machine = { store_machine (J.is_known && P.is_known) P.history P.faults };
+
+    fn line(
+        &mut self,
+        alloc: Global,
+        number: u64,
+        line: &[u8],
+        out: &mut Vec<u8>,
+    ) -> Result<(), script_runs::Halt> {
+        let Ok(line) = read_line(alloc, line) else {
+            return Err(script_runs::Halt::NoMemory);
+        };
+        match do_line(alloc, &mut self.core, &mut self.journal, number, line, out) {
+            Ok(()) => Ok(()),
+            Err(Halt::DiskFault) => Err(script_runs::Halt::DiskFault),
+            Err(Halt::NoMemory) => Err(script_runs::Halt::NoMemory),
+        }
+    }
+}
