@@ -1,29 +1,34 @@
 -- What the clauses of `xtc` say of a whole script over two empty files.
-use Rattle.std.proofs.Common.{◌≡◌, ℕ, ◌+◌, List, [], ◌++◌, length, take, Option, Some, None, Result, Ok, Err, sym, ap, subst, ◌∙◌, arith}
+use Rattle.std.proofs.Common.{◌≡◌, ◌⊎◌, inl, inr, ℕ, ◌+◌, ◌≤◌, List, [], ◌++◌, length, take, drop, Option, Some, None, Result, Ok, Err, refl, sym, ap, subst, ◌∙◌, arith}
 use Rattle.std.specs.Prelude.{IfSome}
 use Rattle.std.specs.Option.{option_map}
-use Rattle.std.proofs.lemmas.List.{append-nil, take_all}
+use Rattle.std.proofs.lemmas.List.{append-nil, append_assoc, take_all, take-take, take-append-drop, length-take}
 use Rattle.std.proofs.lemmas.Option.{same_Some}
-use Rattle.outside_traits.specs.Bytes.{Gave}
+use Rattle.outside_traits.specs.Bytes.{Gave, Took, TookPrefix}
+use Rattle.outside_traits.specs.CrashImages.{IsImage}
 use Rattle.outside_traits.specs.DiskPairs.{Pair}
+use Rattle.outside_traits.specs.Disks.{DiskState, all_synced}
+use Rattle.outside_traits.proofs.ImageLaws.{image-all_synced}
 use Rattle.tree_model.specs.Entries.{Entries}
 use Rattle.tree_model.specs.Tree.{Tree, empty_tree, map_of}
 use Rattle.tree_model.proofs.SameMaps.{same_tree}
 use Rattle.node_records.specs.declared.open_error.Place.{Place}
-use Rattle.recovery.specs.Opened.{Contents}
-use Rattle.recovery.specs.Trees.{StandFor}
-use Rattle.script_runs.specs.Lines.{lines_of}
-use Rattle.xtc.specs.Book.{Book, book_of, book_text, commits, tree_after}
-use Rattle.xtc.specs.Session.{State, fresh}
-use Rattle.xtc.specs.TopCall.{Outcome, Leaves, OpenAfterBook, OpenedStoreLeaves, ScriptRan, tx_limit}
+use Rattle.recovery.specs.Opened.{Contents, contents_of_files}
+use Rattle.recovery.specs.Openings.{FoundDamaged}
+use Rattle.recovery.specs.Trees.{StandFor, StoodFor}
+use Rattle.script_runs.specs.Lines.{ended, unended, last_line, lines_of}
+use Rattle.script_runs.specs.Runs.{AskedLines}
+use Rattle.script_runs.proofs.FeedingLaws.{ended_on}
+use Rattle.call_contract.specs.Books.{Book, commits}
+use Rattle.call_contract.specs.SerialRuns.{serial}
+use Rattle.command_lines.specs.declared.command.StoreCall.{StoreCall}
+use Rattle.session_driver.specs.Progress.{Progress}
+use Rattle.store_calls.specs.StoreCalls.{store_meaning}
+use Rattle.xtc.specs.Book.{script_of, replies_text}
+use Rattle.xtc.specs.TopCall.{Outcome, Leaves, OpenAfterLines, OpenedStoreLeaves, UnopenedStoreLeaves, ScriptRan, IsSilent, slack, tx_limit}
 use Rattle.xtc.specs.declared.status.Status.{Status}
-use Rattle.xtc.specs.declared.status.Status.TheVariants.{Done}
-use Rattle.xtc.proofs.BookLaws.{book_length}
-use Rattle.xtc_callers.specs.NewStores.{ScriptDone, StandForCommits}
-
--- the session in which the script begins
-abbrev start : State
-start = fresh empty_tree 0 tx_limit
+use Rattle.xtc.specs.declared.status.Status.TheVariants.{Done, Usage, LineTooLong, Damaged, ReadFault, WriteFault, DiskFault, NoMemory}
+use Rattle.xtc_callers.specs.NewStores.{new_store, ScriptDone, ScriptBegun, IfAnswered, StandForCommits}
 
 abbrev number_read : Result Contents Place → ℕ
 number_read (Ok contents) = contents.number
@@ -44,30 +49,29 @@ all_read : (script read : List ℕ) (left : Option (List ℕ)) → Gave (Some sc
 all_read script read (Some rest) gave none = sym (same_Some _ _ gave ∙ ap (λ (l : List ℕ). read ++ l) none ∙ append-nil read)
 all_read script read None gave none = cc
 
--- files that stand for the commits of at least so many entries, the whole book, stand for all its commits
-whole_book : (least : ℕ) (book : Book) (journal pages : List ℕ) → least ≡ length book → OpenAfterBook empty_tree 0 least book journal pages
-    → StandForCommits book journal pages
-whole_book least book journal pages whole after =
-    let all : take after.count book ≡ book = take_all after.count book (omega (arith, whole, after.enough)) in
-    let count : 0 + length (commits (take after.count book)) ≡ length (commits book) = omega (arith, ap (λ (b : Book). length (commits b)) all) in
-    subst (λ (x : Book × ℕ). StandFor journal pages (tree_after empty_tree (commits x.0)) x.1) (λ i. (all i, count i)) after.opens
+-- files that stand for the commits of at least so many lines, which are all, stand for all commits
+all_commits : (least : ℕ) (lines : List (List ℕ)) (done : Progress StoreCall) (journal pages : List ℕ) → length lines ≤ least → done ≡ script_of new_store lines
+    → OpenAfterLines empty_tree 0 tx_limit least lines journal pages → StandForCommits done.book journal pages
+all_commits least lines done journal pages whole is after =
+    let all : script_of new_store (take after.count lines) ≡ done = ap (script_of new_store) (take_all after.count lines (omega (arith, whole, after.enough))) ∙ sym is in
+    let count : 0 + length (commits (script_of new_store (take after.count lines)).book) ≡ length (commits done.book) = omega (arith, ap (λ (p : Progress StoreCall). length (commits p.book)) all) in
+    subst (λ (x : Book StoreCall × ℕ). StandFor journal pages (serial store_meaning (commits x.0) empty_tree).tree x.1) (λ i. ((all i).book, count i)) after.opens
 
 -- a run to the end of its script from the empty tree on
 done_from_empty : (o : Outcome) (opening : Pair) (script text : List ℕ) → o.read ≡ script → o.before ≡ Some [] → o.now ≡ Some text
     → ScriptRan empty_tree 0 tx_limit Done opening o → ScriptDone script text o.new.journal o.new.pages
 done_from_empty o opening script text read before now ran =
+    let lines : List (List ℕ) = take (ran.done + ran.further) ran.lines in
+    let all : lines ≡ ran.lines = take_all (ran.done + ran.further) ran.lines (omega (arith, ran.exact.0)) in
     let lines_are : ran.lines ≡ lines_of script = ran.exact.1 ∙ ap lines_of read in
-    let all : take (ran.done + 0) ran.lines ≡ ran.lines = take_all (ran.done + 0) ran.lines (omega (arith, ran.exact.0)) in
-    let of_lines : ran.book ≡ book_of start (lines_of script) = ran.is ∙ ap (book_of start) (all ∙ lines_are) in
-    let long : length ran.book ≡ length (lines_of script) = ap length of_lines ∙ book_length start 0 (lines_of script) in
-    let whole : ran.done ≡ length ran.book = ran.exact.0 ∙ ap length lines_are ∙ sym long in
+    let whole : length lines ≤ ran.done = omega (arith, ap length all, ran.exact.0) in
     record {
-      book = ran.book;
-      of_lines = of_lines;
-      answered = same_Some _ _ (sym now ∙ ran.exact.2 ∙ ap (λ (held : Option (List ℕ)). option_map (λ bytes. bytes ++ book_text ran.book) held) before);
-      serial = ran.serial;
-      stored = whole_book ran.done ran.book o.new.journal.now.reads o.new.pages.now.reads whole ran.reads;
-      durable = λ journal pages of_journal of_pages. whole_book ran.done ran.book journal pages whole (ran.left journal pages of_journal of_pages);
+      done = ran.script;
+      of_lines = ran.is ∙ ap (script_of new_store) (all ∙ lines_are);
+      answered = same_Some _ _ (sym now ∙ ran.exact.2 ∙ ap (λ (held : Option (List ℕ)). option_map (λ bytes. bytes ++ replies_text ran.script.lines) held) before);
+      sound = ran.sound;
+      stored = all_commits ran.done lines ran.script o.new.journal.now.reads o.new.pages.now.reads whole ran.is ran.reads;
+      durable = λ journal pages of_journal of_pages. all_commits ran.done lines ran.script journal pages whole ran.is (ran.left journal pages of_journal of_pages);
     }
 
 -- over two empty files
@@ -83,3 +87,146 @@ script_done empty o status script text left_before done leaves_so script_is gave
     let is = alone empty leaves.tree leaves.number stood in
     done_from_empty o leaves.opening script text (all_read script o.read o.left gave whole) before now
     (subst (λ (x : Tree × ℕ). ScriptRan x.0 x.1 tx_limit Done leaves.opening o) (λ i. (is.0 i, is.1 i)) leaves.ran)
+
+-- ---- a script that was begun
+
+abbrev nothing : List ℕ
+nothing = []
+
+-- no place of a new store is damaged
+pub not_damaged : StandFor [] [] empty_tree 0 → (old new : Pair) (place : Place) → old.journal.now ≡ all_synced [] → old.pages.now ≡ all_synced [] → FoundDamaged old new place → ⊥
+not_damaged empty old new place journal pages found =
+    let opened : Result Contents Place = Ok (record { entries = map_of empty_tree; number = 0 }) in
+    let no : opened ≡ Err place = sym empty.opens ∙ (λ i. contents_of_files (sym journal i).reads (sym pages i).reads) ∙ found.broken in
+    cc
+
+-- at Usage what holds of a silent run holds
+pub silent_at_usage : (status : Status) (P : Type 0) → status ≡ Usage → IsSilent status P → P
+silent_at_usage status P is silent = subst (λ (s : Status). IsSilent s P) is silent
+
+-- the lines that ended in what was read are the first ones
+ended_first : (script read : List ℕ) (left : Option (List ℕ)) (lines : List (List ℕ)) → Gave (Some script) left read → lines ≡ ended [] read
+    → (behind : List (List ℕ)) × (lines_of script ≡ lines ++ behind)
+ended_first script read None lines gave is = cc
+ended_first script read (Some rest) lines gave is =
+    let more : List (List ℕ) = ended (unended [] read) rest in
+    let final : List (List ℕ) = last_line (unended [] script) in (
+      more ++ final,
+      ap (λ (ls : List (List ℕ)). ls ++ final) (ap (ended []) (same_Some _ _ gave) ∙ ended_on [] read rest) ∙ append_assoc (ended [] read) more final
+          ∙ ap (λ (ls : List (List ℕ)). ls ++ (more ++ final)) (sym is),
+    )
+
+first_lines : (script read : List ℕ) (left : Option (List ℕ)) (lines : List (List ℕ)) → Gave (Some script) left read → AskedLines left read lines
+    → (behind : List (List ℕ)) × (lines_of script ≡ lines ++ behind)
+first_lines script read left lines gave (inl is) = ended_first script read left lines gave is
+first_lines script read left lines gave (inr whole) = ([], ap lines_of (sym (all_read script read left gave whole.0)) ∙ sym whole.1 ∙ sym (append-nil lines))
+
+-- over a sink that was empty
+module _ (o : Outcome) (text : List ℕ) (before : o.before ≡ Some []) (now : o.now ≡ Some text) where
+  took_all : (all : List ℕ) → Took o.before o.now all → text ≡ all
+  took_all all took = same_Some _ _ (sym now ∙ took ∙ ap (λ (held : Option (List ℕ)). option_map (λ bytes. bytes ++ all) held) before)
+
+  -- what of the text isn't written
+  abbrev Unwritten : Status → List ℕ → Type 0
+  Unwritten status all = (rest : List ℕ) × (text ++ rest ≡ all) × IfAnswered status (rest ≡ [])
+
+  some_unwritten : (all : List ℕ) → TookPrefix o.before o.now all → (rest : List ℕ) × (text ++ rest ≡ all)
+  some_unwritten all wrote = (wrote.0, ap (λ (bytes : List ℕ). bytes ++ wrote.0) (took_all wrote.1.prefix wrote.1.took) ∙ wrote.1.all)
+
+  module _ (status : Status) (opening : Pair) (ran : ScriptRan empty_tree 0 tx_limit status opening o) where
+    abbrev of_done : List ℕ
+    of_done = replies_text (script_of new_store (take ran.done ran.lines)).lines
+
+    -- where no line more counts, all that the script is answered
+    none_unwritten : slack status ≡ 0 → Took o.before o.now (replies_text ran.script.lines) → (rest : List ℕ) × (text ++ rest ≡ of_done) × (rest ≡ [])
+    none_unwritten none took =
+        let sum : ran.done + ran.further ≡ ran.done = omega (arith, ran.at_most, none) in
+        let same : ran.script ≡ script_of new_store (take ran.done ran.lines) = ran.is ∙ ap (λ (k : ℕ). script_of new_store (take k ran.lines)) sum in
+        ([], append-nil text ∙ took_all _ took ∙ ap (λ (p : Progress StoreCall). replies_text p.lines) same, refl)
+
+  unwritten : (status : Status) (opening : Pair) (ran : ScriptRan empty_tree 0 tx_limit status opening o) → Unwritten status (of_done status opening ran)
+  unwritten Done opening ran = none_unwritten Done opening ran refl ran.exact.2
+  unwritten (LineTooLong n) opening ran = none_unwritten (LineTooLong n) opening ran refl ran.exact.2
+  unwritten ReadFault opening ran = none_unwritten ReadFault opening ran refl ran.exact.2
+  unwritten Usage opening ran = let some = some_unwritten _ ran.wrote in (some.0, some.1, tt)
+  unwritten (Damaged place) opening ran = let some = some_unwritten _ ran.wrote in (some.0, some.1, tt)
+  unwritten WriteFault opening ran = let some = some_unwritten _ ran.wrote in (some.0, some.1, tt)
+  unwritten DiskFault opening ran = let some = some_unwritten _ ran.wrote in (some.0, some.1, tt)
+  unwritten NoMemory opening ran = let some = some_unwritten _ ran.wrote in (some.0, some.1, tt)
+
+  -- the store was opened
+  ran_begun : (status : Status) (opening : Pair) (script : List ℕ) → Gave (Some script) o.left o.read
+      → ScriptRan empty_tree 0 tx_limit status opening o → ScriptBegun status script text o.new.journal o.new.pages
+  ran_begun status opening script gave ran =
+      let count : ℕ = ran.done + ran.further in
+      let lines : List (List ℕ) = take count ran.lines in
+      let all = first_lines script o.read o.left ran.lines gave ran.asked_for in
+      let rest = unwritten status opening ran in
+      let first : take ran.done lines ≡ take ran.done ran.lines = take-take ran.done count ran.lines (omega arith) in
+      record {
+        lines = lines;
+        behind = drop count ran.lines ++ all.0;
+        of_script = all.1 ∙ ap (λ (ls : List (List ℕ)). ls ++ all.0) (sym (take-append-drop count ran.lines)) ∙ append_assoc lines (drop count ran.lines) all.0;
+        done = ran.done;
+        at_most = omega (arith, length-take count ran.lines, ran.at_most);
+        unwritten = rest.0;
+        answered = rest.1 ∙ ap (λ (ls : List (List ℕ)). replies_text (script_of new_store ls).lines) (sym first);
+        all_written = rest.2;
+        stored = ran.reads;
+        durable = ran.left;
+      }
+
+  -- it wasn't, and stands for what it stood for
+  unopened_begun : StandFor [] [] empty_tree 0 → (status : Status) (script : List ℕ) → IfAnswered status (nothing ≡ [])
+      → o.old.journal.now ≡ all_synced [] → o.old.pages.now ≡ all_synced [] → IsImage o.new.journal.now o.new.journal.now.reads → IsImage o.new.pages.now o.new.pages.now.reads
+      → UnopenedStoreLeaves o → ScriptBegun status script text o.new.journal o.new.pages
+  unopened_begun empty status script none old_journal old_pages of_journal of_pages leaves =
+      let held : (journal pages : List ℕ) → StoodFor o.old journal pages → OpenAfterLines empty_tree 0 tx_limit 0 [] journal pages
+      = λ journal pages stood.
+      let then_journal : stood.journal_then ≡ [] = image-all_synced [] stood.journal_then (subst (λ (s : DiskState). IsImage s stood.journal_then) old_journal stood.of_journal) in
+      let then_pages : stood.pages_then ≡ [] = image-all_synced [] stood.pages_then (subst (λ (s : DiskState). IsImage s stood.pages_then) old_pages stood.of_pages) in
+      record {
+        count = 0;
+        enough = omega arith;
+        within = omega arith;
+        opens = record { is_valid_tree = empty.is_valid_tree; opens = stood.same ∙ (λ i. contents_of_files (then_journal i) (then_pages i)) ∙ empty.opens };
+      } in
+      record {
+        lines = [];
+        behind = lines_of script;
+        of_script = refl;
+        done = 0;
+        at_most = omega arith;
+        unwritten = [];
+        answered = append-nil text ∙ same_Some _ _ (sym now ∙ leaves.silent ∙ before);
+        all_written = none;
+        stored = held o.new.journal.now.reads o.new.pages.now.reads (leaves.left _ _ of_journal of_pages);
+        durable = λ journal pages is_journal is_pages. held journal pages (leaves.left journal pages is_journal is_pages);
+      }
+
+-- over two empty files, whatever the end
+module _ (empty : StandFor [] [] empty_tree 0) (o : Outcome) (script text : List ℕ) (left_before : Option (List ℕ)) (script_is : left_before ≡ Some script) (gave : Gave left_before o.left o.read)
+    (before : o.before ≡ Some []) (now : o.now ≡ Some text) (old_journal : o.old.journal.now ≡ all_synced []) (old_pages : o.old.pages.now ≡ all_synced []) where
+  opened_begun : (status : Status) → OpenedStoreLeaves tx_limit status o → ScriptBegun status script text o.new.journal o.new.pages
+  opened_begun status leaves =
+      let stood : StandFor [] [] leaves.tree leaves.number
+      = subst (λ (x : DiskState × DiskState). StandFor x.0.reads x.1.reads leaves.tree leaves.number) (λ i. (old_journal i, old_pages i)) leaves.stood in
+      let is = alone empty leaves.tree leaves.number stood in
+      ran_begun o text before now status leaves.opening script (subst (λ (l : Option (List ℕ)). Gave l o.left o.read) script_is gave)
+      (subst (λ (x : Tree × ℕ). ScriptRan x.0 x.1 tx_limit status leaves.opening o) (λ i. (is.0 i, is.1 i)) leaves.ran)
+
+  module _ (of_journal : IsImage o.new.journal.now o.new.journal.now.reads) (of_pages : IsImage o.new.pages.now o.new.pages.now.reads) where
+    either_begun : (status : Status) → IfAnswered status (nothing ≡ []) → UnopenedStoreLeaves o ⊎ OpenedStoreLeaves tx_limit status o → ScriptBegun status script text o.new.journal o.new.pages
+    either_begun status none (inl leaves) = unopened_begun o text before now empty status script none old_journal old_pages of_journal of_pages leaves
+    either_begun status none (inr leaves) = opened_begun status leaves
+
+    pub script_begun : (status : Status) → (status ≡ Usage → ⊥) → ((place : Place) → status ≡ Damaged place → ⊥) → Leaves tx_limit status o
+        → ScriptBegun status script text o.new.journal o.new.pages
+    script_begun Usage not_usage not_place leaves = absurd (not_usage refl)
+    script_begun (Damaged place) not_usage not_place leaves = absurd (not_place place refl)
+    script_begun Done not_usage not_place leaves = opened_begun Done leaves
+    script_begun (LineTooLong n) not_usage not_place leaves = opened_begun (LineTooLong n) leaves
+    script_begun ReadFault not_usage not_place leaves = opened_begun ReadFault leaves
+    script_begun WriteFault not_usage not_place leaves = opened_begun WriteFault leaves
+    script_begun DiskFault not_usage not_place leaves = either_begun DiskFault tt leaves
+    script_begun NoMemory not_usage not_place leaves = either_begun NoMemory tt leaves

@@ -1,27 +1,60 @@
--- What a whole script over a new store is answered, and what it leaves (docs/MANUAL.md, "Transactions").
-use Rattle.std.specs.Prelude.{◌≡◌, ℕ, List, length, map}
+-- What a whole script over a new store is answered, and what it leaves (docs/MANUAL.md, "Transactions"; "Statuses").
+use Rattle.std.specs.Prelude.{◌≡◌, ◌≤◌, ℕ, ◌+◌, List, [], ◌++◌, length, take}
 use Rattle.outside_traits.specs.DiskPairs.{PairsHave, pair_of}
 use Rattle.outside_traits.specs.Moments.{History}
 use Rattle.tree_model.specs.Tree.{empty_tree}
 use Rattle.recovery.specs.Trees.{StandFor}
 use Rattle.script_runs.specs.Lines.{lines_of}
-use Rattle.xtc.specs.Book.{Book, book_of, book_text, commits, replies_of, serial_replies, tree_after}
-use Rattle.xtc.specs.Session.{fresh}
-use Rattle.xtc.specs.TopCall.{tx_limit}
+use Rattle.call_contract.specs.Books.{Book, commits}
+use Rattle.call_contract.specs.SerialRuns.{serial}
+use Rattle.call_contract.specs.States.{State, start}
+use Rattle.command_lines.specs.declared.command.StoreCall.{StoreCall}
+use Rattle.session_driver.specs.Progress.{Progress}
+use Rattle.store_calls.specs.StoreCalls.{store_meaning}
+use Rattle.xtc.specs.Book.{script_of, replies_text}
+use Rattle.xtc.specs.TopCall.{IsSound, OpenAfterLines, slack, tx_limit}
+use Rattle.xtc.specs.declared.status.Status.{Status}
+use Rattle.xtc.specs.declared.status.Status.TheVariants.{Done, LineTooLong, ReadFault}
 
--- two files stand for the tree after a book's commits, from the empty tree on, and for their number
-abbrev pub StandForCommits : Book → List ℕ → List ℕ → Type 0
-StandForCommits book journal pages = StandFor journal pages (tree_after empty_tree (commits book)) (length (commits book))
+-- the sessions of a new store, at the empty tree
+abbrev pub new_store : State StoreCall
+new_store = start empty_tree 0 tx_limit
+
+-- two files stand for the tree after a book's commits, run one after the other by one thread from the empty tree on, and for their number
+abbrev pub StandForCommits : Book StoreCall → List ℕ → List ℕ → Type 0
+StandForCommits book journal pages = StandFor journal pages (serial store_meaning (commits book) empty_tree).tree (length (commits book))
 
 -- A script was done over a new store: this text is what it was answered, and these are the files now.
--- All of it is said by one book, which has the answer to each line.
+-- All of it is said by what the script's lines do to the sessions: the book that they make, and their replies.
 pub record ScriptDone (script text : List ℕ) (journal pages : History) : Type 0 where
-  pub book : Book
-  -- of the script's lines, in a session that begins with the empty tree
-  pub of_lines : book ≡ book_of (fresh empty_tree 0 tx_limit) (lines_of script)
-  pub answered : text ≡ book_text book
-  -- the replies in its transactions are those of a run of them one after the other by one thread
-  pub serial : serial_replies empty_tree (commits book) ≡ map replies_of (commits book)
-  -- the files stand for the tree after that run, as they read and as a crash leaves them
-  pub stored : StandForCommits book journal.now.reads pages.now.reads
-  pub durable : PairsHave (StandForCommits book) (pair_of journal pages)
+  pub done : Progress StoreCall
+  -- of the script's lines, in sessions that begin with the empty tree
+  pub of_lines : done ≡ script_of new_store (lines_of script)
+  pub answered : text ≡ replies_text done.lines
+  -- its book is legal and serial, deadlocks are true, aborts leave all else, and nobody waits in vain
+  pub sound : IsSound empty_tree 0 tx_limit done
+  -- the files stand for the tree after the commits, as they read and as a crash leaves them
+  pub stored : StandForCommits done.book journal.now.reads pages.now.reads
+  pub durable : PairsHave (StandForCommits done.book) (pair_of journal pages)
+
+-- so it is where each line that was done has its replies written
+abbrev pub IfAnswered : Status → Type 0 → Type 0
+IfAnswered Done P = P
+IfAnswered (LineTooLong n) P = P
+IfAnswered ReadFault P = P
+IfAnswered status P = Unit {0}
+
+-- A script was begun over a new store, whatever its end: some of its lines were done, and the text is what these were answered, or a prefix of that.
+-- The files stand for the tree after the commits of some first lines, with each line that was done; one line more may be committed where the status says so.
+pub record ScriptBegun (status : Status) (script text : List ℕ) (journal pages : History) : Type 0 where
+  pub lines : List (List ℕ)
+  pub behind : List (List ℕ)
+  pub of_script : lines_of script ≡ lines ++ behind
+  pub done : ℕ
+  pub at_most : length lines ≤ done + slack status
+  pub unwritten : List ℕ
+  pub answered : text ++ unwritten ≡ replies_text (script_of new_store (take done lines)).lines
+  pub all_written : IfAnswered status (unwritten ≡ [])
+  -- as they read, and as a crash leaves them
+  pub stored : OpenAfterLines empty_tree 0 tx_limit done lines journal.now.reads pages.now.reads
+  pub durable : PairsHave (OpenAfterLines empty_tree 0 tx_limit done lines) (pair_of journal pages)

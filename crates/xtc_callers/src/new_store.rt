@@ -1,10 +1,13 @@
 // A caller of `xtc` over memory, and what it knows by the clauses: a script over the two empty files of a new store.
-ghost use Rattle.std.specs.Prelude.{◌≡◌};
-ghost use Rattle.outside_kinds.specs.MemoryDisks.{history_of};
-ghost use Rattle.xtc_callers.specs.NewStores.{ScriptDone};
+ghost use Rattle.std.specs.Prelude.{◌≡◌, ◌≢◌, ◌↔◌, [], false};
+ghost use Rattle.node_records.specs.declared.open_error.Place.{Place};
+ghost use Rattle.outside_kinds.specs.MemoryDisks.{history_of, start};
+ghost use Rattle.xtc.specs.Words.{are_run};
+ghost use Rattle.xtc_callers.specs.NewStores.{ScriptDone, ScriptBegun};
 
 use dewey_labels::List;
 use outside_kinds::{MemDisk, MemSink, MemSource};
+use outside_traits::Disk;
 use recovery::empty_files_stand_for_the_empty_tree;
 use std::alloc::Global;
 use xtc::{Finish, Status, xtc};
@@ -19,11 +22,17 @@ pub struct MemRun {
 }
 
 /// Runs a script over the two empty files of a new store, where the words are `run`.
-/// At Done one book of the script's lines has the replies that were written; its transactions are serial,
-/// and the files stand for the tree after them, as they read and as a crash leaves them.
+/// At Done what the script's lines do to the sessions has the replies that were written and a book that is sound, whose transactions are serial,
+/// and the files stand for the tree after them, as they read and as a crash leaves them. At another status some first lines were done.
 pub fn run_new_store(alloc: Global, words: &Vec<String>, script: List<u8>) -> MemRun
     ensures done { result.status ≡ Status.Done
         → ScriptDone script result.sink.held (history_of result.journal) (history_of result.pages) }
+    ensures begun { result.status ≢ Status.Usage
+        → ScriptBegun result.status script result.sink.held (history_of result.journal) (history_of result.pages) }
+    ensures not_damaged { (place : Place) → result.status ≢ Status.Damaged place }
+    ensures usage { (result.status ≡ Status.Usage) ↔ (are_run words.now.items ≡ false) }
+    ensures untouched { result.status ≡ Status.Usage
+        → (result.sink.held ≡ []) × (history_of result.journal ≡ start []) × (history_of result.pages ≡ start []) }
 {
     let mut source = MemSource::new(script, List::new(alloc));
     let mut sink = MemSink::new(alloc, List::new(alloc));
@@ -38,6 +47,8 @@ pub fn run_new_store(alloc: Global, words: &Vec<String>, script: List<u8>) -> Me
         journal,
         pages,
     } = xtc(alloc, words, &mut source, &mut sink, journal, pages);
+    // Called for its contract: what a read gives is among what a crash leaves.
+    let _faults = (journal.faults(), pages.faults());
     MemRun {
         status,
         sink,
