@@ -3,21 +3,22 @@
 //! All that it answers is the library's; the real files are trusted to keep, and the streams to hand over, the bytes that they are given.
 #![tactic(auto)]
 
-use outside_kinds::{FileDisk, StdSink, StdSource};
+mod store_files;
+
+use crate::store_files::{JournalKind, PagesKind, StoreFile, StoreFiles};
+use outside_kinds::{StdSink, StdSource};
 use std::alloc::Global;
 use std::env::Env;
-use std::fs::File;
 use std::process::ExitCode;
-use std::rt::Files;
 use std::{env, io};
-use xtc::{Status, xtc};
+use xtc::{Finish, Status, xtc};
 
 /// What the program ends with where it doesn't get the store's files.
 const NOT_AVAILABLE: u8 = 11;
 
 /// Runs the program's words on the store of the working folder.
 pub fn run_process(rt: &HostRuntime) -> ExitCode {
-    let Ok(files) = StoreFiles::open(rt) else {
+    let Ok(StoreFiles { journal, pages }) = StoreFiles::open(rt) else {
         let _ = eprintln!(rt; "xtc: store is not available");
         return ExitCode::from(NOT_AVAILABLE);
     };
@@ -27,38 +28,16 @@ pub fn run_process(rt: &HostRuntime) -> ExitCode {
     };
     let mut source = StdSource::new(rt.stdin());
     let mut sink = StdSink::new(rt.stdout());
-    let journal = FileDisk::new(files.journal);
-    let pages = FileDisk::new(files.pages);
     // It has the journal, and with it the lock, up to the end.
-    let finish = xtc(rt.alloc(), &words, &mut source, &mut sink, journal, pages);
+    let finish: Finish<StoreFile<JournalKind>, StoreFile<PagesKind>> = xtc(
+        rt.alloc(),
+        &words,
+        &mut source,
+        &mut sink,
+        journal,
+        pages,
+    );
     ended(rt, finish.status)
-}
-
-/// The files of a store, open for reading and writing. The lock is the process's until `journal` is let go.
-#[derive(Drop)]
-struct StoreFiles {
-    journal: File,
-    pages: File,
-}
-
-impl StoreFiles {
-    /// Opens or makes the two in the working folder. A second process gets no lock and is refused.
-    fn open<R: Files<File = File>>(rt: &R) -> io::Result<StoreFiles> {
-        let journal = open_or_create(rt, "store.journal")?;
-        let pages = open_or_create(rt, "store.pages")?;
-        journal.try_lock()?;
-        // The files' names last from here on, also where a run that was stopped before this had made them.
-        File::open(rt, ".")?.sync_all()?;
-        Ok(StoreFiles { journal, pages })
-    }
-}
-
-fn open_or_create<R: Files>(rt: &R, name: &str) -> io::Result<R::File> {
-    File::options()
-        .read(true)
-        .write(true)
-        .create(true)
-        .open(rt, name)
 }
 
 /// Tells the status on standard error. Its number tells it too, so a failed write here loses nothing.
