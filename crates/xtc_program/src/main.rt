@@ -1,4 +1,4 @@
-//! The program `xtc`: what it does is `run_process`. Its stored run is a script on a store with one commit.
+//! The program `xtc`: what it does is `run_process`. Its stored run is a script of several sessions on a store with one commit: refusals, bad lines, waits for another's end, and a deadlock.
 #![tactic(auto)]
 
 use std::process::ExitCode;
