@@ -5,4 +5,6 @@
 #[cfg(test)]
 mod in_pieces;
 #[cfg(test)]
+mod sessions;
+#[cfg(test)]
 mod tests;
