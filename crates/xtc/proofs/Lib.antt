@@ -1,5 +1,8 @@
+pub mod AskedLaws
+pub mod AskingLaws
 pub mod CommitCounts
 pub mod CommitLaws
+pub mod DocumentLaws
 pub mod LineLaws
 pub mod OpeningLaws
 pub mod ReasonLaws

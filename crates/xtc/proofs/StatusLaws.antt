@@ -1,5 +1,6 @@
 -- What a run of the program leaves, by the status that it ends with.
 use Rattle.std.proofs.Common.{◌≡◌, refl, inl, inr, List, ℕ, [], Ok, ap, subst}
+use Rattle.std.specs.Prelude.{Option, Some}
 use Rattle.node_records.specs.declared.open_error.OpenError.{OpenError}
 use Rattle.node_records.specs.declared.open_error.OpenError.TheVariants as error
 use Rattle.node_records.specs.declared.open_error.Place.{Place}
@@ -10,16 +11,23 @@ use Rattle.script_runs.specs.declared.halt.Halt.TheVariants as halt
 use Rattle.script_runs.specs.declared.running.End.{End}
 use Rattle.script_runs.specs.declared.running.End.TheVariants as end
 use Rattle.xtc.specs.declared.status.Status.{Status}
-use Rattle.xtc.specs.declared.status.Status.TheVariants.{Done, Usage, LineTooLong, Damaged, ReadFault, WriteFault, DiskFault, NoMemory}
+use Rattle.xtc.specs.declared.status.Status.TheVariants.{Done, Usage, LineTooLong, Damaged, ReadFault, WriteFault, DiskFault, NoMemory, NotJsonMl, DocumentRefused}
 use Rattle.xtc.specs.Statuses.{status_of, status_of_end}
-use Rattle.xtc.specs.TopCall.{Outcome, Leaves, UnopenedStoreLeaves, OpenedStoreLeaves, IsSilent, IsOfRun}
+use Rattle.xtc.specs.Commands.{Command, run}
+use Rattle.xtc.specs.TopCall.{Outcome, Leaves, UnopenedStoreLeaves, OpenedStoreLeaves, IsSilent, IsUnread, IsOfRun, IsOfOpened}
 
 -- ---- a store that wasn't opened
 
-pub unopened_leaves : (limit : ℕ) (o : Outcome) (fault : OpenError) → UnopenedStoreLeaves o → Leaves limit (status_of fault) o
-unopened_leaves limit o (error.Damaged place) h = h
-unopened_leaves limit o error.DiskFault h = inl h
-unopened_leaves limit o error.NoMemory h = inl h
+pub unopened_leaves : (limit : ℕ) (command : Option Command) (o : Outcome) (fault : OpenError) → UnopenedStoreLeaves o → Leaves limit command (status_of fault) o
+unopened_leaves limit command o (error.Damaged place) h = h
+unopened_leaves limit command o error.DiskFault h = inl h
+unopened_leaves limit command o error.NoMemory h = inl h
+
+-- then nothing was written
+pub unopened_silent : (command : Option Command) (fault : OpenError) (P : Type 0) → P → IsSilent command (status_of fault) P
+unopened_silent command (error.Damaged place) P p = p
+unopened_silent command error.DiskFault P p = tt
+unopened_silent command error.NoMemory P p = tt
 
 -- ---- a script that ran
 
@@ -32,7 +40,7 @@ is_of_run (end.Halted halt.DiskFault) = tt
 is_of_run (end.Halted halt.NoMemory) = tt
 
 -- the status asks for no silence
-pub run_not_silent : (status : Status) (P : Type 0) → IsOfRun status → IsSilent status P
+pub run_not_silent : (status : Status) (P : Type 0) → IsOfRun status → IsSilent (Some run) status P
 run_not_silent Done P is = tt
 run_not_silent (LineTooLong line) P is = tt
 run_not_silent ReadFault P is = tt
@@ -41,27 +49,56 @@ run_not_silent DiskFault P is = tt
 run_not_silent NoMemory P is = tt
 run_not_silent Usage P is = absurd is
 run_not_silent (Damaged place) P is = absurd is
+run_not_silent (NotJsonMl why) P is = absurd is
+run_not_silent (DocumentRefused why) P is = absurd is
 
-pub run_leaves : (limit : ℕ) (status : Status) (o : Outcome) → IsOfRun status → OpenedStoreLeaves limit status o → Leaves limit status o
-run_leaves limit Done o is h = h
-run_leaves limit (LineTooLong line) o is h = h
-run_leaves limit ReadFault o is h = h
-run_leaves limit WriteFault o is h = h
-run_leaves limit DiskFault o is h = inr h
-run_leaves limit NoMemory o is h = inr h
-run_leaves limit Usage o is h = absurd is
-run_leaves limit (Damaged place) o is h = absurd is
+-- ---- a command that ran over a store that was opened
 
--- a script that ran doesn't end as damage
-pub run_not_damaged : (status : Status) (place : Place) → IsOfRun status → status ≡ Damaged place → ⊥
-run_not_damaged Done place is e = cc
-run_not_damaged (LineTooLong line) place is e = cc
-run_not_damaged ReadFault place is e = cc
-run_not_damaged WriteFault place is e = cc
-run_not_damaged DiskFault place is e = cc
-run_not_damaged NoMemory place is e = cc
-run_not_damaged Usage place is e = absurd is
-run_not_damaged (Damaged at) place is e = absurd is
+-- as a script does
+pub of_run_opened : (status : Status) → IsOfRun status → IsOfOpened status
+of_run_opened Done is = tt
+of_run_opened (LineTooLong line) is = tt
+of_run_opened ReadFault is = tt
+of_run_opened WriteFault is = tt
+of_run_opened DiskFault is = tt
+of_run_opened NoMemory is = tt
+of_run_opened Usage is = is
+of_run_opened (Damaged place) is = is
+of_run_opened (NotJsonMl why) is = tt
+of_run_opened (DocumentRefused why) is = tt
+
+pub opened_leaves : (limit : ℕ) (command : Option Command) (status : Status) (o : Outcome) → IsOfOpened status → OpenedStoreLeaves limit command status o → Leaves limit command status o
+opened_leaves limit command Done o is h = h
+opened_leaves limit command (LineTooLong line) o is h = h
+opened_leaves limit command ReadFault o is h = h
+opened_leaves limit command WriteFault o is h = h
+opened_leaves limit command (NotJsonMl why) o is h = h
+opened_leaves limit command (DocumentRefused why) o is h = h
+opened_leaves limit command DiskFault o is h = inr h
+opened_leaves limit command NoMemory o is h = inr h
+opened_leaves limit command Usage o is h = absurd is
+opened_leaves limit command (Damaged place) o is h = absurd is
+
+-- it reads, or may
+pub opened_unread : (status : Status) (P : Type 0) → IsOfOpened status → IsUnread status P
+opened_unread Done P is = tt
+opened_unread (LineTooLong line) P is = tt
+opened_unread ReadFault P is = tt
+opened_unread WriteFault P is = tt
+opened_unread (NotJsonMl why) P is = tt
+opened_unread (DocumentRefused why) P is = tt
+opened_unread DiskFault P is = tt
+opened_unread NoMemory P is = tt
+opened_unread Usage P is = absurd is
+opened_unread (Damaged place) P is = absurd is
+
+-- and doesn't end as damage
+pub opened_not_damaged : (status : Status) (place : Place) → IsOfOpened status → status ≡ Damaged place → ⊥
+opened_not_damaged status place is e = subst IsOfOpened e is
+
+-- nor as no command
+pub opened_not_usage : (status : Status) → IsOfOpened status → status ≡ Usage → ⊥
+opened_not_usage status is e = subst IsOfOpened e is
 
 -- beside an empty page file the same is opened
 pub beside_none : (journal pages : List ℕ) (contents : Contents) → contents_of_files journal pages ≡ Ok contents → contents_of_files journal [] ≡ Ok contents

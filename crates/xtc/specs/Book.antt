@@ -5,7 +5,7 @@ use Rattle.command_lines.specs.Replies.{reply_text}
 use Rattle.command_lines.specs.declared.command.StoreCall.{StoreCall}
 use Rattle.command_lines.specs.declared.line_reply.LineReply.{LineReply}
 use Rattle.command_lines.specs.declared.line_reply.LineReply.TheVariants.{Bad}
-use Rattle.session_driver.specs.Lines.{after_line, IsValidDoing}
+use Rattle.session_driver.specs.Lines.{Asked, after_line, after_lines, IsValidDoing}
 use Rattle.session_driver.specs.Progress.{Progress, stays, and_then}
 use Rattle.store_calls.specs.StoreCalls.{store_meaning, IsValidStoreCall}
 use Rattle.xtc.specs.ScriptLine.{Line, nothing, bad, asked, line_of}
@@ -32,6 +32,10 @@ done_from st n (line ∷ lines) = and_then (done_by st (n + 1) (line_of line)) (
 -- what a script of these lines does
 abbrev pub script_of : State StoreCall → List (List ℕ) → Progress StoreCall
 script_of st lines = done_from st 0 lines
+
+-- what sessions that are asked these in turn do from a state
+abbrev pub after_asked : State StoreCall → List (Asked StoreCall) → Progress StoreCall
+after_asked st lines = after_lines store_meaning st lines
 
 -- the text of replies, each in its line
 abbrev pub replies_text : List LineReply → List ℕ

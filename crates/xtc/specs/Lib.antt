@@ -5,6 +5,7 @@ pub mod Durable
 pub mod StoreMachine
 pub mod Statuses
 pub mod TopCall
-pub mod Words
+pub mod Commands
+pub mod Documents
 -- words of private functions and of the proof
 pub mod inside

@@ -1,5 +1,5 @@
 -- What a run of the program leaves, by its status (docs/MANUAL.md, "Statuses").
-use Rattle.std.specs.Prelude.{◌≡◌, ◌≤◌, ◌⊎◌, ℕ, ◌+◌, List, [], ◌∷◌, ◌++◌, length, take, Option, Some}
+use Rattle.std.specs.Prelude.{◌≡◌, ◌<◌, ◌≤◌, ◌⊎◌, ℕ, ◌+◌, List, [], ◌∷◌, ◌++◌, length, take, false, IsTrue, Option, Some, None, Result, Ok, Err}
 use Rattle.outside_traits.specs.Bytes.{Took, TookPrefix}
 use Rattle.outside_traits.specs.DiskPairs.{Pair, PairsHave, PairsLeave}
 use Rattle.tree_model.specs.Tree.{Tree}
@@ -10,16 +10,20 @@ use Rattle.call_contract.specs.Books.{Book, IsBookFrom, IsSerial, commits, last}
 use Rattle.call_contract.specs.Deadlocks.{DeadlockIsTrue}
 use Rattle.call_contract.specs.Ends.{LeavesAllElse}
 use Rattle.call_contract.specs.SerialRuns.{serial}
-use Rattle.call_contract.specs.States.{start}
+use Rattle.call_contract.specs.States.{State, start}
 use Rattle.call_contract.specs.declared.events.Event.TheVariants.{Abort}
 use Rattle.call_contract.specs.declared.events.Noted.{Noted}
 use Rattle.command_lines.specs.declared.command.StoreCall.{StoreCall}
+use Rattle.jsonml_io.specs.declared.fragment_error.FragmentError.{FragmentError}
+use Rattle.session_driver.specs.Lines.{Asked}
 use Rattle.session_driver.specs.Progress.{Progress}
 use Rattle.session_driver.specs.Waiters.{AllStopped}
 use Rattle.store_calls.specs.StoreCalls.{store_meaning, IsValidStoreCall}
-use Rattle.xtc.specs.Book.{script_of, replies_text}
+use Rattle.xtc.specs.Book.{script_of, after_asked, replies_text}
+use Rattle.xtc.specs.Commands.{Command, run, put, get, reads_input}
+use Rattle.xtc.specs.Documents.{asks_of, end_of, text_of}
 use Rattle.xtc.specs.declared.status.Status.{Status}
-use Rattle.xtc.specs.declared.status.Status.TheVariants.{Done, Usage, LineTooLong, Damaged, ReadFault, DiskFault, NoMemory}
+use Rattle.xtc.specs.declared.status.Status.TheVariants.{Done, Usage, LineTooLong, Damaged, ReadFault, WriteFault, DiskFault, NoMemory, NotJsonMl, DocumentRefused}
 
 -- the greatest number that a commit may have
 abbrev pub tx_limit : ℕ
@@ -77,6 +81,8 @@ abbrev pub IsExact : Status → List ℕ → List (List ℕ) → ℕ → Type 0 
 IsExact Done read lines done all_written = (done ≡ length lines) × (lines ≡ lines_of read) × all_written
 IsExact (LineTooLong n) read lines done all_written = (n ≡ done + 1) × (first_long line_limit 1 (lines_of read) ≡ Some n) × all_written
 IsExact ReadFault read lines done all_written = (done ≡ length lines) × (lines ≡ ended [] read) × all_written × AllShort line_limit (lines_of read)
+IsExact (NotJsonMl why) read lines done all_written = ⊥
+IsExact (DocumentRefused why) read lines done all_written = ⊥
 IsExact status read lines done all_written = Unit {0}
 
 -- A script over a store that was opened as a tree and a number. Of the lines that it was to do it did so many, none too long;
@@ -106,6 +112,76 @@ pub record ScriptRan (t : Tree) (n limit : ℕ) (status : Status) (opening : Pai
   -- the pages aren't written
   pub pages : o.new.pages ≡ opening.pages
 
+-- ---- a command of one document that ran
+
+-- the most bytes of an input that is read as a whole
+abbrev pub whole_limit : ℕ
+whole_limit = 16777216
+
+-- after the commits of the first of what session 1 was asked, at least of so many
+pub record OpenAfterAsked (t : Tree) (n limit : ℕ) (least : ℕ) (asked : List (Asked StoreCall)) (journal pages : List ℕ) : Type 0 where
+  pub count : ℕ
+  pub enough : least ≤ count
+  pub within : count ≤ length asked
+  pub opens : OpenAfter t n (after_asked (start t n limit) (take count asked)).book journal pages
+
+-- these are the first of what a command asks
+abbrev pub AreFirst : List (Asked StoreCall) → Result (List (Asked StoreCall)) FragmentError → Type 0
+AreFirst asked (Ok asks) = (rest : List (Asked StoreCall)) × (asked ++ rest ≡ asks)
+AreFirst asked (Err why) = asked ≡ []
+
+-- what a status says of the input, and of what was asked from a state on; where nothing fails it is `end_of`
+abbrev pub IsDocumentEnd : Command → State StoreCall → List ℕ → Status → List (Asked StoreCall) → Type 0
+IsDocumentEnd c st read Done asked = (asks_of c st read ≡ Ok asked) × (end_of st (Ok asked) ≡ Done)
+IsDocumentEnd c st read WriteFault asked = (asks_of c st read ≡ Ok asked) × (end_of st (Ok asked) ≡ Done)
+IsDocumentEnd c st read (DocumentRefused why) asked = end_of st (asks_of c st read) ≡ DocumentRefused why
+IsDocumentEnd c st read (NotJsonMl why) asked = asks_of c st read ≡ Err why
+IsDocumentEnd c st read (LineTooLong line) asked = (line ≡ 0) × (asked ≡ [])
+IsDocumentEnd c st read ReadFault asked = IsTrue (reads_input (Some c)) × (asked ≡ [])
+IsDocumentEnd c st read DiskFault asked = Unit {0}
+IsDocumentEnd c st read NoMemory asked = Unit {0}
+IsDocumentEnd c st read Usage asked = ⊥
+IsDocumentEnd c st read (Damaged place) asked = ⊥
+
+-- so many bytes were read: more than an input may have at that status alone
+abbrev pub IsWithin : Status → ℕ → Type 0
+IsWithin (LineTooLong line) count = whole_limit < count
+IsWithin NoMemory count = Unit {0}
+IsWithin status count = count ≤ whole_limit
+
+-- the text is written at the end, and nothing at any other status but a write fault
+abbrev pub WroteWhole : Status → Option (List ℕ) → Option (List ℕ) → List ℕ → Type 0
+WroteWhole Done before now text = Took before now text
+WroteWhole WriteFault before now text = TookPrefix before now text
+WroteWhole status before now text = now ≡ before
+
+-- `put` or `get` over a store that was opened as a tree and a number. `asked` is what session 1 was asked in turn; `answered` of these were answered,
+-- all but the last one at most, within whose commit the command stopped. The book of all is sound,
+-- and the files, now and as a crash leaves them at any moment, stand for a prefix of its commits with every one that was answered.
+pub record DocumentRan (t : Tree) (n limit : ℕ) (c : Command) (status : Status) (opening : Pair) (o : Outcome) : Type 0 where
+  pub asked : List (Asked StoreCall)
+  pub first : AreFirst asked (asks_of c (start t n limit) o.read)
+  pub answered : ℕ
+  pub all_but : length asked ≤ answered + slack status
+  pub sound : IsSound t n limit (after_asked (start t n limit) asked)
+  pub end : IsDocumentEnd c (start t n limit) o.read status asked
+  pub short : IsWithin status (length o.read)
+  pub unread : reads_input (Some c) ≡ false → o.read ≡ []
+  pub wrote : WroteWhole status o.before o.now (text_of c (after_asked (start t n limit) asked).lines)
+  -- a crash at any moment since the opening, a crash now, and the files as they read
+  pub any_moment : PairsLeave (OpenAfterAsked t n limit 0 asked) opening o.new
+  pub left : PairsHave (OpenAfterAsked t n limit answered asked) o.new
+  pub reads : OpenAfterAsked t n limit answered asked o.new.journal.now.reads o.new.pages.now.reads
+  -- the pages aren't written
+  pub pages : o.new.pages ≡ opening.pages
+
+-- a command that ran
+abbrev pub CommandRan : Tree → ℕ → ℕ → Option Command → Status → Pair → Outcome → Type 0
+CommandRan t n limit (Some run) status opening o = ScriptRan t n limit status opening o
+CommandRan t n limit (Some (put name)) status opening o = DocumentRan t n limit (put name) status opening o
+CommandRan t n limit (Some (get name)) status opening o = DocumentRan t n limit (get name) status opening o
+CommandRan t n limit None status opening o = ⊥
+
 -- ---- by the status
 
 -- the store wasn't opened: nothing was read or written, and a crash leaves what stands for what such files stood for at the start, now and at each moment
@@ -115,30 +191,55 @@ pub record UnopenedStoreLeaves (o : Outcome) : Type 0 where
   pub any_moment : LeaveWhatStood o.old o.new
   pub left : PairsHave (StoodFor o.old) o.new
 
--- the store was opened, and its script ran
-pub record OpenedStoreLeaves (limit : ℕ) (status : Status) (o : Outcome) : Type 0 where
+-- the store was opened, and the command ran
+pub record OpenedStoreLeaves (limit : ℕ) (command : Option Command) (status : Status) (o : Outcome) : Type 0 where
   pub tree : Tree
   pub number : ℕ
   pub stood : StandFor o.old.journal.now.reads o.old.pages.now.reads tree number
   pub opening : Pair
   pub until_open : LeaveWhatStood o.old opening
-  pub ran : ScriptRan tree number limit status opening o
+  pub ran : CommandRan tree number limit command status opening o
 
-abbrev pub Leaves : ℕ → Status → Outcome → Type 0
-Leaves limit Usage o = (o.read ≡ []) × (o.now ≡ o.before) × (o.new ≡ o.old)
-Leaves limit (Damaged place) o = UnopenedStoreLeaves o
-Leaves limit DiskFault o = UnopenedStoreLeaves o ⊎ OpenedStoreLeaves limit DiskFault o
-Leaves limit NoMemory o = UnopenedStoreLeaves o ⊎ OpenedStoreLeaves limit NoMemory o
-Leaves limit status o = OpenedStoreLeaves limit status o
+-- what the words' command leaves
+abbrev pub Leaves : ℕ → Option Command → Status → Outcome → Type 0
+Leaves limit command Usage o = (o.read ≡ []) × (o.now ≡ o.before) × (o.new ≡ o.old)
+Leaves limit command (Damaged place) o = UnopenedStoreLeaves o
+Leaves limit command DiskFault o = UnopenedStoreLeaves o ⊎ OpenedStoreLeaves limit command DiskFault o
+Leaves limit command NoMemory o = UnopenedStoreLeaves o ⊎ OpenedStoreLeaves limit command NoMemory o
+Leaves limit command status o = OpenedStoreLeaves limit command status o
 
--- so it is where no line is taken
-abbrev pub IsSilent : Status → Type 0 → Type 0
-IsSilent Usage P = P
-IsSilent (Damaged place) P = P
-IsSilent status P = Unit {0}
+-- so it is where nothing is read
+abbrev pub IsUnread : Status → Type 0 → Type 0
+IsUnread Usage P = P
+IsUnread (Damaged place) P = P
+IsUnread status P = Unit {0}
+
+-- so it is in a command of one document
+abbrev pub OfDocument : Option Command → Type 0 → Type 0
+OfDocument (Some (put name)) P = P
+OfDocument (Some (get name)) P = P
+OfDocument command P = Unit {0}
+
+-- so it is where nothing is written
+abbrev pub IsSilent : Option Command → Status → Type 0 → Type 0
+IsSilent command Usage P = P
+IsSilent command (Damaged place) P = P
+IsSilent command (NotJsonMl why) P = P
+IsSilent command (DocumentRefused why) P = P
+IsSilent command (LineTooLong line) P = OfDocument command P
+IsSilent command ReadFault P = OfDocument command P
+IsSilent command status P = Unit {0}
 
 -- the statuses with which a script ends
 abbrev pub IsOfRun : Status → Type 0
 IsOfRun Usage = ⊥
 IsOfRun (Damaged place) = ⊥
+IsOfRun (NotJsonMl why) = ⊥
+IsOfRun (DocumentRefused why) = ⊥
 IsOfRun status = Unit {0}
+
+-- the statuses with which a command ends over a store that was opened
+abbrev pub IsOfOpened : Status → Type 0
+IsOfOpened Usage = ⊥
+IsOfOpened (Damaged place) = ⊥
+IsOfOpened status = Unit {0}

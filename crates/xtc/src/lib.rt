@@ -4,12 +4,14 @@
 //! The program over it opens the real streams and files, prints the status and ends with its number.
 #![tactic(auto)]
 
+mod asking;
+mod command;
+mod document;
 mod halt;
 mod line;
 mod status;
 mod store;
 mod top_call;
-mod words;
 
-pub use status::Status;
+pub use status::{Reason, Status};
 pub use top_call::{Finish, xtc};

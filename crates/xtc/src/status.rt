@@ -1,20 +1,24 @@
 // The statuses that the program ends with, with their numbers and texts.
 ghost use Rattle.std.specs.Prelude.{◌≡◌};
-ghost use Rattle.xtc.specs.Statuses.{status_number, status_of, status_of_end};
+ghost use Rattle.xtc.specs.Statuses.{status_number, status_of, status_of_end, status_of_gathering, status_of_fragment, status_of_halt};
 
+use crate::halt::Halt as StoreHalt;
+use dewey_labels::NoMemory as WantsMemory;
+use jsonml_io::FragmentError;
 use node_records::{File, OpenError, Place};
-use script_runs::{End, Halt};
+use script_runs::{End, GatherError, Halt};
 use std::fmt;
 use std::fmt::{Display, Formatter, Write};
+use tree_model::Refusal;
 
 /// How a run of the program ended.
-#[derive(Clone, Copy, Debug, PartialEq, Eq)]
+#[derive(Debug, Drop)]
 pub enum Status {
-    /// The input was read to its end and all was written.
+    /// The input, where the command has one, was read to its end, and all was written.
     Done,
     /// The words aren't a command.
     Usage,
-    /// A line, by its number from 1, has more bytes than a line may have.
+    /// A line, by its number from 1, has more bytes than a line may have; with number 0 the whole input of `put` has more than that may have.
     LineTooLong { line: u64 },
     /// The files hold no store; the place is that of the first rule that they break.
     Damaged(Place),
@@ -26,12 +30,25 @@ pub enum Status {
     DiskFault,
     /// There was no memory.
     NoMemory,
+    /// The input of `put` isn't an element in JsonML.
+    NotJsonMl(FragmentError),
+    /// The store refuses the document.
+    DocumentRefused(Reason),
+}
+
+/// Why the store refuses a document.
+#[derive(Clone, Copy, Debug, PartialEq, Eq)]
+pub enum Reason {
+    /// The tree refuses the call.
+    Call(Refusal),
+    /// No number is left for a transaction, or no room for the commit's body.
+    Limit,
 }
 
 impl Status {
     /// The number that the program ends with.
-    pub fn number(self) -> u8
-        ensures { result ≡ status_number self }
+    pub fn number(&self) -> u8
+        ensures { result ≡ status_number self.now }
     {
         match self {
             Status::Done => 0,
@@ -42,6 +59,8 @@ impl Status {
             Status::WriteFault => 6,
             Status::DiskFault => 7,
             Status::NoMemory => 8,
+            Status::NotJsonMl(_) => 9,
+            Status::DocumentRefused(_) => 10,
         }
     }
 }
@@ -75,6 +94,53 @@ impl From<End> for Status {
     }
 }
 
+/// A whole input that can't be had.
+impl From<GatherError> for Status {
+    ghost from_gives = { λ error status. status ≡ status_of_gathering error };
+
+    fn from(error: GatherError) -> Status {
+        match error {
+            GatherError::TooLong => Status::LineTooLong { line: 0 },
+            GatherError::ReadFault => Status::ReadFault,
+            GatherError::NoMemory => Status::NoMemory,
+        }
+    }
+}
+
+/// An input that isn't an element.
+impl From<FragmentError> for Status {
+    ghost from_gives = { λ error status. status ≡ status_of_fragment error };
+
+    fn from(error: FragmentError) -> Status {
+        match error {
+            FragmentError::NoMemory => Status::NoMemory,
+            error => Status::NotJsonMl(error),
+        }
+    }
+}
+
+/// A store that can't go on.
+impl From<StoreHalt> for Status {
+    ghost from_gives = { λ halt status. status ≡ status_of_halt halt };
+
+    fn from(halt: StoreHalt) -> Status {
+        match halt {
+            StoreHalt::DiskFault => Status::DiskFault,
+            StoreHalt::NoMemory => Status::NoMemory,
+        }
+    }
+}
+
+impl From<WantsMemory> for Status {
+    ghost use Rattle.xtc.specs.declared.status.Status.TheVariants.{NoMemory};
+
+    ghost from_gives = { λ _ status. status ≡ NoMemory };
+
+    fn from(_refused: WantsMemory) -> Status {
+        Status::NoMemory
+    }
+}
+
 /// What a status calls the file of a place.
 fn file_name(file: File) -> &'static str {
     match file {
@@ -98,6 +164,8 @@ impl Display for Status {
             Status::WriteFault => write!(f, "xtc: output failed"),
             Status::DiskFault => write!(f, "xtc: disk failed"),
             Status::NoMemory => write!(f, "xtc: no memory"),
+            Status::NotJsonMl(_) => write!(f, "xtc: not JsonML"),
+            Status::DocumentRefused(_) => write!(f, "xtc: refused"),
         }
     }
 }

@@ -120,7 +120,7 @@ fn ask<J: Disk>(
 }
 
 /// Does what a session is asked. A commit is made once it is durable.
-fn answer<J: Disk>(
+pub fn answer<J: Disk>(
     alloc: Global,
     core: &mut Core<StoreOp, SortedSeq>,
     journal: &mut Journal<J>,

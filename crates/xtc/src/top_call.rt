@@ -13,19 +13,20 @@ ghost use Rattle.recovery.specs.Opened.{contents_of_files};
 ghost use Rattle.recovery.specs.Openings.{FoundDamaged, TakesBehind};
 ghost use Rattle.script_runs.specs.Counts.{CountedWhere, DisksCountedWhere, ReadCountedWhere};
 ghost use Rattle.outside_kinds.specs.Bounds.{input_limit};
-ghost use Rattle.xtc.specs.Words.{are_run};
-ghost use Rattle.xtc.specs.TopCall.{Leaves, ScriptRan, IsSilent, IsOfRun, tx_limit};
+ghost use Rattle.xtc.specs.Commands.{command_of, meant, reads_input};
+ghost use Rattle.xtc.specs.TopCall.{Leaves, CommandRan, ScriptRan, IsSilent, IsUnread, IsOfRun, IsOfOpened, tx_limit};
 
+use crate::command::{Command, command_of};
+use crate::document::{run_get, run_put};
 use crate::status::Status;
 use crate::store::Store;
-use crate::words::are_run;
 use outside_traits::{Disk, Sink, Source};
 use recovery::{Opened, StoreFault, open_store};
 use std::alloc::Global;
 use tx_core::Core;
 
 /// The greatest number that a commit may have.
-const TX_LIMIT: u32 = 4_294_967_295;
+pub const TX_LIMIT: u32 = 4_294_967_295;
 
 /// How a run of the program ended, and the disks of its store.
 #[derive(Drop)]
@@ -35,8 +36,9 @@ pub struct Finish<J, P> {
     pub pages: P,
 }
 
-/// Does what the words after the program's name say: `run` opens the store on two disks, takes a script from the source and gives its replies to the sink.
-/// A commit is answered once it is durable. What is pending is written before each read, so whoever writes a line and waits has its reply.
+/// Does what the words after the program's name say, over the store on two disks: `run` takes a script from the source and gives its replies to the sink,
+/// `put NAME` makes a document of the whole input and gives its label, and `get NAME` gives a document. A commit is answered once it is durable.
+/// What is pending of a script is written before each read, so whoever writes a line and waits has its reply.
 pub fn xtc<S: Source, K: Sink, J: Disk + Send, P: Disk + Send>(
     alloc: Global,
     words: &Vec<String>,
@@ -47,7 +49,7 @@ pub fn xtc<S: Source, K: Sink, J: Disk + Send, P: Disk + Send>(
 ) -> Finish<J, P>
     // What is read and written, and what a crash leaves now and at any moment before, by the status.
     ensures leaves { (read : List ℕ) × Gave (S.left source.old) (S.left source.new) read × (S.given source.new ≡ S.given source.old + length read)
-        × (IsTrue J.is_known → IsTrue P.is_known → Leaves tx_limit result.status (record {
+        × (IsTrue J.is_known → IsTrue P.is_known → Leaves tx_limit (command_of words.now.items) result.status (record {
           read = read;
           asked = S.asked source.new - S.given source.old;
           left = S.left source.new;
@@ -56,16 +58,16 @@ pub fn xtc<S: Source, K: Sink, J: Disk + Send, P: Disk + Send>(
           old = pair_of (J.history journal) (P.history pages);
           new = pair_of (J.history result.journal) (P.history result.pages);
         })) }
-    ensures whole { result.status ≡ Status.Done → IfSome (S.left source.new) (λ rest. rest ≡ []) }
-    ensures silent { IsSilent result.status
-        ((K.held sink.new ≡ K.held sink.old) × (S.left source.new ≡ S.left source.old) × (S.given source.new ≡ S.given source.old)) }
+    ensures whole { IsTrue (reads_input (command_of words.now.items)) → result.status ≡ Status.Done → IfSome (S.left source.new) (λ rest. rest ≡ []) }
+    ensures silent { IsSilent (command_of words.now.items) result.status (K.held sink.new ≡ K.held sink.old) }
+    ensures unread { IsUnread result.status ((S.left source.new ≡ S.left source.old) × (S.given source.new ≡ S.given source.old)) }
 
     // Damaged files are synced, and as they were.
     ensures damaged { (place : Place) → result.status ≡ Status.Damaged place → IsTrue J.is_known → IsTrue P.is_known
         → FoundDamaged (pair_of (J.history journal) (P.history pages)) (pair_of (J.history result.journal) (P.history result.pages)) place }
 
     // The cause of each status, and no fault that was counted at any other.
-    ensures usage { ((result.status ≡ Status.Usage) ↔ (are_run words.now.items ≡ false))
+    ensures usage { ((result.status ≡ Status.Usage) ↔ (command_of words.now.items ≡ None))
         × (result.status ≡ Status.Usage → (result.journal ≡ journal) × (result.pages ≡ pages)) }
     ensures read { ReadCountedWhere (result.status ≡ Status.ReadFault) input_limit
         (S.faults source.old) (S.faults source.new) (S.given source.old) (S.given source.new) }
@@ -74,15 +76,15 @@ pub fn xtc<S: Source, K: Sink, J: Disk + Send, P: Disk + Send>(
         (record { journal = J.faults journal; pages = P.faults pages })
         (record { journal = J.faults result.journal; pages = P.faults result.pages }) }
 {
-    if !are_run(words) {
+    let Some(command) = command_of(words) else {
         return Finish {
             status: Status::Usage,
             journal,
             pages,
         };
-    }
+    };
     match open_store(alloc, journal, pages) {
-        Ok(store) => run_store(alloc, source, sink, store),
+        Ok(store) => run_command(alloc, command, source, sink, store),
         Err(
             StoreFault {
                 fault,
@@ -94,6 +96,46 @@ pub fn xtc<S: Source, K: Sink, J: Disk + Send, P: Disk + Send>(
             journal,
             pages,
         },
+    }
+}
+
+/// Runs a command over a store that was opened.
+fn run_command<S: Source, K: Sink, J: Disk, P: Disk>(
+    alloc: Global,
+    command: Command<'_>,
+    source: &mut S,
+    sink: &mut K,
+    store: Opened<J, P>,
+) -> Finish<J, P>
+    requires tree { IsStoredTree store.base }
+    requires next { TakesBehind store.journal store.number }
+    ensures ran { (read : List ℕ) × Gave (S.left source.old) (S.left source.new) read × (S.given source.new ≡ S.given source.old + length read)
+        × (IsTrue J.is_known → IsTrue P.is_known → IsAllSynced store.journal.history → (P.history store.pages).now ≡ all_synced []
+        → contents_of_files store.journal.history.now.reads [] ≡ Ok (record { entries = store.base; number = store.number })
+        → (t : Tree) → StandsFor (Some store.base) t → (old : Pair)
+        → CommandRan t store.number tx_limit (Some (meant command.entry)) result.status (pair_of store.journal.history (P.history store.pages)) (record {
+          read = read;
+          asked = S.asked source.new - S.given source.old;
+          left = S.left source.new;
+          before = K.held sink.old;
+          now = K.held sink.new;
+          old = old;
+          new = pair_of (J.history result.journal) (P.history result.pages);
+        })) }
+    ensures whole { IsTrue (reads_input (Some (meant command.entry))) → result.status ≡ Status.Done → IfSome (S.left source.new) (λ rest. rest ≡ []) }
+    ensures silent { IsSilent (Some (meant command.entry)) result.status (K.held sink.new ≡ K.held sink.old) }
+    ensures status { IsOfOpened result.status }
+    ensures read { ReadCountedWhere (result.status ≡ Status.ReadFault) input_limit
+        (S.faults source.old) (S.faults source.new) (S.given source.old) (S.given source.new) }
+    ensures write { CountedWhere (result.status ≡ Status.WriteFault) (K.faults sink.old) (K.faults sink.new) }
+    ensures disk { DisksCountedWhere (result.status ≡ Status.DiskFault)
+        (record { journal = store.journal.faults; pages = P.faults store.pages })
+        (record { journal = J.faults result.journal; pages = P.faults result.pages }) }
+{
+    match command {
+        Command::Run => run_store(alloc, source, sink, store),
+        Command::Put(name) => run_put(alloc, name, source, sink, store),
+        Command::Get(name) => run_get(alloc, name, sink, store),
     }
 }
 
@@ -143,7 +185,7 @@ fn run_store<S: Source, K: Sink, J: Disk, P: Disk>(
 }
 
 /// The end of a run with its disks, of each of which what a read gives is among what a crash may leave.
-fn with_disks<J: Disk, P: Disk>(status: Status, journal: J, pages: P) -> Finish<J, P>
+pub fn with_disks<J: Disk, P: Disk>(status: Status, journal: J, pages: P) -> Finish<J, P>
     ensures same { result ≡ record { status = status; journal = journal; pages = pages } }
     ensures journal { IsTrue J.is_known → IsImage (J.history journal).now (J.history journal).now.reads }
     ensures pages { IsTrue P.is_known → IsImage (P.history pages).now (P.history pages).now.reads }

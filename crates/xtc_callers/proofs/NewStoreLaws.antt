@@ -25,9 +25,10 @@ use Rattle.command_lines.specs.declared.command.StoreCall.{StoreCall}
 use Rattle.session_driver.specs.Progress.{Progress}
 use Rattle.store_calls.specs.StoreCalls.{store_meaning}
 use Rattle.xtc.specs.Book.{script_of, replies_text}
+use Rattle.xtc.specs.Commands.{Command, run}
 use Rattle.xtc.specs.TopCall.{Outcome, Leaves, OpenAfterLines, OpenedStoreLeaves, UnopenedStoreLeaves, ScriptRan, IsSilent, slack, tx_limit}
 use Rattle.xtc.specs.declared.status.Status.{Status}
-use Rattle.xtc.specs.declared.status.Status.TheVariants.{Done, Usage, LineTooLong, Damaged, ReadFault, WriteFault, DiskFault, NoMemory}
+use Rattle.xtc.specs.declared.status.Status.TheVariants.{Done, Usage, LineTooLong, Damaged, ReadFault, WriteFault, DiskFault, NoMemory, NotJsonMl, DocumentRefused}
 use Rattle.xtc_callers.specs.NewStores.{new_store, ScriptDone, ScriptBegun, IfAnswered, StandForCommits}
 
 abbrev number_read : Result Contents Place → ℕ
@@ -75,12 +76,12 @@ done_from_empty o opening script text read before now ran =
     }
 
 -- over two empty files
-pub script_done : StandFor [] [] empty_tree 0 → (o : Outcome) (status : Status) (script text : List ℕ) (left_before : Option (List ℕ))
-    → status ≡ Done → Leaves tx_limit status o → left_before ≡ Some script → Gave left_before o.left o.read → IfSome o.left (λ rest. rest ≡ [])
+pub script_done : StandFor [] [] empty_tree 0 → (o : Outcome) (command : Option Command) (status : Status) (script text : List ℕ) (left_before : Option (List ℕ))
+    → command ≡ Some run → status ≡ Done → Leaves tx_limit command status o → left_before ≡ Some script → Gave left_before o.left o.read → IfSome o.left (λ rest. rest ≡ [])
     → o.before ≡ Some [] → o.now ≡ Some text → o.old.journal.now.reads ≡ [] → o.old.pages.now.reads ≡ []
     → ScriptDone script text o.new.journal o.new.pages
-script_done empty o status script text left_before done leaves_so script_is gave_so whole before now journal pages =
-    let leaves : OpenedStoreLeaves tx_limit Done o = subst (λ (s : Status). Leaves tx_limit s o) done leaves_so in
+script_done empty o command status script text left_before named done leaves_so script_is gave_so whole before now journal pages =
+    let leaves : OpenedStoreLeaves tx_limit (Some run) Done o = subst (λ (x : Option Command × Status). Leaves tx_limit x.0 x.1 o) (λ i. (named i, done i)) leaves_so in
     let gave : Gave (Some script) o.left o.read = subst (λ (l : Option (List ℕ)). Gave l o.left o.read) script_is gave_so in
     let stood : StandFor [] [] leaves.tree leaves.number =
     subst (λ (x : List ℕ × List ℕ). StandFor x.0 x.1 leaves.tree leaves.number) (λ i. (journal i, pages i)) leaves.stood in
@@ -101,8 +102,8 @@ not_damaged empty old new place journal pages found =
     cc
 
 -- at Usage what holds of a silent run holds
-pub silent_at_usage : (status : Status) (P : Type 0) → status ≡ Usage → IsSilent status P → P
-silent_at_usage status P is silent = subst (λ (s : Status). IsSilent s P) is silent
+pub silent_at_usage : (command : Option Command) (status : Status) (P : Type 0) → status ≡ Usage → IsSilent command status P → P
+silent_at_usage command status P is silent = subst (λ (s : Status). IsSilent command s P) is silent
 
 -- the lines that ended in what was read are the first ones
 ended_first : (script read : List ℕ) (left : Option (List ℕ)) (lines : List (List ℕ)) → Gave (Some script) left read → lines ≡ ended [] read
@@ -153,6 +154,8 @@ module _ (o : Outcome) (text : List ℕ) (before : o.before ≡ Some []) (now : 
   unwritten WriteFault opening ran = let some = some_unwritten _ ran.wrote in (some.0, some.1, tt)
   unwritten DiskFault opening ran = let some = some_unwritten _ ran.wrote in (some.0, some.1, tt)
   unwritten NoMemory opening ran = let some = some_unwritten _ ran.wrote in (some.0, some.1, tt)
+  unwritten (NotJsonMl why) opening ran = absurd ran.exact
+  unwritten (DocumentRefused why) opening ran = absurd ran.exact
 
   -- the store was opened
   ran_begun : (status : Status) (opening : Pair) (script : List ℕ) → Gave (Some script) o.left o.read
@@ -207,7 +210,7 @@ module _ (o : Outcome) (text : List ℕ) (before : o.before ≡ Some []) (now : 
 -- over two empty files, whatever the end
 module _ (empty : StandFor [] [] empty_tree 0) (o : Outcome) (script text : List ℕ) (left_before : Option (List ℕ)) (script_is : left_before ≡ Some script) (gave : Gave left_before o.left o.read)
     (before : o.before ≡ Some []) (now : o.now ≡ Some text) (old_journal : o.old.journal.now ≡ all_synced []) (old_pages : o.old.pages.now ≡ all_synced []) where
-  opened_begun : (status : Status) → OpenedStoreLeaves tx_limit status o → ScriptBegun status script text o.new.journal o.new.pages
+  opened_begun : (status : Status) → OpenedStoreLeaves tx_limit (Some run) status o → ScriptBegun status script text o.new.journal o.new.pages
   opened_begun status leaves =
       let stood : StandFor [] [] leaves.tree leaves.number
       = subst (λ (x : DiskState × DiskState). StandFor x.0.reads x.1.reads leaves.tree leaves.number) (λ i. (old_journal i, old_pages i)) leaves.stood in
@@ -216,11 +219,11 @@ module _ (empty : StandFor [] [] empty_tree 0) (o : Outcome) (script text : List
       (subst (λ (x : Tree × ℕ). ScriptRan x.0 x.1 tx_limit status leaves.opening o) (λ i. (is.0 i, is.1 i)) leaves.ran)
 
   module _ (of_journal : IsImage o.new.journal.now o.new.journal.now.reads) (of_pages : IsImage o.new.pages.now o.new.pages.now.reads) where
-    either_begun : (status : Status) → IfAnswered status (nothing ≡ []) → UnopenedStoreLeaves o ⊎ OpenedStoreLeaves tx_limit status o → ScriptBegun status script text o.new.journal o.new.pages
+    either_begun : (status : Status) → IfAnswered status (nothing ≡ []) → UnopenedStoreLeaves o ⊎ OpenedStoreLeaves tx_limit (Some run) status o → ScriptBegun status script text o.new.journal o.new.pages
     either_begun status none (inl leaves) = unopened_begun o text before now empty status script none old_journal old_pages of_journal of_pages leaves
     either_begun status none (inr leaves) = opened_begun status leaves
 
-    pub script_begun : (status : Status) → (status ≡ Usage → ⊥) → ((place : Place) → status ≡ Damaged place → ⊥) → Leaves tx_limit status o
+    pub script_begun : (status : Status) → (status ≡ Usage → ⊥) → ((place : Place) → status ≡ Damaged place → ⊥) → Leaves tx_limit (Some run) status o
         → ScriptBegun status script text o.new.journal o.new.pages
     script_begun Usage not_usage not_place leaves = absurd (not_usage refl)
     script_begun (Damaged place) not_usage not_place leaves = absurd (not_place place refl)
@@ -228,5 +231,7 @@ module _ (empty : StandFor [] [] empty_tree 0) (o : Outcome) (script text : List
     script_begun (LineTooLong n) not_usage not_place leaves = opened_begun (LineTooLong n) leaves
     script_begun ReadFault not_usage not_place leaves = opened_begun ReadFault leaves
     script_begun WriteFault not_usage not_place leaves = opened_begun WriteFault leaves
+    script_begun (NotJsonMl why) not_usage not_place leaves = opened_begun (NotJsonMl why) leaves
+    script_begun (DocumentRefused why) not_usage not_place leaves = opened_begun (DocumentRefused why) leaves
     script_begun DiskFault not_usage not_place leaves = either_begun DiskFault tt leaves
     script_begun NoMemory not_usage not_place leaves = either_begun NoMemory tt leaves

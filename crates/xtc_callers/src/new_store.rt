@@ -1,8 +1,8 @@
 // A caller of `xtc` over memory, and what it knows by the clauses: a script over the two empty files of a new store.
-ghost use Rattle.std.specs.Prelude.{◌≡◌, ◌≢◌, ◌↔◌, [], false};
+ghost use Rattle.std.specs.Prelude.{◌≡◌, ◌≢◌, ◌↔◌, [], None, Some};
 ghost use Rattle.node_records.specs.declared.open_error.Place.{Place};
 ghost use Rattle.outside_kinds.specs.MemoryDisks.{history_of, start};
-ghost use Rattle.xtc.specs.Words.{are_run};
+ghost use Rattle.xtc.specs.Commands.{command_of, run};
 ghost use Rattle.xtc_callers.specs.NewStores.{ScriptDone, ScriptBegun};
 
 use dewey_labels::List;
@@ -25,12 +25,12 @@ pub struct MemRun {
 /// At Done what the script's lines do to the sessions has the replies that were written and a book that is sound, whose transactions are serial,
 /// and the files stand for the tree after them, as they read and as a crash leaves them. At another status some first lines were done.
 pub fn run_new_store(alloc: Global, words: &Vec<String>, script: List<u8>) -> MemRun
-    ensures done { result.status ≡ Status.Done
+    ensures done { command_of words.now.items ≡ Some run → result.status ≡ Status.Done
         → ScriptDone script result.sink.held (history_of result.journal) (history_of result.pages) }
-    ensures begun { result.status ≢ Status.Usage
+    ensures begun { command_of words.now.items ≡ Some run → result.status ≢ Status.Usage
         → ScriptBegun result.status script result.sink.held (history_of result.journal) (history_of result.pages) }
     ensures not_damaged { (place : Place) → result.status ≢ Status.Damaged place }
-    ensures usage { (result.status ≡ Status.Usage) ↔ (are_run words.now.items ≡ false) }
+    ensures usage { (result.status ≡ Status.Usage) ↔ (command_of words.now.items ≡ None) }
     ensures untouched { result.status ≡ Status.Usage
         → (result.sink.held ≡ []) × (history_of result.journal ≡ start []) × (history_of result.pages ≡ start []) }
 {

@@ -42,7 +42,7 @@ pub fn run_process(rt: &HostRuntime) -> ExitCode {
 
 /// Tells the status on standard error. Its number tells it too, so a failed write here loses nothing.
 fn ended<R: Eprint>(rt: &R, status: Status) -> ExitCode {
-    if status != Status::Done {
+    if status.number() != 0 {
         let _ = eprintln!(rt; "{status}");
     }
     ExitCode::from(status.number())

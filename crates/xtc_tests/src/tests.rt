@@ -12,7 +12,19 @@ pub struct Outcome {
     pub status: Status,
     pub text: Vec<u8>,
     pub journal: MemDisk,
-    pages: MemDisk,
+    pub pages: MemDisk,
+}
+
+impl Outcome {
+    /// The status with all that it tells.
+    pub fn status_text(&self, alloc: Global) -> Result<String, AllocError> {
+        status_text(alloc, &self.status)
+    }
+}
+
+/// A status with all that it tells.
+pub fn status_text(alloc: Global, status: &Status) -> Result<String, AllocError> {
+    format!(in alloc; "{status:?}")
 }
 
 /// A file and the one call of its disk that fails, 0 where none does.
@@ -22,13 +34,13 @@ pub struct Stored<'a> {
     fails: u64,
 }
 
-/// A script: the most bytes that come and go at a time, and the one read and the one write that fail, 0 where none does.
+/// An input: the most bytes that come and go at a time, and the one read and the one write that fail, 0 where none does.
 #[derive(Clone, Copy)]
-struct Script<'a> {
-    bytes: &'a [u8],
-    piece: usize,
-    read: u64,
-    write: u64,
+pub struct Script<'a> {
+    pub bytes: &'a [u8],
+    pub piece: usize,
+    pub read: u64,
+    pub write: u64,
 }
 
 fn listed<T: Copy>(alloc: Global, items: &[T]) -> Result<List<T>, AllocError> {
@@ -43,7 +55,7 @@ fn disk(alloc: Global, stored: Stored<'_>) -> Result<MemDisk, AllocError> {
 }
 
 /// Runs the program with these words.
-fn run_words(
+pub fn run_words(
     alloc: Global,
     words: &str,
     script: Script<'_>,
@@ -51,7 +63,7 @@ fn run_words(
     pages: Stored<'_>,
 ) -> Result<Outcome, AllocError> {
     let mut list = Vec::new(alloc);
-    for word in words.split_ascii_whitespace() {
+    for word in words.split(' ') {
         list.push(String::from_str(alloc, word)?)?;
     }
     let mut source = InPieces {
@@ -93,7 +105,7 @@ pub fn run_on(alloc: Global, bytes: &[u8], journal: Stored<'_>) -> Result<Outcom
     run_words(alloc, "run", script, journal, EMPTY)
 }
 
-const EMPTY: Stored<'static> = Stored {
+pub const EMPTY: Stored<'static> = Stored {
     bytes: b"",
     fails: 0,
 };
@@ -130,7 +142,12 @@ fn each_piece_fault_and_write_leaves_its_prefix_of_the_text(rt: HostRuntime) -> 
             write,
         };
         let outcome = run_words(rt.alloc(), "run", script, EMPTY, EMPTY)?;
-        assert_eq!(rt; outcome.status, status, "read {read}, write {write}");
+        let shown = outcome.status_text(rt.alloc())?;
+        assert_eq!(rt;
+            shown,
+            status_text(rt.alloc(), &status)?,
+            "read {read}, write {write}"
+        );
         assert_eq!(rt;
             Some(outcome.text.as_slice()),
             TEXT.get(..written),
@@ -141,16 +158,19 @@ fn each_piece_fault_and_write_leaves_its_prefix_of_the_text(rt: HostRuntime) -> 
 }
 
 #[test]
-fn only_run_is_a_command_and_no_other_touches_a_disk(rt: HostRuntime) -> Result<(), Fail> {
+fn other_words_are_no_command_and_touch_no_disk(rt: HostRuntime) -> Result<(), Fail> {
     let script = Script {
         bytes: SCRIPT,
         piece: 100,
         read: 0,
         write: 0,
     };
-    for words in ["", "Run", "run x", "--help"] {
+    for words in [
+        "", "Run", "run x", "--help", "run ", " run", "put", "get", "Put x", "put x y", "get x y",
+        "put -", "put -x", "get --", "x put", "-- run",
+    ] {
         let outcome = run_words(rt.alloc(), words, script, EMPTY, EMPTY)?;
-        assert_eq!(rt; outcome.status, Status::Usage, "{words}");
+        assert_eq!(rt; outcome.status.number(), 2, "{words}");
         assert_eq!(rt; outcome.text.len(), 0, "{words}");
         assert_eq!(rt;
             (outcome.journal.calls(), outcome.pages.calls()),
@@ -162,10 +182,10 @@ fn only_run_is_a_command_and_no_other_touches_a_disk(rt: HostRuntime) -> Result<
 }
 
 /// A journal without commits.
-const NEW: &[u8] = b"\x01XTCJRN1\x00";
+pub const NEW: &[u8] = b"\x01XTCJRN1\x00";
 
 /// The journal of a store whose one commit creates the document x with the element a, as docs/FILE_FORMAT.md has it byte by byte.
-const SIXTY: &[u8] =
+pub const SIXTY: &[u8] =
     b"\x01XTCJRN1\x01\0\0\0\0\x01\0\0\0\x29\x01\x01\0x\0\0\0\0\x07\x041.1001\x01\x01\x83\x69\0\0\0\0\0\x01\x01\x01\x01\x83\x69\x83\x69\0\0\0\0\0\x02\x02a\0";
 
 /// The same behind a gate that was never opened.
@@ -173,11 +193,11 @@ const CLOSED: &[u8] =
     b"\x01XTCJRN1\x4d\0\0\0\0\x01\0\0\0\x29\x01\x01\0x\0\0\0\0\x07\x041.1001\x01\x01\x83\x69\0\0\0\0\0\x01\x01\x01\x01\x83\x69\x83\x69\0\0\0\0\0\x02\x02a\0";
 
 /// The sixty bytes, and behind them a commit without changes, with number 2.
-const MORE: &[u8] =
+pub const MORE: &[u8] =
     b"\x01XTCJRN1\x01\0\0\0\0\x01\0\0\0\x29\x01\x01\0x\0\0\0\0\x07\x041.1001\x01\x01\x83\x69\0\0\0\0\0\x01\x01\x01\x01\x83\x69\x83\x69\0\0\0\0\0\x02\x02a\x01\0\0\0\0\x02\0\0\0\0\0";
 
 /// A journal whose one commit puts the catalogue's entry of x and no document.
-const NO_DOCUMENT: &[u8] =
+pub const NO_DOCUMENT: &[u8] =
     b"\x01XTCJRN1\x01\0\0\0\0\x01\0\0\0\x10\x01\x01\0x\0\0\0\0\x07\x041.1001\0";
 
 /// Creates the document x and commits.
@@ -300,7 +320,10 @@ fn each_store_answers_its_script_and_has_its_bytes(rt: HostRuntime) -> Result<()
             write: 0,
         };
         let outcome = run_words(rt.alloc(), "run", script, journal, pages)?;
-        assert_eq!(rt; outcome.status, status);
+        assert_eq!(rt;
+            outcome.status_text(rt.alloc())?,
+            status_text(rt.alloc(), &status)?
+        );
         assert_eq!(rt; outcome.text.as_slice(), text, "{status}");
         assert_eq!(rt; outcome.journal.bytes(), now, "{status}");
         assert_eq!(rt; outcome.pages.bytes(), pages.bytes, "{status}");
@@ -364,7 +387,7 @@ fn a_stop_or_a_fault_in_a_commit_leaves_it_whole_or_not_at_all(
             "at call {call}"
         );
         let failed = run_on(alloc, THREE, file_of(NEW, call))?;
-        assert_eq!(rt; failed.status, Status::DiskFault, "at call {call}");
+        assert_eq!(rt; failed.status.number(), 7, "at call {call}");
         let after = failed.journal.calls().saturating_add(1);
         assert_eq!(rt;
             commits_after_stop(alloc, &failed.journal, after)?,

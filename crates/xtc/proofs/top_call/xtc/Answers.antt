@@ -1,4 +1,4 @@
-use Rattle.std.proofs.Common.{◌≡◌, ◌-◌, ◌∙◌, [], refl, sym, ap, subst, add-zero, Some, Ok}
+use Rattle.std.proofs.Common.{◌≡◌, ◌-◌, ◌∙◌, [], Option, refl, sym, ap, subst, add-zero, Some, Ok}
 use Rattle.outside_traits.specs.DiskPairs.{Pair, pair_of}
 use Rattle.outside_traits.specs.Disks.{all_synced}
 use Rattle.outside_traits.proofs.Laws.{gave_none}
@@ -7,8 +7,9 @@ use Rattle.recovery.specs.Trees.{StandFor}
 use Rattle.recovery.proofs.CommitLaws.{pages_empty}
 use Rattle.script_runs.specs.Counts.{Counts, DisksCountedWhere}
 use Rattle.xtc.specs.declared.status.Status.TheVariants.{DiskFault}
-use Rattle.xtc.specs.TopCall.{Outcome, Leaves, tx_limit}
-use Rattle.xtc.proofs.StatusLaws.{beside_none, unopened_leaves, run_not_silent, run_leaves, run_not_damaged, damaged_of, cause_of, no_fault}
+use Rattle.xtc.specs.Commands.{Command, command_of, meant, reads_input}
+use Rattle.xtc.specs.TopCall.{Outcome, Leaves, OpenedStoreLeaves, IsSilent, tx_limit}
+use Rattle.xtc.proofs.StatusLaws.{beside_none, unopened_leaves, unopened_silent, opened_leaves, opened_unread, opened_not_damaged, damaged_of, cause_of, no_fault}
 use Rattle.xtc.proofs.top_call.xtc.Goals as goal
 
 -- ---- the store wasn't opened
@@ -30,8 +31,13 @@ returns-in-Err-clause-leaves g c = (
         old = pair_of (g.J.Disk.history c.args.journal) (g.P.Disk.history c.args.pages);
         new = pair_of (g.J.Disk.history refused.journal) (g.P.Disk.history refused.pages);
       } in
-      subst (λ status. Leaves tx_limit status o) (sym c.from.ensures) (unopened_leaves tx_limit o refused.fault (record { read = refl; silent = refl; any_moment = (c.in-Err.ensures.any_moment kj kp).any_moment; left = (c.in-Err.ensures.any_moment kj kp).left })),
+      subst (λ status. Leaves tx_limit (command_of c.args.words.now.items) status o) (sym c.from.ensures) (unopened_leaves tx_limit (command_of c.args.words.now.items) o refused.fault (record { read = refl; silent = refl; any_moment = (c.in-Err.ensures.any_moment kj kp).any_moment; left = (c.in-Err.ensures.any_moment kj kp).left })),
 )
+
+pub returns-in-Err-clause-silent : goal.returns-in-Err-clause-silent
+returns-in-Err-clause-silent g c =
+    let held = g.K.Sink.held c.args.sink.now in
+    subst (λ status. IsSilent (command_of c.args.words.now.items) status (held ≡ held)) (sym c.from.ensures) (unopened_silent (command_of c.args.words.now.items) c.in-Err.field-0.fault (held ≡ held) refl)
 
 pub returns-in-Err-clause-damaged : goal.returns-in-Err-clause-damaged
 returns-in-Err-clause-damaged g c = λ place is. damaged_of _ _ c.in-Err.field-0.fault place c.in-Err.ensures.reason (sym c.from.ensures ∙ is)
@@ -40,7 +46,7 @@ returns-in-Err-clause-damaged g c = λ place is. damaged_of _ _ c.in-Err.field-0
 
 pub returns-in-Ok-clause-leaves : goal.returns-in-Ok-clause-leaves
 returns-in-Ok-clause-leaves g c =
-    let run = c.run_store.ensures.ran in (
+    let run = c.run_command.ensures.ran in (
       run.0,
       run.1,
       run.2,
@@ -48,21 +54,46 @@ returns-in-Ok-clause-leaves g c =
           let store = c.in-Ok.store in
           let stored = c.in-Ok.ensures.tree in
           let t = stored.tree in
+          let status = c.run_command.result.status in
           let old : Pair = pair_of (g.J.Disk.history c.args.journal) (g.P.Disk.history c.args.pages) in
           let opening : Pair = pair_of store.journal.history (g.P.Disk.history store.pages) in
           let opens = c.in-Ok.ensures.opens kj kp in
           let stand : StandFor old.journal.now.reads old.pages.now.reads t store.number = record { is_valid_tree = stored.is_valid_tree; opens = opens.stood ∙ ap (λ es. Ok (record { entries = es; number = store.number })) (sym stored.map) } in
           let is : StandsFor (Some store.base) t = record { valid = stored.is_valid_tree; map = ap Some (sym stored.map) } in
           let none : opening.pages.now ≡ all_synced [] = c.in-Ok.ensures.synced.pages kp ∙ ap all_synced (pages_empty _ _ _ opens.stood) in
-          run_leaves tx_limit c.run_store.result.status _ c.run_store.ensures.status
-          (record { tree = t; number = store.number; stood = stand; opening = opening; until_open = c.in-Ok.ensures.any_moment kj kp; ran = run.3 kj kp (c.in-Ok.ensures.synced.journal kj).synced none (beside_none _ _ _ opens.stands) t is old }),
+          let o : Outcome = record {
+            read = run.0;
+            asked = g.S.Source.asked c.run_command.new.source - g.S.Source.given c.args.source.now;
+            left = g.S.Source.left c.run_command.new.source;
+            before = g.K.Sink.held c.args.sink.now;
+            now = g.K.Sink.held c.run_command.new.sink;
+            old = old;
+            new = pair_of (g.J.Disk.history c.run_command.result.journal) (g.P.Disk.history c.run_command.result.pages);
+          } in
+          let leaves : OpenedStoreLeaves tx_limit (Some (meant c.in-Some.command)) status o = record {
+            tree = t;
+            number = store.number;
+            stood = stand;
+            opening = opening;
+            until_open = c.in-Ok.ensures.any_moment kj kp;
+            ran = run.3 kj kp (c.in-Ok.ensures.synced.journal kj).synced none (beside_none _ _ _ opens.stands) t is old;
+          } in
+          opened_leaves tx_limit (command_of c.args.words.now.items) status o c.run_command.ensures.status
+          (subst (λ (command : Option Command). OpenedStoreLeaves tx_limit command status o) c.in-Some.ensures leaves),
     )
 
+pub returns-in-Ok-clause-whole : goal.returns-in-Ok-clause-whole
+returns-in-Ok-clause-whole g c = λ reads. c.run_command.ensures.whole (ap reads_input c.in-Some.ensures ∙ reads)
+
 pub returns-in-Ok-clause-silent : goal.returns-in-Ok-clause-silent
-returns-in-Ok-clause-silent g c = run_not_silent c.run_store.result.status _ c.run_store.ensures.status
+returns-in-Ok-clause-silent g c =
+    subst (λ (command : Option Command). IsSilent command c.run_command.result.status (g.K.Sink.held c.run_command.new.sink ≡ g.K.Sink.held c.args.sink.now)) c.in-Some.ensures c.run_command.ensures.silent
+
+pub returns-in-Ok-clause-unread : goal.returns-in-Ok-clause-unread
+returns-in-Ok-clause-unread g c = opened_unread c.run_command.result.status _ c.run_command.ensures.status
 
 pub returns-in-Ok-clause-damaged : goal.returns-in-Ok-clause-damaged
-returns-in-Ok-clause-damaged g c = λ place is. absurd (run_not_damaged c.run_store.result.status place c.run_store.ensures.status is)
+returns-in-Ok-clause-damaged g c = λ place is. absurd (opened_not_damaged c.run_command.result.status place c.run_command.ensures.status is)
 
 -- ---- the counts of faults
 
@@ -77,9 +108,9 @@ returns-in-Err-clause-disk g c =
 
 pub returns-in-Ok-clause-disk : goal.returns-in-Ok-clause-disk
 returns-in-Ok-clause-disk g c =
-    let run = c.run_store.ensures.disk in
+    let run = c.run_command.ensures.disk in
     let opened = c.in-Ok.ensures.counts in
     let before : Counts = record { journal = g.J.Disk.faults c.args.journal; pages = g.P.Disk.faults c.args.pages } in
     let opening : Counts = record { journal = c.in-Ok.store.journal.faults; pages = g.P.Disk.faults c.in-Ok.store.pages } in
     let same : opening ≡ before = λ i. record { journal = opened.0 i; pages = opened.1 i } in
-    subst (λ (counts : Counts). DisksCountedWhere (c.run_store.result.status ≡ DiskFault) counts (record { journal = g.J.Disk.faults c.run_store.result.journal; pages = g.P.Disk.faults c.run_store.result.pages })) same run
+    subst (λ (counts : Counts). DisksCountedWhere (c.run_command.result.status ≡ DiskFault) counts (record { journal = g.J.Disk.faults c.run_command.result.journal; pages = g.P.Disk.faults c.run_command.result.pages })) same run

@@ -1,9 +1,11 @@
-use Rattle.std.proofs.Common.{◌≡◌, [], Some, refl, ap, ◌∙◌}
+use Rattle.std.proofs.Common.{◌≡◌, [], Option, Some, refl, ap, subst, ◌∙◌}
 use Rattle.std.proofs.lemmas.Option.{same_Some}
 use Rattle.outside_traits.specs.Moments.{History}
 use Rattle.node_records.specs.declared.open_error.Place.{Place}
 use Rattle.outside_kinds.specs.Memory.{SinkInMemory, SourceInMemory}
 use Rattle.outside_kinds.specs.MemoryDisks.{history_of, start}
+use Rattle.xtc.specs.Commands.{Command, reads_input}
+use Rattle.xtc.specs.TopCall.{Leaves, tx_limit}
 use Rattle.xtc.specs.declared.status.Status.TheVariants.{Damaged}
 use Rattle.xtc_callers.proofs.NewStoreLaws.{script_done, script_begun, not_damaged, silent_at_usage}
 use Rattle.xtc_callers.proofs.new_store.run_new_store.Goals as goal
@@ -19,17 +21,17 @@ returns c =
     let not_place : (place : Place) → c.xtc-status.result.status ≡ Damaged place → ⊥
     = λ place is. not_damaged empty _ _ place (ap (λ (h : History). h.now) journal_is) (ap (λ (h : History). h.now) pages_is) (c.xtc-status.ensures.damaged place is refl refl) in
     record {
-      done = λ done.
-          script_done empty _ _ c.args.script _ _ done (run.3 refl refl) script_is run.1 (c.xtc-status.ensures.whole done) held_is refl
+      done = λ named done.
+          script_done empty _ _ _ c.args.script _ _ named done (run.3 refl refl) script_is run.1 (c.xtc-status.ensures.whole (ap reads_input named) done) held_is refl
           (ap (λ (h : History). h.now.reads) journal_is) (ap (λ (h : History). h.now.reads) pages_is);
-      begun = λ not_usage.
+      begun = λ named not_usage.
           script_begun empty _ c.args.script _ _ script_is run.1 held_is refl (ap (λ (h : History). h.now) journal_is) (ap (λ (h : History). h.now) pages_is)
-          c.faults.ensures.reads_an_image c.faults-2.ensures.reads_an_image c.xtc-status.result.status not_usage not_place (run.3 refl refl);
+          c.faults.ensures.reads_an_image c.faults-2.ensures.reads_an_image c.xtc-status.result.status not_usage not_place (subst (λ (command : Option Command). Leaves tx_limit command c.xtc-status.result.status _) named (run.3 refl refl));
       not_damaged = not_place;
       usage = c.xtc-status.ensures.usage.0;
       untouched = λ is.
           let files = c.xtc-status.ensures.usage.1 is in (
-            same_Some _ _ ((silent_at_usage _ _ is c.xtc-status.ensures.silent).0 ∙ held_is),
+            same_Some _ _ (silent_at_usage _ _ _ is c.xtc-status.ensures.silent ∙ held_is),
             ap history_of files.0 ∙ journal_is,
             ap history_of files.1 ∙ pages_is,
           );

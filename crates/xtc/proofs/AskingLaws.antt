@@ -1,0 +1,261 @@
+-- What asking session 1 in turn leaves of the core and the journal of a store: step by step, and one list behind another.
+use Rattle.std.proofs.Common.{◌==◌, false, drop, slice_index_or, ◌≡◌, ℕ, Bool, List, [], ◌∷◌, ◌++◌, length, inl, inr, refl, sym, ap, subst, ◌∙◌, append-nil, arith}
+use Rattle.std.specs.Prelude.{None, Some, Result, Ok, Err}
+use Rattle.std.specs.Result.{IsErrAnd}
+use Rattle.std.proofs.lemmas.List.{append_assoc}
+use Rattle.outside_traits.specs.CrashImages.{IsImage}
+use Rattle.outside_traits.specs.Disks.{DiskState}
+use Rattle.outside_traits.specs.Moments.{History, LeavesOnly}
+use Rattle.outside_traits.proofs.ImageLaws.{image-all_synced}
+use Rattle.outside_traits.proofs.MomentLaws.{started, joined, weaker, since_itself, image_since, leaves_all}
+use Rattle.tree_model.specs.Entries.{Entries}
+use Rattle.recovery.specs.Opened.{contents_of_files}
+use Rattle.call_contract.specs.States.{State}
+use Rattle.command_lines.specs.declared.command.StoreCall.{StoreCall}
+use Rattle.command_lines.specs.declared.line_reply.LineReply.{LineReply}
+use Rattle.session_driver.specs.Lines.{Asked, IsValidDoing}
+use Rattle.session_driver.specs.declared.doing.Doing.{Doing}
+use Rattle.store_calls.specs.StoreCalls.{IsValidStoreCall}
+use Rattle.tx_core.specs.Cores.{CoreView}
+use Rattle.xtc.specs.Documents.{asks, reason_in}
+use Rattle.xtc.specs.Durable.{HoldState}
+use Rattle.xtc.specs.StoreMachine.{Stands}
+use Rattle.xtc.specs.declared.halt.Halt.{Halt}
+use Rattle.xtc.specs.declared.halt.Halt.TheVariants as halt
+use Rattle.xtc.specs.declared.status.Reason.{Reason}
+use Rattle.xtc.specs.declared.status.Status.{Status}
+use Rattle.xtc.specs.declared.status.Status.TheVariants.{Done, Usage, LineTooLong, Damaged, ReadFault, WriteFault, DiskFault, NoMemory, NotJsonMl, DocumentRefused}
+use Rattle.xtc.specs.Statuses.{status_of_halt}
+use Rattle.xtc.specs.inside.Asking.{AreValidAsks, after, said, HoldsFirst, LeavesFirst, AllAnswered, Stopped, StopsBy, AskedInTurn, IsStop}
+use Rattle.xtc.specs.inside.Stores.{asked_from, HoldsAll, HoldsEither, LeadsTo, LeavesEither}
+use Rattle.xtc.proofs.AskedLaws.{after_on, said_on, reason_behind, valid_on}
+
+-- ---- lists
+
+-- a list that isn't empty is its first and the rest
+pub first_left : {A : Type 0} (xs : List A) (x : A) → (length xs == 0) ≡ false → x ≡ slice_index_or xs 0 x → xs ≡ x ∷ drop 1 xs
+first_left [] x some is = cc
+first_left (y ∷ ys) x some is = ap (λ z. z ∷ ys) (sym is)
+
+-- ---- the journal
+
+-- a crash of a journal that is all synced leaves what is committed
+pub image_holds : (s : State StoreCall) (journal : History) → HoldsAll s journal → (image : List ℕ) → IsImage journal.now image → HoldState s image []
+image_holds s journal settled image is =
+    ap (λ b. contents_of_files b []) (image-all_synced journal.now.reads image (subst (λ (d : DiskState). IsImage d image) settled.synced is)) ∙ settled.holds
+
+-- what calls leave at each moment, a crash now leaves
+now_left : (P : List ℕ → Type 0) (old new : History) → LeavesOnly P old new → ((image : List ℕ) → IsImage old.now image → P image) → (image : List ℕ) → IsImage new.now image → P image
+now_left P old new run at_start image is =
+    leaves_all P old new run at_start image (image_since old new image (record { crash = new; since = record { more = run.more; states = run.states }; before = since_itself new; is = is }))
+
+first_wider : (s : State StoreCall) (xs ys : List (Asked StoreCall)) (image : List ℕ) → HoldsFirst s xs image → HoldsFirst s (xs ++ ys) image
+first_wider s xs ys image h = record {
+  first = h.first;
+  rest = h.rest ++ ys;
+  parts = sym (append_assoc h.first h.rest ys) ∙ ap (λ (l : List (Asked StoreCall)). l ++ ys) h.parts;
+  holds = h.holds;
+}
+
+first_behind : (s : State StoreCall) (xs ys : List (Asked StoreCall)) (image : List ℕ) → HoldsFirst (after s xs) ys image → HoldsFirst s (xs ++ ys) image
+first_behind s xs ys image h = record {
+  first = xs ++ h.first;
+  rest = h.rest;
+  parts = append_assoc xs h.first h.rest ∙ ap (λ (l : List (Asked StoreCall)). xs ++ l) h.parts;
+  holds = subst (λ (u : State StoreCall). HoldState u image []) (sym (after_on s xs h.first)) h.holds;
+}
+
+-- ---- one list behind another
+
+module _ (is_known : Bool) (s : State StoreCall) (xs ys : List (Asked StoreCall)) (old mid : History) (core : CoreView StoreCall Entries) (before now : List LineReply)
+    (one : AllAnswered is_known s xs old core mid before now) where
+  moments_on : (new : History) (zs : List (Asked StoreCall)) → LeavesFirst is_known (after s xs) zs mid new → LeavesFirst is_known s (xs ++ zs) old new
+  moments_on new zs two known holds =
+      joined (HoldsFirst s (xs ++ zs)) old mid new
+      (weaker (HoldsFirst s xs) (HoldsFirst s (xs ++ zs)) old mid (first_wider s xs zs) (one.moments known holds))
+      (weaker (HoldsFirst (after s xs) zs) (HoldsFirst s (xs ++ zs)) mid new (first_behind s xs zs) (two known (one.leads.settled known holds)))
+
+  pub answered_on : (last : CoreView StoreCall Entries) (new : History) (later : List LineReply) → AllAnswered is_known (after s xs) ys mid last new now later → AllAnswered is_known s (xs ++ ys) old last new before later
+  answered_on last new later two =
+      let state : after s (xs ++ ys) ≡ after (after s xs) ys = after_on s xs ys in
+      let lines : said s (xs ++ ys) ≡ said s xs ++ said (after s xs) ys = said_on s xs ys in
+      record {
+        valid = valid_on xs ys one.valid two.valid;
+        leads = record {
+          stands = subst (Stands last) (sym state) two.leads.stands;
+          settled = λ known holds. subst (λ (u : State StoreCall). HoldsAll u new) (sym state) (two.leads.settled known (one.leads.settled known holds));
+        };
+        moments = moments_on new ys two.moments;
+        replies = two.replies ∙ ap (λ (l : List LineReply). l ++ said (after s xs) ys) one.replies ∙ append_assoc before (said s xs) (said (after s xs) ys) ∙ ap (λ (l : List LineReply). before ++ l) (sym lines);
+        unrefused = ap reason_in lines ∙ reason_behind (said s xs) (said (after s xs) ys) one.unrefused ∙ two.unrefused;
+      }
+
+  -- what stops behind these stops in the whole
+  stops_on : (status : Status) (lines : List LineReply) (more : List (Asked StoreCall)) → StopsBy status lines more → StopsBy status (said s xs ++ lines) more
+  stops_on (DocumentRefused why) lines more by = (reason_behind (said s xs) lines one.unrefused ∙ by.0, by.1)
+  stops_on DiskFault lines more by = tt
+  stops_on NoMemory lines more by = tt
+  stops_on Done lines more by = by
+  stops_on Usage lines more by = by
+  stops_on (LineTooLong line) lines more by = by
+  stops_on (Damaged place) lines more by = by
+  stops_on ReadFault lines more by = by
+  stops_on WriteFault lines more by = by
+  stops_on (NotJsonMl why) lines more by = by
+
+  pub stopped_on : (new : History) (status : Status) → Stopped is_known (after s xs) ys mid new status → Stopped is_known s (xs ++ ys) old new status
+  stopped_on new status two =
+      let whole : xs ++ (two.answered ++ two.more) ≡ (xs ++ two.answered) ++ two.more = sym (append_assoc xs two.answered two.more) in
+      record {
+        answered = xs ++ two.answered;
+        more = two.more;
+        rest = two.rest;
+        parts = append_assoc xs two.answered (two.more ++ two.rest) ∙ ap (λ (l : List (Asked StoreCall)). xs ++ l) two.parts;
+        one = two.one;
+        valid = subst AreValidAsks whole (valid_on xs (two.answered ++ two.more) one.valid two.valid);
+        moments = subst (λ (l : List (Asked StoreCall)). LeavesFirst is_known s l old new) whole (moments_on new (two.answered ++ two.more) two.moments);
+        left = λ known holds image is.
+            subst (λ (u : State StoreCall × State StoreCall). HoldsEither u.0 u.1 image)
+            (λ i. (sym (after_on s xs two.answered) i, (sym (after_on s xs (two.answered ++ two.more)) ∙ ap (after s) whole) i))
+            (two.left known (one.leads.settled known holds) image is);
+        by = subst (λ (l : List LineReply). StopsBy status l two.more) (sym (said_on s xs two.answered)) (stops_on status (said (after s xs) two.answered) two.more two.by);
+      }
+
+-- ---- nothing is asked
+
+pub none_asked : (is_known : Bool) (s : State StoreCall) (core : CoreView StoreCall Entries) (journal : History) (replies : List LineReply) → Stands core s → AllAnswered is_known s [] journal core journal replies replies
+none_asked is_known s core journal replies stands = record {
+  valid = tt;
+  leads = record { stands = stands; settled = λ known holds. holds };
+  moments = λ known holds. started (HoldsFirst s []) journal;
+  replies = sym (append-nil replies);
+  unrefused = refl;
+}
+
+pub not_begun : (is_known : Bool) (s : State StoreCall) (all : List (Asked StoreCall)) (old new : History) → new ≡ old → Stopped is_known s all old new NoMemory
+not_begun is_known s all old new same = subst (λ (h : History). Stopped is_known s all old h NoMemory) (sym same) (record {
+  answered = [];
+  more = [];
+  rest = all;
+  parts = refl;
+  one = omega arith;
+  valid = tt;
+  moments = λ known holds. started (HoldsFirst s []) old;
+  left = λ known holds image is. inl (image_holds s old holds image is);
+  by = tt;
+})
+
+-- more could have been asked
+pub stopped_wider : (is_known : Bool) (s : State StoreCall) (xs ys : List (Asked StoreCall)) (old new : History) (status : Status) → Stopped is_known s xs old new status → Stopped is_known s (xs ++ ys) old new status
+stopped_wider is_known s xs ys old new status h = record {
+  answered = h.answered;
+  more = h.more;
+  rest = h.rest ++ ys;
+  parts = ap (λ (l : List (Asked StoreCall)). h.answered ++ l) (sym (append_assoc h.more h.rest ys)) ∙ sym (append_assoc h.answered (h.more ++ h.rest) ys) ∙ ap (λ (l : List (Asked StoreCall)). l ++ ys) h.parts;
+  one = h.one;
+  valid = h.valid;
+  moments = h.moments;
+  left = h.left;
+  by = h.by;
+}
+
+-- all were answered, and then memory was wanting
+pub stopped_behind : (is_known : Bool) (s : State StoreCall) (all : List (Asked StoreCall)) (old new : History) (core : CoreView StoreCall Entries) (before now : List LineReply)
+    → AllAnswered is_known s all old core new before now → Stopped is_known s all old new NoMemory
+stopped_behind is_known s all old new core before now h =
+    let whole : all ++ [] ≡ all = append-nil all in
+    record {
+      answered = all;
+      more = [];
+      rest = [];
+      parts = whole;
+      one = omega arith;
+      valid = subst AreValidAsks (sym whole) h.valid;
+      moments = subst (λ (l : List (Asked StoreCall)). LeavesFirst is_known s l old new) (sym whole) h.moments;
+      left = λ known holds image is. inl (image_holds (after s all) new (h.leads.settled known holds) image is);
+      by = tt;
+    }
+
+-- an error that is answered for this status
+pub stopped_err : {T : Type 0} (r : Result T Status) (status : Status) (is_known : Bool) (s : State StoreCall) (all : List (Asked StoreCall)) (old : History) (core : CoreView StoreCall Entries) (new : History) (before now : List LineReply)
+    → IsErrAnd r (λ e. e ≡ status) → Stopped is_known s all old new status → AskedInTurn is_known s all old core new before now r
+stopped_err (Ok x) status is_known s all old core new before now none stopped = absurd none
+stopped_err (Err e) status is_known s all old core new before now is stopped = subst (Stopped is_known s all old new) (sym is) stopped
+
+-- what is asked behind what was answered
+pub asked_behind : {T : Type 0} (r : Result T Status) (is_known : Bool) (s : State StoreCall) (xs ys : List (Asked StoreCall)) (old mid new : History) (core last : CoreView StoreCall Entries) (before now later : List LineReply)
+    → AllAnswered is_known s xs old core mid before now → AskedInTurn is_known (after s xs) ys mid last new now later r → AskedInTurn is_known s (xs ++ ys) old last new before later r
+asked_behind (Ok x) is_known s xs ys old mid new core last before now later one two = answered_on is_known s xs ys old mid core before now one last new later two
+asked_behind (Err e) is_known s xs ys old mid new core last before now later one two = stopped_on is_known s xs ys old mid core before now one new e two
+
+-- ---- one step
+
+module _ (is_known : Bool) (s : State StoreCall) (doing : Doing StoreCall) (valid : IsValidDoing IsValidStoreCall doing) (old new : History) where
+  abbrev one_asked : List (Asked StoreCall)
+  one_asked = asks doing ∷ []
+
+  either_first : (image : List ℕ) → HoldsEither s (asked_from s 1 doing).state image → HoldsFirst s one_asked image
+  either_first image (inl holds) = record { first = []; rest = one_asked; parts = refl; holds = holds }
+  either_first image (inr holds) = record { first = one_asked; rest = []; parts = refl; holds = holds }
+
+  step_moments : LeavesEither is_known old new s (asked_from s 1 doing).state → LeavesFirst is_known s one_asked old new
+  step_moments leaves known holds = weaker (HoldsEither s (asked_from s 1 doing).state) (HoldsFirst s one_asked) old new either_first (leaves known holds)
+
+  step_lines : said s one_asked ≡ (asked_from s 1 doing).lines
+  step_lines = append-nil (asked_from s 1 doing).lines
+
+  pub step_answered : (core : CoreView StoreCall Entries) (before now : List LineReply) → LeadsTo is_known old core new s (asked_from s 1 doing).state → LeavesEither is_known old new s (asked_from s 1 doing).state
+      → now ≡ before ++ (asked_from s 1 doing).lines → reason_in before ≡ None → reason_in now ≡ None → AllAnswered is_known s one_asked old core new before now
+  step_answered core before now leads leaves replies unrefused still = record {
+    valid = (valid, tt);
+    leads = leads;
+    moments = step_moments leaves;
+    replies = replies ∙ ap (λ (l : List LineReply). before ++ l) (sym step_lines);
+    unrefused = ap reason_in step_lines ∙ sym (reason_behind before (asked_from s 1 doing).lines unrefused) ∙ ap reason_in (sym replies) ∙ still;
+  }
+
+  pub step_refused : (core : CoreView StoreCall Entries) (before now : List LineReply) (rest : List (Asked StoreCall)) (why : Reason) → LeadsTo is_known old core new s (asked_from s 1 doing).state → LeavesEither is_known old new s (asked_from s 1 doing).state
+      → now ≡ before ++ (asked_from s 1 doing).lines → reason_in before ≡ None → reason_in now ≡ Some why → Stopped is_known s (asks doing ∷ rest) old new (DocumentRefused why)
+  step_refused core before now rest why leads leaves replies unrefused refused = record {
+    answered = one_asked;
+    more = [];
+    rest = rest;
+    parts = refl;
+    one = omega arith;
+    valid = (valid, tt);
+    moments = step_moments leaves;
+    left = λ known holds image is. inl (image_holds (asked_from s 1 doing).state new (leads.settled known holds) image is);
+    by = (ap reason_in step_lines ∙ sym (reason_behind before (asked_from s 1 doing).lines unrefused) ∙ ap reason_in (sym replies) ∙ refused, refl);
+  }
+
+  halts : (h : Halt) (more : List (Asked StoreCall)) → StopsBy (status_of_halt h) (said s []) more
+  halts halt.DiskFault more = tt
+  halts halt.NoMemory more = tt
+
+  pub step_stopped : (rest : List (Asked StoreCall)) (h : Halt) → LeavesEither is_known old new s (asked_from s 1 doing).state → Stopped is_known s (asks doing ∷ rest) old new (status_of_halt h)
+  step_stopped rest h leaves = record {
+    answered = [];
+    more = one_asked;
+    rest = rest;
+    parts = refl;
+    one = omega arith;
+    valid = (valid, tt);
+    moments = step_moments leaves;
+    left = λ known holds. now_left (HoldsEither s (asked_from s 1 doing).state) old new (leaves known holds) (λ image is. inl (image_holds s old holds image is));
+    by = halts h one_asked;
+  }
+
+-- ---- statuses
+
+-- it stops by one of three
+pub stop_is : (status : Status) (lines : List LineReply) (more : List (Asked StoreCall)) → StopsBy status lines more → IsStop status
+stop_is (DocumentRefused why) lines more by = tt
+stop_is DiskFault lines more by = tt
+stop_is NoMemory lines more by = tt
+stop_is Done lines more by = by
+stop_is Usage lines more by = by
+stop_is (LineTooLong line) lines more by = by
+stop_is (Damaged place) lines more by = by
+stop_is ReadFault lines more by = by
+stop_is WriteFault lines more by = by
+stop_is (NotJsonMl why) lines more by = by

@@ -1,0 +1,331 @@
+-- A command of one document: what it leaves of the journal by its status, and of the whole store.
+use Rattle.std.proofs.Common.{◌≡◌, ◌≤◌, ℕ, ◌+◌, Bool, false, IsTrue, List, [], ◌++◌, length, take, inl, ⊎_elim, refl, sym, ap, subst, ◌∙◌, append-nil, add-zero, arith}
+use Rattle.std.specs.Prelude.{Option, None, Some, Result, Ok, Err, IfOk, IfErr}
+use Rattle.std.specs.Result.{IsErrAnd}
+use Rattle.std.proofs.lemmas.List.{append_assoc, length-append}
+use Rattle.std.proofs.lemmas.Option.{same_Some}
+use Rattle.std.proofs.Math.Seq.{take-append_seam}
+use Rattle.outside_traits.specs.Bytes.{Took, TookPrefix}
+use Rattle.outside_traits.specs.CrashImages.{IsImage}
+use Rattle.outside_traits.specs.DiskPairs.{PairsHave, pair_of}
+use Rattle.outside_traits.specs.Disks.{DiskState, all_synced}
+use Rattle.outside_traits.specs.Moments.{History, IsAllSynced}
+use Rattle.outside_traits.proofs.ImageLaws.{image-all_synced}
+use Rattle.outside_traits.proofs.MomentLaws.{started, weaker}
+use Rattle.outside_traits.proofs.PairLaws.{journal_phase}
+use Rattle.tree_model.specs.Entries.{Entries}
+use Rattle.tree_model.specs.Names.{Name}
+use Rattle.tree_model.specs.StoredTree.{IsStoredTree}
+use Rattle.tree_model.specs.Tree.{Tree, map_of}
+use Rattle.tree_model.specs.ValidTrees.{IsValidTree}
+use Rattle.node_seq.specs.Trees.{StandsFor}
+use Rattle.jsonml_io.specs.declared.fragment_error.FragmentError.{FragmentError}
+use Rattle.journal.specs.Groups.{is_next}
+use Rattle.journal.specs.Views.{JournalView}
+use Rattle.recovery.specs.Opened.{contents_of_files}
+use Rattle.recovery.specs.Openings.{TakesBehind}
+use Rattle.call_contract.specs.States.{State, start}
+use Rattle.command_lines.specs.declared.command.StoreCall.{StoreCall}
+use Rattle.command_lines.specs.declared.line_reply.LineReply.{LineReply}
+use Rattle.session_driver.specs.Lines.{Asked}
+use Rattle.tx_core.specs.Cores.{CoreView, next_number}
+use Rattle.xtc.specs.Book.{after_asked}
+use Rattle.xtc.specs.Commands.{Command, put, reads_input}
+use Rattle.xtc.specs.Documents.{asks_of, put_asks_of, end_by, end_of, reason_in, text_of}
+use Rattle.xtc.specs.Durable.{HoldState}
+use Rattle.xtc.specs.StoreMachine.{Stands}
+use Rattle.xtc.specs.TopCall.{AreFirst, DocumentRan, IsDocumentEnd, IsWithin, OpenAfterAsked, OpenAfter, Outcome, WroteWhole, slack, whole_limit}
+use Rattle.xtc.specs.declared.status.Status.{Status}
+use Rattle.xtc.specs.declared.status.Status.TheVariants.{Done, Usage, LineTooLong, Damaged, ReadFault, WriteFault, DiskFault, NoMemory, NotJsonMl, DocumentRefused}
+use Rattle.xtc.specs.inside.Asking.{AreValidAsks, after, said, HoldsFirst, LeavesFirst, AllAnswered, Stopped, StopsBy, AskedInTurn, DocumentWent, DocumentDone, HasText, IsReadElement, IsStop, IsUnwritten, IsWriteEnd}
+use Rattle.xtc.specs.inside.Stores.{HoldsAll, HoldsEither, MayBeAsked}
+use Rattle.xtc.proofs.AskedLaws.{said_on, reason_stays, valid_first, asked_sound, opens_after_asked}
+use Rattle.xtc.proofs.AskingLaws.{image_holds}
+
+-- ---- by the status
+
+none_first : (r : Result (List (Asked StoreCall)) FragmentError) → AreFirst [] r
+none_first (Ok asks) = (asks, refl)
+none_first (Err why) = refl
+
+module _ (is_known : Bool) (s : State StoreCall) (c : Command) (read : List ℕ) where
+  -- nothing was asked
+  pub nothing_asked : (old new : History) (status : Status) → new ≡ old → IsDocumentEnd c s read status [] → IsWithin status (length read) → DocumentWent is_known s c read old new status
+  nothing_asked old new status same end short = subst (λ (h : History). DocumentWent is_known s c read old h status) (sym same) (record {
+    answered = [];
+    more = [];
+    first = none_first (asks_of c s read);
+    few = omega arith;
+    valid = tt;
+    end = end;
+    short = short;
+    moments = λ known holds. started (HoldsFirst s []) old;
+    left = λ known holds image is. inl (image_holds s old holds image is);
+  })
+
+  module _ (all : List (Asked StoreCall)) (is : asks_of c s read ≡ Ok all) (short : length read ≤ whole_limit) (old new : History) where
+    few_by : (status : Status) (lines : List LineReply) (more : List (Asked StoreCall)) → StopsBy status lines more → length more ≤ 1 → length more ≤ slack status
+    few_by (DocumentRefused why) lines more by one = let none : length more ≡ 0 = ap length by.1 in omega (arith, none)
+    few_by DiskFault lines more by one = one
+    few_by NoMemory lines more by one = one
+    few_by Done lines more by one = absurd by
+    few_by Usage lines more by one = absurd by
+    few_by (LineTooLong line) lines more by one = absurd by
+    few_by (Damaged place) lines more by one = absurd by
+    few_by ReadFault lines more by one = absurd by
+    few_by WriteFault lines more by one = absurd by
+    few_by (NotJsonMl why) lines more by one = absurd by
+
+    end_is : (status : Status) (answered more rest : List (Asked StoreCall)) → answered ++ (more ++ rest) ≡ all → StopsBy status (said s answered) more → IsDocumentEnd c s read status (answered ++ more)
+    end_is (DocumentRefused why) answered more rest parts by =
+        ap (end_of s) is
+        ∙ ap (λ (l : List (Asked StoreCall)). end_by (reason_in (said s l))) (sym parts)
+        ∙ ap (λ (l : List LineReply). end_by (reason_in l)) (said_on s answered (more ++ rest))
+        ∙ ap end_by (reason_stays (said s answered) (said (after s answered) (more ++ rest)) why by.0)
+    end_is DiskFault answered more rest parts by = tt
+    end_is NoMemory answered more rest parts by = tt
+    end_is Done answered more rest parts by = absurd by
+    end_is Usage answered more rest parts by = absurd by
+    end_is (LineTooLong line) answered more rest parts by = absurd by
+    end_is (Damaged place) answered more rest parts by = absurd by
+    end_is ReadFault answered more rest parts by = absurd by
+    end_is WriteFault answered more rest parts by = absurd by
+    end_is (NotJsonMl why) answered more rest parts by = absurd by
+
+    within_by : (status : Status) (lines : List LineReply) (more : List (Asked StoreCall)) → StopsBy status lines more → IsWithin status (length read)
+    within_by (DocumentRefused why) lines more by = short
+    within_by DiskFault lines more by = short
+    within_by NoMemory lines more by = tt
+    within_by Done lines more by = absurd by
+    within_by Usage lines more by = absurd by
+    within_by (LineTooLong line) lines more by = absurd by
+    within_by (Damaged place) lines more by = absurd by
+    within_by ReadFault lines more by = absurd by
+    within_by WriteFault lines more by = absurd by
+    within_by (NotJsonMl why) lines more by = absurd by
+
+    -- session 1 stopped
+    pub document_stopped : (status : Status) → Stopped is_known s all old new status → DocumentWent is_known s c read old new status
+    document_stopped status h = record {
+      answered = h.answered;
+      more = h.more;
+      first = subst (AreFirst (h.answered ++ h.more)) (sym is) (h.rest, append_assoc h.answered h.more h.rest ∙ h.parts);
+      few = few_by status (said s h.answered) h.more h.by h.one;
+      valid = h.valid;
+      end = end_is status h.answered h.more h.rest h.parts h.by;
+      short = within_by status (said s h.answered) h.more h.by;
+      moments = h.moments;
+      left = h.left;
+    }
+
+    -- session 1 was answered to its end
+    pub document_answered : (core : CoreView StoreCall Entries) (now : List LineReply) (text : List ℕ) → AllAnswered is_known s all old core new [] now → text ≡ text_of c now → HasText is_known s c read old new text
+    document_answered core now text h shown =
+        let whole : all ++ [] ≡ all = append-nil all in
+        record {
+          went = record {
+            answered = all;
+            more = [];
+            first = subst (AreFirst (all ++ [])) (sym is) ([], append-nil (all ++ []) ∙ whole);
+            few = omega arith;
+            valid = subst AreValidAsks (sym whole) h.valid;
+            end = (is ∙ ap Ok (sym whole), ap (λ (l : List (Asked StoreCall)). end_by (reason_in (said s l))) whole ∙ ap end_by h.unrefused);
+            short = short;
+            moments = subst (λ (l : List (Asked StoreCall)). LeavesFirst is_known s l old new) (sym whole) h.moments;
+            left = λ known holds image is_image. inl (image_holds (after s all) new (h.leads.settled known holds) image is_image);
+          };
+          shown = shown ∙ ap (text_of c) (h.replies ∙ ap (said s) (sym whole));
+        }
+
+  -- where the text can't be written, it went as where it can
+  pub write_failed : (old new : History) → DocumentWent is_known s c read old new Done → DocumentWent is_known s c read old new WriteFault
+  write_failed old new h = record {
+    answered = h.answered;
+    more = h.more;
+    first = h.first;
+    few = h.few;
+    valid = h.valid;
+    end = h.end;
+    short = h.short;
+    moments = h.moments;
+    left = h.left;
+  }
+
+-- ---- the files
+
+module _ (t : Tree) (n limit : ℕ) (formed : IsValidTree t) where
+  abbrev s : State StoreCall
+  s = start t n limit
+
+  opens_first : (least : ℕ) (asked first rest : List (Asked StoreCall)) (journal pages : List ℕ) → AreValidAsks asked → first ++ rest ≡ asked → least ≤ length first → pages ≡ [] → HoldState (after s first) journal []
+      → OpenAfterAsked t n limit least asked journal pages
+  opens_first least asked first rest journal pages valid parts enough none holds =
+      let taken : take (length first) asked ≡ first = ap (take (length first)) (sym parts) ∙ take-append_seam first rest in
+      let front : AreValidAsks first = valid_first first rest (subst AreValidAsks (sym parts) valid) in
+      record {
+        count = length first;
+        enough = enough;
+        within = let sum : length asked ≡ length first + length rest = ap length (sym parts) ∙ length-append first rest in omega (arith, sum);
+        opens = subst (λ (l : List (Asked StoreCall)). OpenAfter t n (after_asked s l).book journal pages) (sym taken)
+            (opens_after_asked t n limit formed first front journal pages (subst (HoldState (after s first) journal) (sym none) holds));
+      }
+
+  no_pages : (pages : History) → pages.now ≡ all_synced [] → (image : List ℕ) → IsImage pages.now image → image ≡ []
+  no_pages pages empty image is = image-all_synced [] image (subst (λ (d : DiskState). IsImage d image) empty is)
+
+  -- a command over a store that was opened so, which wrote its text or nothing
+  pub document_ran : (is_known : Bool) (c : Command) (o : Outcome) (journal pages : History) (status : Status) → IsTrue is_known → HoldsAll s journal → pages.now ≡ all_synced []
+      → (went : DocumentWent is_known s c o.read journal o.new.journal status) → o.new.pages ≡ pages → IsImage o.new.journal.now o.new.journal.now.reads → IsImage o.new.pages.now o.new.pages.now.reads
+      → (reads_input (Some c) ≡ false → o.read ≡ []) → WroteWhole status o.before o.now (text_of c (said s (went.answered ++ went.more)))
+      → DocumentRan t n limit c status (pair_of journal pages) o
+  document_ran is_known c o journal pages status known settled empty went still of_journal of_pages unread wrote =
+      let asked : List (Asked StoreCall) = went.answered ++ went.more in
+      let empty_now : o.new.pages.now ≡ all_synced [] = ap (λ (h : History). h.now) still ∙ empty in
+      let Left : List ℕ → List ℕ → Type 0 = OpenAfterAsked t n limit (length went.answered) asked in
+      let either : (j p : List ℕ) → p ≡ [] → HoldsEither (after s went.answered) (after s asked) j → Left j p = λ j p none. ⊎_elim
+      (λ holds. opens_first (length went.answered) asked went.answered went.more j p went.valid refl (omega arith) none holds)
+      (λ holds. opens_first (length went.answered) asked asked [] j p went.valid (append-nil asked)
+      (let sum : length asked ≡ length went.answered + length went.more = length-append went.answered went.more in omega (arith, sum)) none holds) in
+      let left : PairsHave Left o.new = λ j p is_j is_p. either j p (no_pages o.new.pages empty_now p is_p) (went.left known settled j is_j) in
+      record {
+        asked = asked;
+        first = went.first;
+        answered = length went.answered;
+        all_but = let sum : length asked ≡ length went.answered + length went.more = length-append went.answered went.more in omega (arith, sum, went.few);
+        sound = asked_sound t n limit formed asked went.valid;
+        end = went.end;
+        short = went.short;
+        unread = unread;
+        wrote = wrote;
+        any_moment = journal_phase (OpenAfterAsked t n limit 0 asked) (pair_of journal pages) o.new (record {
+          leaves = weaker (HoldsFirst s asked) (λ j. (p : List ℕ) → IsImage pages.now p → OpenAfterAsked t n limit 0 asked j p) journal o.new.journal
+              (λ j h p is_p. opens_first 0 asked h.first h.rest j p went.valid h.parts (omega arith) (no_pages pages empty p is_p) h.holds) (went.moments known settled);
+          still = still;
+        });
+        left = left;
+        reads = left o.new.journal.now.reads o.new.pages.now.reads of_journal of_pages;
+        pages = still;
+      }
+
+  -- the journal of a store that was opened holds what is committed at the start
+  pub opening_holds : (journal : History) (base : Entries) → StandsFor (Some base) t → IsAllSynced journal → contents_of_files journal.now.reads [] ≡ Ok (record { entries = base; number = n }) → HoldsAll s journal
+  opening_holds journal base is synced opens = record {
+    synced = synced;
+    holds = opens ∙ ap (λ (es : Entries). Ok (record { entries = es; number = n })) (same_Some base (map_of t) is.map);
+  }
+
+-- ---- results
+
+-- an error that is answered for this status
+pub done_err : {T : Type 0} (r : Result T Status) (status : Status) (is_known : Bool) (s : State StoreCall) (c : Command) (read : List ℕ) (old new : History) (bytes : T → List ℕ)
+    → IsErrAnd r (λ e. e ≡ status) → DocumentWent is_known s c read old new status → DocumentDone is_known s c read old new bytes r
+done_err (Ok x) status is_known s c read old new bytes none went = absurd none
+done_err (Err e) status is_known s c read old new bytes is went = subst (DocumentWent is_known s c read old new) (sym is) went
+
+-- session 1 was asked all that the command asks, or stopped
+pub document_done : {T : Type 0} (r : Result T Status) (is_known : Bool) (s : State StoreCall) (c : Command) (read : List ℕ) (all : List (Asked StoreCall)) → asks_of c s read ≡ Ok all → length read ≤ whole_limit
+    → (old new : History) (core : CoreView StoreCall Entries) (now : List LineReply) (bytes : T → List ℕ) → AskedInTurn is_known s all old core new [] now r → IfOk r (λ text. bytes text ≡ text_of c now) → DocumentDone is_known s c read old new bytes r
+document_done (Ok text) is_known s c read all is short old new core now bytes asked shown = document_answered is_known s c read all is short old new core now (bytes text) asked shown
+document_done (Err status) is_known s c read all is short old new core now bytes asked shown = document_stopped is_known s c read all is short old new status asked
+
+-- why an input isn't had
+pub not_had : (name : Name) (s : State StoreCall) (read : List ℕ) (status : Status) → IsReadElement read (Err status) → IsDocumentEnd (put name) s read status [] × IsWithin status (length read)
+not_had name s read (NotJsonMl why) h = (ap (put_asks_of name) h.0, h.1)
+not_had name s read (LineTooLong line) h = ((h.0, refl), h.1)
+not_had name s read ReadFault h = ((refl, refl), h)
+not_had name s read NoMemory h = (tt, tt)
+not_had name s read Done h = absurd h
+not_had name s read Usage h = absurd h
+not_had name s read (Damaged place) h = absurd h
+not_had name s read WriteFault h = absurd h
+not_had name s read DiskFault h = absurd h
+not_had name s read (DocumentRefused why) h = absurd h
+
+-- ---- what is written
+
+unwritten_is : (status : Status) (before now : Option (List ℕ)) (text : List ℕ) → IsUnwritten status → now ≡ before → WroteWhole status before now text
+unwritten_is Done before now text is same = absurd is
+unwritten_is WriteFault before now text is same = absurd is
+unwritten_is Usage before now text is same = absurd is
+unwritten_is (Damaged place) before now text is same = absurd is
+unwritten_is (LineTooLong line) before now text is same = same
+unwritten_is ReadFault before now text is same = same
+unwritten_is DiskFault before now text is same = same
+unwritten_is NoMemory before now text is same = same
+unwritten_is (NotJsonMl why) before now text is same = same
+unwritten_is (DocumentRefused why) before now text is same = same
+
+-- a command that went, with what it wrote
+pub record WentAndWrote (is_known : Bool) (s : State StoreCall) (c : Command) (read : List ℕ) (old new : History) (status : Status) (before now : Option (List ℕ)) : Type 0 where
+  pub went : DocumentWent is_known s c read old new status
+  pub wrote : WroteWhole status before now (text_of c (said s (went.answered ++ went.more)))
+
+module _ {T : Type 0} (is_known : Bool) (s : State StoreCall) (c : Command) (read : List ℕ) (old new : History) (bytes : T → List ℕ) (before now : Option (List ℕ)) where
+  text_written : (status : Status) (text : List ℕ) → HasText is_known s c read old new text → IsWriteEnd status → WroteWhole status before now text → WentAndWrote is_known s c read old new status before now
+  unfolding write_failed
+  text_written Done text h is wrote = record { went = h.went; wrote = subst (Took before now) h.shown wrote }
+  text_written WriteFault text h is wrote = record { went = write_failed is_known s c read old new h.went; wrote = subst (TookPrefix before now) h.shown wrote }
+  text_written Usage text h is wrote = absurd is
+  text_written (LineTooLong line) text h is wrote = absurd is
+  text_written (Damaged place) text h is wrote = absurd is
+  text_written ReadFault text h is wrote = absurd is
+  text_written DiskFault text h is wrote = absurd is
+  text_written NoMemory text h is wrote = absurd is
+  text_written (NotJsonMl why) text h is wrote = absurd is
+  text_written (DocumentRefused why) text h is wrote = absurd is
+
+  pub document_written : (r : Result T Status) (status : Status) → DocumentDone is_known s c read old new bytes r → IfErr r IsUnwritten
+      → IfOk r (λ text. IsWriteEnd status × WroteWhole status before now (bytes text)) → IfErr r (λ e. (status ≡ e) × (now ≡ before)) → WentAndWrote is_known s c read old new status before now
+  document_written (Ok text) status done unwritten written none = text_written status (bytes text) done written.0 written.1
+  document_written (Err e) status done unwritten written none = subst (λ (x : Status). WentAndWrote is_known s c read old new x before now) (sym none.0)
+      (record { went = done; wrote = unwritten_is e before now (text_of c (said s (done.answered ++ done.more))) unwritten none.1 })
+
+-- ---- a core that was opened
+
+pub core_stands : (base : Entries) (n limit : ℕ) (core : CoreView StoreCall Entries) (t : Tree) → core ≡ record { opening = base; number = n; limit = limit; base = base; book = []; prepared = None } → StandsFor (Some base) t
+    → Stands core (start t n limit)
+core_stands base n limit core t is stands = subst (λ (v : CoreView StoreCall Entries). Stands v (start t n limit)) (sym is) (record { tree = t; opened = stands; state = refl })
+
+pub may_begin : (base : Entries) (n limit : ℕ) (core : CoreView StoreCall Entries) (journal : JournalView) → core ≡ record { opening = base; number = n; limit = limit; base = base; book = []; prepared = None } → IsStoredTree base → TakesBehind journal n
+    → MayBeAsked core journal
+may_begin base n limit core journal is stored takes = record {
+  state = start stored.tree n limit;
+  stands = core_stands base n limit core stored.tree is (record { valid = stored.is_valid_tree; map = ap Some (sym stored.map) });
+  takes = record {
+    usable = takes.usable;
+    next = ap (λ (v : CoreView StoreCall Entries). is_next journal.last (next_number v)) is ∙ ap (λ (k : ℕ). is_next journal.last (k + 1)) (add-zero n) ∙ takes.next;
+  };
+}
+
+-- memory was wanting for it
+pub not_opened : {T : Type 0} (r : Result T Status) (status : Status) (is_known : Bool) (s : State StoreCall) (c : Command) (read : List ℕ) (journal : History) (bytes : T → List ℕ) → status ≡ NoMemory → IsErrAnd r (λ e. e ≡ status)
+    → DocumentDone is_known s c read journal journal bytes r
+not_opened r status is_known s c read journal bytes no_memory is =
+    done_err r status is_known s c read journal journal bytes is
+    (subst (DocumentWent is_known s c read journal journal) (sym no_memory) (nothing_asked is_known s c read journal journal NoMemory refl tt tt))
+
+-- a stop wrote nothing
+stop_unwritten : (status : Status) → IsStop status → IsUnwritten status
+stop_unwritten (DocumentRefused why) is = tt
+stop_unwritten DiskFault is = tt
+stop_unwritten NoMemory is = tt
+stop_unwritten Done is = is
+stop_unwritten Usage is = is
+stop_unwritten (LineTooLong line) is = tt
+stop_unwritten (Damaged place) is = is
+stop_unwritten ReadFault is = tt
+stop_unwritten WriteFault is = is
+stop_unwritten (NotJsonMl why) is = tt
+
+pub stops_unwritten : {T : Type 0} (r : Result T Status) → IfErr r IsStop → IfErr r IsUnwritten
+stops_unwritten (Ok x) is = tt
+stops_unwritten (Err e) is = stop_unwritten e is
+
+-- ---- the whole command
+
+pub document_finished : (t : Tree) (n limit : ℕ) (formed : IsValidTree t) (is_known : Bool) (c : Command) (o : Outcome) (journal pages mid : History) (status : Status) → IsTrue is_known → HoldsAll (start t n limit) journal → pages.now ≡ all_synced []
+    → WentAndWrote is_known (start t n limit) c o.read journal mid status o.before o.now → o.new.journal ≡ mid → o.new.pages ≡ pages → IsImage o.new.journal.now o.new.journal.now.reads → IsImage o.new.pages.now o.new.pages.now.reads
+    → (reads_input (Some c) ≡ false → o.read ≡ []) → DocumentRan t n limit c status (pair_of journal pages) o
+document_finished t n limit formed is_known c o journal pages mid status known settled empty wrote same still of_journal of_pages unread =
+    let all : WentAndWrote is_known (start t n limit) c o.read journal o.new.journal status o.before o.now = subst (λ (h : History). WentAndWrote is_known (start t n limit) c o.read journal h status o.before o.now) (sym same) wrote in
+    document_ran t n limit formed is_known c o journal pages status known settled empty all.went still of_journal of_pages unread all.wrote

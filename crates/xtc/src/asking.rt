@@ -1,0 +1,161 @@
+// What session 1 is asked in turn for a command of one document, and what is read off the replies.
+ghost use Rattle.std.specs.Prelude.{◌≡◌, ◌++◌, ◌∷◌, [], false, None, Err, IfOk, IfErr, IfSome, OnOk};
+ghost use Rattle.call_contract.specs.States.{State};
+ghost use Rattle.command_lines.specs.declared.command.StoreCall.{StoreCall};
+ghost use Rattle.serde_json.specs.Data.{null};
+ghost use Rattle.serde_json.specs.View.{view};
+ghost use Rattle.serde_json.specs.Written.{has_float, compact_text};
+ghost use Rattle.xtc.specs.Documents.{reason_of_answer, reason_of, reason_in, label_in, tree_in, label_line, tree_line};
+ghost use Rattle.xtc.specs.StoreMachine.{Stands};
+ghost use Rattle.xtc.specs.inside.Asking.{all_asks, AreValidAsks, AskedInTurn, IsStop};
+ghost use Rattle.xtc.specs.inside.Stores.{MayBeAsked, Counts};
+
+use crate::halt::Halt;
+use crate::status::{Reason, Status};
+use crate::store::answer;
+use command_lines::{LineAnswer, LineReply, SessionRefusal};
+use dewey_labels::{Label, NoMemory};
+use journal::Journal;
+use jsonml_io::to_value;
+use node_seq::SortedSeq;
+use outside_traits::Disk;
+use serde_json::Value;
+use session_driver::Doing;
+use std::alloc::Global;
+use store_calls::StoreOp;
+use tree_model::Reply;
+use tx_core::Core;
+
+/// The session that a command of one document asks.
+const SESSION: u32 = 1;
+
+/// Asks session 1 these in turn, up to the first that is refused.
+pub fn ask_in_turn<J: Disk>(
+    alloc: Global,
+    core: &mut Core<StoreOp, SortedSeq>,
+    journal: &mut Journal<J>,
+    mut doings: Vec<Doing<StoreOp>>,
+    replies: &mut Vec<LineReply>,
+) -> Result<(), Status>
+    requires may { MayBeAsked core.old journal.old }
+    requires valid { AreValidAsks (all_asks doings.items) }
+    requires unrefused { reason_in replies.old.items ≡ None }
+    ensures asked { (s : State StoreCall) → Stands core.old s → AskedInTurn J.is_known s (all_asks doings.items)
+        journal.old.history core.new journal.new.history replies.old.items replies.new.items result }
+    ensures stops { IfErr result IsStop }
+    ensures may { OnOk result (MayBeAsked core.new journal.new) }
+    ensures unrefused { OnOk result (reason_in replies.new.items ≡ None) }
+    ensures counts { Counts (result ≡ Err Status.DiskFault) journal.old.faults journal.new.faults }
+{
+    let Some(doing) = take_first(&mut doings) else {
+        return Ok(());
+    };
+    answer(alloc, core, journal, SESSION, doing, replies)?;
+    if let Some(why) = reason_in(replies.as_slice()) {
+        return Err(Status::DocumentRefused(why));
+    }
+    ask_in_turn(alloc, core, journal, doings, replies)
+}
+
+/// Takes the first of a list.
+fn take_first(doings: &mut Vec<Doing<StoreOp>>) -> Option<Doing<StoreOp>>
+    ensures first { IfSome result (λ doing. doings.old.items ≡ doing ∷ doings.new.items) }
+    ensures none { result ≡ None → doings.old.items ≡ [] }
+{
+    if doings.as_slice().is_empty() {
+        return None;
+    }
+    Some(doings.remove(0))
+}
+
+/// The first refusal.
+fn reason_in(replies: &[LineReply]) -> Option<Reason>
+    ensures { result ≡ reason_in replies.now }
+{
+    for reply in replies {
+        if let Some(why) = reason_of(reply) {
+            return Some(why);
+        }
+    }
+    None
+}
+
+/// Why a reply refuses the document, if it does.
+fn reason_of(reply: &LineReply) -> Option<Reason>
+    ensures { result ≡ reason_of reply.now }
+{
+    match reply {
+        LineReply::Said { answer, .. } => reason_of_answer(answer),
+        LineReply::Bad { .. } | LineReply::Order(_) => None,
+    }
+}
+
+fn reason_of_answer(answer: &LineAnswer) -> Option<Reason>
+    ensures { result ≡ reason_of_answer answer.now }
+{
+    match answer {
+        LineAnswer::Reply(Reply::Refused(why)) => Some(Reason::Call(*why)),
+        LineAnswer::Session(SessionRefusal::TxLimit | SessionRefusal::CommitLimit) => {
+            Some(Reason::Limit)
+        }
+        _ => None,
+    }
+}
+
+/// The first label that is answered.
+pub fn label_in(alloc: Global, replies: &[LineReply]) -> Result<Option<Label>, NoMemory>
+    ensures { IfOk result (λ label. label ≡ label_in replies.now) }
+{
+    for reply in replies {
+        if let LineReply::Said {
+            answer: LineAnswer::Reply(Reply::Place(Some(label))),
+            ..
+        } = reply
+        {
+            return Ok(Some(label.copy(alloc)?));
+        }
+    }
+    Ok(None)
+}
+
+/// The first label that is answered, as a JSON string in a line.
+pub fn label_line(alloc: Global, replies: &[LineReply]) -> Result<Vec<u8>, NoMemory>
+    ensures { IfOk result (λ text. text.items ≡ label_line (label_in replies.now)) }
+{
+    match label_in(alloc, replies)? {
+        Some(label) => line_of(alloc, &Value::String(label.text(alloc)?.into_string())),
+        None => null_line(alloc),
+    }
+}
+
+/// The first fragment that is answered, as JsonML in a line; `null` where there is none.
+pub fn tree_line(alloc: Global, replies: &[LineReply]) -> Result<Vec<u8>, NoMemory>
+    ensures { IfOk result (λ text. text.items ≡ tree_line (tree_in replies.now)) }
+{
+    for reply in replies {
+        if let LineReply::Said {
+            answer: LineAnswer::Reply(Reply::Tree(Some(tree))),
+            ..
+        } = reply
+        {
+            return line_of(alloc, &to_value(alloc, tree)?);
+        }
+    }
+    null_line(alloc)
+}
+
+fn null_line(alloc: Global) -> Result<Vec<u8>, NoMemory>
+    ensures { IfOk result (λ text. text.items ≡ compact_text null ++ 10 ∷ []) }
+{
+    line_of(alloc, &Value::Null)
+}
+
+/// A value's compact text and LF.
+fn line_of(alloc: Global, value: &Value) -> Result<Vec<u8>, NoMemory>
+    requires { has_float (view value.now) ≡ false }
+    ensures { IfOk result (λ text. text.items ≡ compact_text (view value.now) ++ 10 ∷ []) }
+{
+    let mut text = value.to_vec(alloc)?;
+    text.push(b'\n')?;
+    Ok(text)
+}

@@ -1,0 +1,366 @@
+// The commands of one document over a store that was opened.
+ghost use Rattle.std.specs.Prelude.{◌≡◌, ◌≢◌, ◌+◌, ◌-◌, ◌≤◌, ℕ, List, [], length, Option, None, Some, Ok, Err, IsTrue, IfOk, IfErr, OnOk, IfSome};
+ghost use Rattle.outside_traits.specs.Bytes.{Gave};
+ghost use Rattle.outside_traits.specs.DiskPairs.{Pair, pair_of};
+ghost use Rattle.outside_traits.specs.Disks.{all_synced};
+ghost use Rattle.outside_traits.specs.Moments.{IsAllSynced};
+ghost use Rattle.tree_model.specs.Fragments.{IsValid, plain, is_text_fragment};
+ghost use Rattle.tree_model.specs.StoredTree.{IsStoredTree};
+ghost use Rattle.tree_model.specs.Tree.{Tree};
+ghost use Rattle.node_seq.specs.Trees.{StandsFor};
+ghost use Rattle.recovery.specs.Opened.{contents_of_files};
+ghost use Rattle.recovery.specs.Openings.{TakesBehind};
+ghost use Rattle.script_runs.specs.Counts.{CountedWhere, DisksCountedWhere};
+ghost use Rattle.call_contract.specs.States.{State, start};
+ghost use Rattle.command_lines.specs.declared.command.StoreCall.{StoreCall};
+ghost use Rattle.command_lines.specs.ValidCommands.{IsValidWhat};
+ghost use Rattle.command_lines.specs.declared.command.What.TheVariants.{Call};
+ghost use Rattle.session_driver.specs.Lines.{IsValidDoing};
+ghost use Rattle.session_driver.specs.declared.doing.Doing.TheVariants as asked;
+ghost use Rattle.command_lines.specs.declared.command.StoreCall.TheVariants.{Dom};
+ghost use Rattle.store_calls.specs.StoreCalls.{IsValidStoreCall};
+ghost use Rattle.jsonml_io.specs.declared.fragment_error.FragmentError.TheVariants as fragment_error;
+ghost use Rattle.xtc.specs.Commands.{put as put_command, get as get_command};
+ghost use Rattle.xtc.specs.Documents.{element_in, find_asks, dump_asks, put_asks, label_in, reason_in, tree_in, tree_line};
+ghost use Rattle.xtc.specs.StoreMachine.{Stands};
+ghost use Rattle.xtc.specs.TopCall.{DocumentRan, IsSilent, IsOfOpened, WroteWhole, tx_limit, whole_limit};
+ghost use Rattle.xtc.specs.inside.Asking.{all_asks, AreValidAsks, AskedInTurn, DocumentDone, IsReadElement, IsStop, IsUnwritten, IsWriteEnd};
+ghost use Rattle.xtc.specs.inside.Stores.{MayBeAsked, Counts};
+
+use crate::asking::{ask_in_turn, label_in, label_line, tree_line};
+use crate::status::Status;
+use crate::top_call::{Finish, TX_LIMIT, with_disks};
+use command_lines::{LineReply, StoreCall};
+use dewey_labels::{Label, NoMemory, Text};
+use journal::Journal;
+use jsonml_io::{FragmentError, read_fragment};
+use node_seq::SortedSeq;
+use outside_traits::{Disk, Sink, Source};
+use recovery::Opened;
+use script_runs::{gather, say};
+use session_driver::Doing;
+use std::alloc::Global;
+use store_calls::StoreOp;
+use tree_model::{DomCall, Fragment};
+use tx_core::Core;
+
+/// The most bytes of an input that is read as a whole.
+const WHOLE_LIMIT: usize = 16_777_216;
+
+/// Makes a document of the input, and writes its label.
+pub fn run_put<S: Source, K: Sink, J: Disk, P: Disk>(
+    alloc: Global,
+    name: &str,
+    source: &mut S,
+    sink: &mut K,
+    store: Opened<J, P>,
+) -> Finish<J, P>
+    requires tree { IsStoredTree store.base }
+    requires next { TakesBehind store.journal store.number }
+    ensures ran { (read : List ℕ) × Gave (S.left source.old) (S.left source.new) read × (S.given source.new ≡ S.given source.old + length read)
+        × (IsTrue J.is_known → IsTrue P.is_known → IsAllSynced store.journal.history → (P.history store.pages).now ≡ all_synced []
+        → contents_of_files store.journal.history.now.reads [] ≡ Ok (record { entries = store.base; number = store.number })
+        → (t : Tree) → StandsFor (Some store.base) t → (old : Pair)
+        → DocumentRan t store.number tx_limit (put_command name.now) result.status (pair_of store.journal.history (P.history store.pages)) (record {
+          read = read;
+          asked = S.asked source.new - S.given source.old;
+          left = S.left source.new;
+          before = K.held sink.old;
+          now = K.held sink.new;
+          old = old;
+          new = pair_of (J.history result.journal) (P.history result.pages);
+        })) }
+    ensures whole { result.status ≡ Status.Done → IfSome (S.left source.new) (λ rest. rest ≡ []) }
+    ensures silent { IsSilent (Some (put_command name.now)) result.status (K.held sink.new ≡ K.held sink.old) }
+    ensures status { IsOfOpened result.status }
+    ensures read { CountedWhere (result.status ≡ Status.ReadFault) (S.faults source.old) (S.faults source.new) }
+    ensures write { CountedWhere (result.status ≡ Status.WriteFault) (K.faults sink.old) (K.faults sink.new) }
+    ensures disk { DisksCountedWhere (result.status ≡ Status.DiskFault)
+        (record { journal = store.journal.faults; pages = P.faults store.pages })
+        (record { journal = J.faults result.journal; pages = P.faults result.pages }) }
+{
+    let Opened {
+        mut journal,
+        pages,
+        base,
+        number,
+    } = store;
+    let text = put_input(alloc, name, source, base, number, &mut journal);
+    with_disks(written(sink, text), journal.into_disk(), pages)
+}
+
+/// Writes the document with a name.
+pub fn run_get<K: Sink, J: Disk, P: Disk>(
+    alloc: Global,
+    name: &str,
+    sink: &mut K,
+    store: Opened<J, P>,
+) -> Finish<J, P>
+    requires tree { IsStoredTree store.base }
+    requires next { TakesBehind store.journal store.number }
+    ensures ran { IsTrue J.is_known → IsTrue P.is_known → IsAllSynced store.journal.history → (P.history store.pages).now ≡ all_synced []
+        → contents_of_files store.journal.history.now.reads [] ≡ Ok (record { entries = store.base; number = store.number })
+        → (t : Tree) → StandsFor (Some store.base) t → (asked : ℕ) (left : Option (List ℕ)) (old : Pair)
+        → DocumentRan t store.number tx_limit (get_command name.now) result.status (pair_of store.journal.history (P.history store.pages)) (record {
+          read = [];
+          asked = asked;
+          left = left;
+          before = K.held sink.old;
+          now = K.held sink.new;
+          old = old;
+          new = pair_of (J.history result.journal) (P.history result.pages);
+        }) }
+    ensures silent { IsSilent (Some (get_command name.now)) result.status (K.held sink.new ≡ K.held sink.old) }
+    ensures status { IsOfOpened result.status }
+    ensures read { result.status ≢ Status.ReadFault }
+    ensures write { CountedWhere (result.status ≡ Status.WriteFault) (K.faults sink.old) (K.faults sink.new) }
+    ensures disk { DisksCountedWhere (result.status ≡ Status.DiskFault)
+        (record { journal = store.journal.faults; pages = P.faults store.pages })
+        (record { journal = J.faults result.journal; pages = P.faults result.pages }) }
+{
+    let Opened {
+        mut journal,
+        pages,
+        base,
+        number,
+    } = store;
+    let text = get_document(alloc, name, base, number, &mut journal);
+    with_disks(written(sink, text), journal.into_disk(), pages)
+}
+
+/// Writes the text that there is, and answers how the command ended.
+fn written<K: Sink>(sink: &mut K, text: Result<Vec<u8>, Status>) -> Status
+    requires { IfErr text IsUnwritten }
+    ensures text { IfOk text (λ text. IsWriteEnd result × WroteWhole result (K.held sink.old) (K.held sink.new) text.items) }
+    ensures none { IfErr text (λ status. (result ≡ status) × (K.held sink.new ≡ K.held sink.old)) }
+    ensures write { CountedWhere (result ≡ Status.WriteFault) (K.faults sink.old) (K.faults sink.new) }
+{
+    match text {
+        Ok(text) => Status::from(say(sink, &text)),
+        Err(status) => status,
+    }
+}
+
+/// Makes a document of the whole input, and answers the line to write.
+fn put_input<S: Source, J: Disk>(
+    alloc: Global,
+    name: &str,
+    source: &mut S,
+    base: SortedSeq,
+    number: u32,
+    journal: &mut Journal<J>,
+) -> Result<Vec<u8>, Status>
+    requires tree { IsStoredTree base }
+    requires next { TakesBehind journal.old number }
+    ensures done { (read : List ℕ) × Gave (S.left source.old) (S.left source.new) read × (S.given source.new ≡ S.given source.old + length read)
+        × ((t : Tree) → StandsFor (Some base) t
+        → DocumentDone J.is_known (start t number tx_limit) (put_command name.now) read journal.old.history journal.new.history (λ text. text.items) result) }
+    ensures whole { OnOk result (IfSome (S.left source.new) (λ rest. rest ≡ [])) }
+    ensures unwritten { IfErr result IsUnwritten }
+    ensures read { CountedWhere (result ≡ Err Status.ReadFault) (S.faults source.old) (S.faults source.new) }
+    ensures counts { Counts (result ≡ Err Status.DiskFault) journal.old.faults journal.new.faults }
+{
+    let element = read_element(alloc, source)?;
+    let mut core = open_core(alloc, base, number)?;
+    put(alloc, &mut core, journal, name, element)
+}
+
+/// Answers the line of the document with a name.
+fn get_document<J: Disk>(
+    alloc: Global,
+    name: &str,
+    base: SortedSeq,
+    number: u32,
+    journal: &mut Journal<J>,
+) -> Result<Vec<u8>, Status>
+    requires tree { IsStoredTree base }
+    requires next { TakesBehind journal.old number }
+    ensures done { (t : Tree) → StandsFor (Some base) t
+        → DocumentDone J.is_known (start t number tx_limit) (get_command name.now) [] journal.old.history journal.new.history (λ text. text.items) result }
+    ensures stops { IfErr result IsStop }
+    ensures counts { Counts (result ≡ Err Status.DiskFault) journal.old.faults journal.new.faults }
+{
+    let mut core = open_core(alloc, base, number)?;
+    get(alloc, &mut core, journal, name)
+}
+
+fn open_core(
+    alloc: Global,
+    base: SortedSeq,
+    number: u32,
+) -> Result<Core<StoreOp, SortedSeq>, Status>
+    ensures ok { IfOk result (λ core. core ≡ record { opening = base; number = number; limit = tx_limit; base = base; book = []; prepared = None }) }
+    ensures err { IfErr result (λ status. status ≡ Status.NoMemory) }
+{
+    match Core::new(alloc, base, number, TX_LIMIT) {
+        Ok(core) => Ok(core),
+        Err(_) => Err(Status::NoMemory),
+    }
+}
+
+/// The element that the whole input is.
+fn read_element<S: Source>(alloc: Global, source: &mut S) -> Result<Fragment, Status>
+    ensures read { (read : List ℕ) × Gave (S.left source.old) (S.left source.new) read
+        × (S.given source.new ≡ S.given source.old + length read) × IsReadElement read result }
+    ensures valid { IfOk result (λ element. IsValid (plain element)) }
+    ensures whole { OnOk result (IfSome (S.left source.new) (λ rest. rest ≡ [])) }
+    ensures cause { CountedWhere (result ≡ Err Status.ReadFault) (S.faults source.old) (S.faults source.new) }
+{
+    let input = gather(alloc, WHOLE_LIMIT, source)?;
+    Ok(element_in(alloc, &input)?)
+}
+
+/// The element that bytes are; a text on top is none.
+fn element_in(alloc: Global, bytes: &[u8]) -> Result<Fragment, FragmentError>
+    ensures element { IfOk result (λ element. element_in bytes.now ≡ Ok element) }
+    ensures refusal { IfErr result (λ why. why ≢ fragment_error.NoMemory → element_in bytes.now ≡ Err why) }
+    ensures valid { IfOk result (λ element. IsValid (plain element)) }
+{
+    let fragment = read_fragment(alloc, bytes)?;
+    if is_text(&fragment) {
+        return Err(FragmentError::NotJsonMl {
+            path: Text::from_string(String::new(alloc)),
+        });
+    }
+    Ok(fragment)
+}
+
+fn is_text(fragment: &Fragment) -> bool
+    ensures { result ≡ is_text_fragment (plain fragment.now) }
+{
+    match fragment {
+        Fragment::Text(_) => true,
+        Fragment::Element { .. } => false,
+    }
+}
+
+/// Creates a document of an element and commits, and answers the line of its label.
+fn put<J: Disk>(
+    alloc: Global,
+    core: &mut Core<StoreOp, SortedSeq>,
+    journal: &mut Journal<J>,
+    name: &str,
+    element: Fragment,
+) -> Result<Vec<u8>, Status>
+    requires may { MayBeAsked core.old journal.old }
+    requires valid { IsValid (plain element) }
+    ensures done { (s : State StoreCall) → Stands core.old s → (read : List ℕ) → element_in read ≡ Ok element → length read ≤ whole_limit
+        → DocumentDone J.is_known s (put_command name.now) read journal.old.history journal.new.history (λ text. text.items) result }
+    ensures stops { IfErr result IsStop }
+    ensures counts { Counts (result ≡ Err Status.DiskFault) journal.old.faults journal.new.faults }
+{
+    let doings = put_doings(alloc, name, element)?;
+    let mut replies = Vec::new(alloc);
+    ask_in_turn(alloc, core, journal, doings, &mut replies)?;
+    Ok(label_line(alloc, replies.as_slice())?)
+}
+
+/// Finds and dumps the document with a name, aborts, and answers the document's line.
+fn get<J: Disk>(
+    alloc: Global,
+    core: &mut Core<StoreOp, SortedSeq>,
+    journal: &mut Journal<J>,
+    name: &str,
+) -> Result<Vec<u8>, Status>
+    requires may { MayBeAsked core.old journal.old }
+    ensures done { (s : State StoreCall) → Stands core.old s
+        → DocumentDone J.is_known s (get_command name.now) [] journal.old.history journal.new.history (λ text. text.items) result }
+    ensures stops { IfErr result IsStop }
+    ensures counts { Counts (result ≡ Err Status.DiskFault) journal.old.faults journal.new.faults }
+{
+    let mut replies = Vec::new(alloc);
+    let label = find(alloc, core, journal, name, &mut replies)?;
+    dump(alloc, core, journal, label, &mut replies)
+}
+
+/// Finds the document with a name.
+fn find<J: Disk>(
+    alloc: Global,
+    core: &mut Core<StoreOp, SortedSeq>,
+    journal: &mut Journal<J>,
+    name: &str,
+    replies: &mut Vec<LineReply>,
+) -> Result<Option<Label>, Status>
+    requires may { MayBeAsked core.old journal.old }
+    requires unrefused { reason_in replies.old.items ≡ None }
+    ensures asked { (s : State StoreCall) → Stands core.old s → AskedInTurn J.is_known s (find_asks name.now)
+        journal.old.history core.new journal.new.history replies.old.items replies.new.items result }
+    ensures label { IfOk result (λ label. label ≡ label_in replies.new.items) }
+    ensures stops { IfErr result IsStop }
+    ensures may { OnOk result (MayBeAsked core.new journal.new) }
+    ensures unrefused { OnOk result (reason_in replies.new.items ≡ None) }
+    ensures counts { Counts (result ≡ Err Status.DiskFault) journal.old.faults journal.new.faults }
+{
+    let doings = find_doings(alloc, name)?;
+    ask_in_turn(alloc, core, journal, doings, replies)?;
+    Ok(label_in(alloc, replies.as_slice())?)
+}
+
+/// Dumps the document at a label and aborts, and answers the document's line.
+fn dump<J: Disk>(
+    alloc: Global,
+    core: &mut Core<StoreOp, SortedSeq>,
+    journal: &mut Journal<J>,
+    label: Option<Label>,
+    replies: &mut Vec<LineReply>,
+) -> Result<Vec<u8>, Status>
+    requires may { MayBeAsked core.old journal.old }
+    requires unrefused { reason_in replies.old.items ≡ None }
+    ensures asked { (s : State StoreCall) → Stands core.old s → AskedInTurn J.is_known s (dump_asks label)
+        journal.old.history core.new journal.new.history replies.old.items replies.new.items result }
+    ensures stops { IfErr result IsStop }
+    ensures text { IfOk result (λ text. text.items ≡ tree_line (tree_in replies.new.items)) }
+    ensures counts { Counts (result ≡ Err Status.DiskFault) journal.old.faults journal.new.faults }
+{
+    let doings = dump_doings(alloc, label)?;
+    ask_in_turn(alloc, core, journal, doings, replies)?;
+    Ok(tree_line(alloc, replies.as_slice())?)
+}
+
+fn put_doings(alloc: Global, name: &str, element: Fragment) -> Result<Vec<Doing<StoreOp>>, NoMemory>
+    requires { IsValid (plain element) }
+    ensures asks { IfOk result (λ doings. all_asks doings.items ≡ put_asks name.now element) }
+    ensures valid { IfOk result (λ doings. AreValidAsks (all_asks doings.items)) }
+{
+    let create = DomCall::Create(Text::of(alloc, name)?, Some(element));
+    let mut doings = Vec::new(alloc);
+    doings.push(Doing::Begin)?;
+    doings.push(doing_of(create))?;
+    doings.push(Doing::Commit)?;
+    Ok(doings)
+}
+
+fn find_doings(alloc: Global, name: &str) -> Result<Vec<Doing<StoreOp>>, NoMemory>
+    ensures asks { IfOk result (λ doings. all_asks doings.items ≡ find_asks name.now) }
+    ensures valid { IfOk result (λ doings. AreValidAsks (all_asks doings.items)) }
+{
+    let doc = DomCall::Doc(Text::of(alloc, name)?);
+    let mut doings = Vec::new(alloc);
+    doings.push(Doing::Begin)?;
+    doings.push(doing_of(doc))?;
+    Ok(doings)
+}
+
+fn dump_doings(alloc: Global, label: Option<Label>) -> Result<Vec<Doing<StoreOp>>, NoMemory>
+    ensures asks { IfOk result (λ doings. all_asks doings.items ≡ dump_asks label) }
+    ensures valid { IfOk result (λ doings. AreValidAsks (all_asks doings.items)) }
+{
+    let mut doings = Vec::new(alloc);
+    if let Some(at) = label {
+        doings.push(doing_of(DomCall::Dump(at)))?;
+        doings.push(Doing::Abort)?;
+    }
+    Ok(doings)
+}
+
+/// Asking a session for a call.
+fn doing_of(call: DomCall) -> Doing<StoreOp>
+    requires { IsValidWhat (Call (Dom call)) }
+    ensures doing { result ≡ asked.Call (Dom call) }
+    ensures valid { IsValidDoing IsValidStoreCall result }
+{
+    let call = StoreOp::new(StoreCall::Dom(call));
+    // It tells that the call is valid.
+    let _call = call.call();
+    Doing::Call(call)
+}
