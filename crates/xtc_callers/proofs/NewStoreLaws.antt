@@ -223,15 +223,20 @@ module _ (empty : StandFor [] [] empty_tree 0) (o : Outcome) (script text : List
     either_begun status none (inl leaves) = unopened_begun o text before now empty status script none old_journal old_pages of_journal of_pages leaves
     either_begun status none (inr leaves) = opened_begun status leaves
 
-    pub script_begun : (status : Status) → (status ≡ Usage → ⊥) → ((place : Place) → status ≡ Damaged place → ⊥) → Leaves tx_limit (Some run) status o
+    run_begun : (status : Status) → (status ≡ Usage → ⊥) → ((place : Place) → status ≡ Damaged place → ⊥) → Leaves tx_limit (Some run) status o
         → ScriptBegun status script text o.new.journal o.new.pages
-    script_begun Usage not_usage not_place leaves = absurd (not_usage refl)
-    script_begun (Damaged place) not_usage not_place leaves = absurd (not_place place refl)
-    script_begun Done not_usage not_place leaves = opened_begun Done leaves
-    script_begun (LineTooLong n) not_usage not_place leaves = opened_begun (LineTooLong n) leaves
-    script_begun ReadFault not_usage not_place leaves = opened_begun ReadFault leaves
-    script_begun WriteFault not_usage not_place leaves = opened_begun WriteFault leaves
-    script_begun (NotJsonMl why) not_usage not_place leaves = opened_begun (NotJsonMl why) leaves
-    script_begun (DocumentRefused why) not_usage not_place leaves = opened_begun (DocumentRefused why) leaves
-    script_begun DiskFault not_usage not_place leaves = either_begun DiskFault tt leaves
-    script_begun NoMemory not_usage not_place leaves = either_begun NoMemory tt leaves
+    run_begun Usage not_usage not_place leaves = absurd (not_usage refl)
+    run_begun (Damaged place) not_usage not_place leaves = absurd (not_place place refl)
+    run_begun Done not_usage not_place leaves = opened_begun Done leaves
+    run_begun (LineTooLong n) not_usage not_place leaves = opened_begun (LineTooLong n) leaves
+    run_begun ReadFault not_usage not_place leaves = opened_begun ReadFault leaves
+    run_begun WriteFault not_usage not_place leaves = opened_begun WriteFault leaves
+    run_begun (NotJsonMl why) not_usage not_place leaves = opened_begun (NotJsonMl why) leaves
+    run_begun (DocumentRefused why) not_usage not_place leaves = opened_begun (DocumentRefused why) leaves
+    run_begun DiskFault not_usage not_place leaves = either_begun DiskFault tt leaves
+    run_begun NoMemory not_usage not_place leaves = either_begun NoMemory tt leaves
+
+    -- so it is where the words ask for a script
+    pub script_begun : (command : Option Command) (status : Status) → command ≡ Some run → (status ≡ Usage → ⊥) → ((place : Place) → status ≡ Damaged place → ⊥) → Leaves tx_limit command status o
+        → ScriptBegun status script text o.new.journal o.new.pages
+    script_begun command status named not_usage not_place leaves = run_begun status not_usage not_place (subst (λ (c : Option Command). Leaves tx_limit c status o) named leaves)

@@ -1,11 +1,10 @@
-use Rattle.std.proofs.Common.{◌≡◌, [], Option, Some, refl, ap, subst, ◌∙◌}
+use Rattle.std.proofs.Common.{◌≡◌, [], Some, refl, ap, ◌∙◌}
 use Rattle.std.proofs.lemmas.Option.{same_Some}
 use Rattle.outside_traits.specs.Moments.{History}
 use Rattle.node_records.specs.declared.open_error.Place.{Place}
 use Rattle.outside_kinds.specs.Memory.{SinkInMemory, SourceInMemory}
 use Rattle.outside_kinds.specs.MemoryDisks.{history_of, start}
-use Rattle.xtc.specs.Commands.{Command, reads_input}
-use Rattle.xtc.specs.TopCall.{Leaves, tx_limit}
+use Rattle.xtc.specs.Commands.{reads_input}
 use Rattle.xtc.specs.declared.status.Status.TheVariants.{Damaged}
 use Rattle.xtc_callers.proofs.NewStoreLaws.{script_done, script_begun, not_damaged, silent_at_usage}
 use Rattle.xtc_callers.proofs.new_store.run_new_store.Goals as goal
@@ -26,7 +25,7 @@ returns c =
           (ap (λ (h : History). h.now.reads) journal_is) (ap (λ (h : History). h.now.reads) pages_is);
       begun = λ named not_usage.
           script_begun empty _ c.args.script _ _ script_is run.1 held_is refl (ap (λ (h : History). h.now) journal_is) (ap (λ (h : History). h.now) pages_is)
-          c.faults.ensures.reads_an_image c.faults-2.ensures.reads_an_image c.xtc-status.result.status not_usage not_place (subst (λ (command : Option Command). Leaves tx_limit command c.xtc-status.result.status _) named (run.3 refl refl));
+          c.faults.ensures.reads_an_image c.faults-2.ensures.reads_an_image _ c.xtc-status.result.status named not_usage not_place (run.3 refl refl);
       not_damaged = not_place;
       usage = c.xtc-status.ensures.usage.0;
       untouched = λ is.
