@@ -1,22 +1,6 @@
 //! The commands of one document: each with its input, over a store, and how it ends.
 use crate::tests::{EMPTY, NEW, NO_DOCUMENT, SIXTY, Script, file_of, run_on, run_words};
-use std::alloc::{AllocError, Global};
 use std::test::Fail;
-use tree_model::Refusal;
-use xtc::{Reason, Status};
-
-/// A status by its number with all that it tells.
-fn told(alloc: Global, status: &Status) -> Result<String, AllocError> {
-    match status {
-        Status::NotJsonMl(why) => format!(in alloc; "9 {} at {}", why.name(), why.path()),
-        Status::DocumentRefused(Reason::Call(Refusal::Dom(code))) => {
-            format!(in alloc; "10 code {code}")
-        }
-        Status::DocumentRefused(Reason::Call(why)) => format!(in alloc; "10 {why:?}"),
-        Status::DocumentRefused(Reason::Limit) => format!(in alloc; "10 limit"),
-        other => format!(in alloc; "{} {other}", other.number()),
-    }
-}
 
 /// An input that comes in pieces, with no fault.
 fn whole(bytes: &[u8]) -> Script<'_> {
@@ -123,11 +107,7 @@ fn each_command_of_a_document_ends_and_writes_as_its_input_and_store_have_it(
             file_of(journal, 0),
             EMPTY,
         )?;
-        assert_eq!(rt;
-            told(alloc, &outcome.status)?.as_str(),
-            status,
-            "{words} {input}"
-        );
+        assert_eq!(rt; outcome.told(alloc)?.as_str(), status, "{words} {input}");
         assert_eq!(rt; outcome.text.as_slice(), text.as_bytes(), "{words} {input}");
         assert_eq!(rt; outcome.journal.bytes(), now, "{words} {input}");
         assert_eq!(rt; outcome.pages.bytes().len(), 0, "{words} {input}");
@@ -214,7 +194,7 @@ fn a_fault_ends_a_command_and_what_was_committed_stays(rt: HostRuntime) -> Resul
         };
         let outcome = run_words(alloc, words, input, file_of(journal, fails), EMPTY)?;
         assert_eq!(rt;
-            told(alloc, &outcome.status)?.as_str(),
+            outcome.told(alloc)?.as_str(),
             status,
             "{words} {call} {read} {write}"
         );
@@ -263,7 +243,7 @@ fn an_input_past_its_limit_is_line_0(rt: HostRuntime) -> Result<(), Fail> {
             write: 0,
         };
         let outcome = run_words(alloc, "put x", script, EMPTY, EMPTY)?;
-        assert_eq!(rt; told(alloc, &outcome.status)?.as_str(), status);
+        assert_eq!(rt; outcome.told(alloc)?.as_str(), status);
         assert_eq!(rt; outcome.journal.bytes(), journal);
     }
     Ok(())

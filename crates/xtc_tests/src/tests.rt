@@ -1,10 +1,10 @@
 use crate::in_pieces::InPieces;
 use dewey_labels::List;
-use node_records::{File, Place};
 use outside_kinds::{MemDisk, MemSink, MemSource};
 use std::alloc::{AllocError, Global};
 use std::test::Fail;
-use xtc::{Finish, Status, xtc};
+use tree_model::Refusal;
+use xtc::{Finish, Reason, Status, xtc};
 
 /// What a run of the program gives.
 #[derive(Drop)]
@@ -16,15 +16,18 @@ pub struct Outcome {
 }
 
 impl Outcome {
-    /// The status with all that it tells.
-    pub fn status_text(&self, alloc: Global) -> Result<String, AllocError> {
-        status_text(alloc, &self.status)
+    /// The status by its number, with all that it tells.
+    pub fn told(&self, alloc: Global) -> Result<String, AllocError> {
+        match &self.status {
+            Status::NotJsonMl(why) => format!(in alloc; "9 {} at {}", why.name(), why.path()),
+            Status::DocumentRefused(Reason::Call(Refusal::Dom(code))) => {
+                format!(in alloc; "10 code {code}")
+            }
+            Status::DocumentRefused(Reason::Call(why)) => format!(in alloc; "10 {why:?}"),
+            Status::DocumentRefused(Reason::Limit) => format!(in alloc; "10 limit"),
+            other => format!(in alloc; "{} {other}", other.number()),
+        }
     }
-}
-
-/// A status with all that it tells.
-pub fn status_text(alloc: Global, status: &Status) -> Result<String, AllocError> {
-    format!(in alloc; "{status:?}")
 }
 
 /// A file and the one call of its disk that fails, 0 where none does.
@@ -122,18 +125,18 @@ fn each_piece_fault_and_write_leaves_its_prefix_of_the_text(rt: HostRuntime) -> 
     // Lines end after 23, 27, 51, 75, 99 and 122 bytes.
     // The bytes of a piece, the read and the write that fail, the status, how many bytes are written.
     for (piece, read, write, status, written) in [
-        (1, 0, 0, Status::Done, 147),
-        (24, 0, 0, Status::Done, 147),
-        (4096, 0, 0, Status::Done, 147),
-        (30, 1, 0, Status::ReadFault, 0),
-        (30, 2, 0, Status::ReadFault, 15),
-        (30, 3, 0, Status::ReadFault, 54),
-        (30, 4, 0, Status::ReadFault, 69),
-        (30, 6, 0, Status::ReadFault, 123),
-        (30, 0, 1, Status::WriteFault, 0),
-        (30, 0, 2, Status::WriteFault, 15),
-        (30, 0, 3, Status::WriteFault, 45),
-        (30, 0, 8, Status::WriteFault, 123),
+        (1, 0, 0, "0 ", 147),
+        (24, 0, 0, "0 ", 147),
+        (4096, 0, 0, "0 ", 147),
+        (30, 1, 0, "5 xtc: input failed", 0),
+        (30, 2, 0, "5 xtc: input failed", 15),
+        (30, 3, 0, "5 xtc: input failed", 54),
+        (30, 4, 0, "5 xtc: input failed", 69),
+        (30, 6, 0, "5 xtc: input failed", 123),
+        (30, 0, 1, "6 xtc: output failed", 0),
+        (30, 0, 2, "6 xtc: output failed", 15),
+        (30, 0, 3, "6 xtc: output failed", 45),
+        (30, 0, 8, "6 xtc: output failed", 123),
     ] {
         let script = Script {
             bytes: SCRIPT,
@@ -142,10 +145,9 @@ fn each_piece_fault_and_write_leaves_its_prefix_of_the_text(rt: HostRuntime) -> 
             write,
         };
         let outcome = run_words(rt.alloc(), "run", script, EMPTY, EMPTY)?;
-        let shown = outcome.status_text(rt.alloc())?;
         assert_eq!(rt;
-            shown,
-            status_text(rt.alloc(), &status)?,
+            outcome.told(rt.alloc())?.as_str(),
+            status,
             "read {read}, write {write}"
         );
         assert_eq!(rt;
@@ -222,29 +224,18 @@ pub fn file_of(bytes: &[u8], fails: u64) -> Stored<'_> {
     Stored { bytes, fails }
 }
 
-fn damaged(file: File, at: u64) -> Status {
-    Status::Damaged(Place { file, at })
-}
-
 #[test]
 fn each_store_answers_its_script_and_has_its_bytes(rt: HostRuntime) -> Result<(), Fail> {
     let pages = [0; 100];
     let none: &[u8] = b"";
     // The script, the files with the call of each that fails; the status, the text and the journal then.
     for (bytes, journal, pages, status, text, now) in [
-        (
-            none,
-            file_of(b"", 0),
-            file_of(b"", 0),
-            Status::Done,
-            none,
-            NEW,
-        ),
+        (none, file_of(b"", 0), file_of(b"", 0), "0 ", none, NEW),
         (
             CREATE,
             file_of(b"", 0),
             file_of(b"", 0),
-            Status::Done,
+            "0 ",
             CREATED,
             SIXTY,
         ),
@@ -252,7 +243,7 @@ fn each_store_answers_its_script_and_has_its_bytes(rt: HostRuntime) -> Result<()
             CREATE,
             file_of(CLOSED, 0),
             file_of(b"", 0),
-            Status::Done,
+            "0 ",
             CREATED,
             SIXTY,
         ),
@@ -260,7 +251,7 @@ fn each_store_answers_its_script_and_has_its_bytes(rt: HostRuntime) -> Result<()
             CREATE,
             file_of(SIXTY, 0),
             file_of(b"", 0),
-            Status::Done,
+            "0 ",
             IS_THERE,
             MORE,
         ),
@@ -268,7 +259,7 @@ fn each_store_answers_its_script_and_has_its_bytes(rt: HostRuntime) -> Result<()
             CREATE_LIVE,
             file_of(b"", 0),
             file_of(b"", 0),
-            Status::Done,
+            "0 ",
             CREATED_LIVE,
             SIXTY,
         ),
@@ -276,7 +267,7 @@ fn each_store_answers_its_script_and_has_its_bytes(rt: HostRuntime) -> Result<()
             CREATE,
             file_of(&SIXTY[..40], 0),
             file_of(b"", 0),
-            damaged(File::Journal, 8),
+            "4 xtc: damaged journal at 8",
             none,
             &SIXTY[..40],
         ),
@@ -284,7 +275,7 @@ fn each_store_answers_its_script_and_has_its_bytes(rt: HostRuntime) -> Result<()
             CREATE,
             file_of(b"", 0),
             file_of(&pages, 0),
-            damaged(File::Pages, 0),
+            "4 xtc: damaged pages at 0",
             none,
             none,
         ),
@@ -292,7 +283,7 @@ fn each_store_answers_its_script_and_has_its_bytes(rt: HostRuntime) -> Result<()
             CREATE,
             file_of(NO_DOCUMENT, 0),
             file_of(b"", 0),
-            damaged(File::Tree, 1),
+            "4 xtc: damaged tree at 1",
             none,
             NO_DOCUMENT,
         ),
@@ -300,7 +291,7 @@ fn each_store_answers_its_script_and_has_its_bytes(rt: HostRuntime) -> Result<()
             CREATE,
             file_of(SIXTY, 1),
             file_of(b"", 0),
-            Status::DiskFault,
+            "7 xtc: disk failed",
             none,
             SIXTY,
         ),
@@ -308,7 +299,7 @@ fn each_store_answers_its_script_and_has_its_bytes(rt: HostRuntime) -> Result<()
             CREATE,
             file_of(SIXTY, 0),
             file_of(b"", 1),
-            Status::DiskFault,
+            "7 xtc: disk failed",
             none,
             SIXTY,
         ),
@@ -320,10 +311,7 @@ fn each_store_answers_its_script_and_has_its_bytes(rt: HostRuntime) -> Result<()
             write: 0,
         };
         let outcome = run_words(rt.alloc(), "run", script, journal, pages)?;
-        assert_eq!(rt;
-            outcome.status_text(rt.alloc())?,
-            status_text(rt.alloc(), &status)?
-        );
+        assert_eq!(rt; outcome.told(rt.alloc())?.as_str(), status);
         assert_eq!(rt; outcome.text.as_slice(), text, "{status}");
         assert_eq!(rt; outcome.journal.bytes(), now, "{status}");
         assert_eq!(rt; outcome.pages.bytes(), pages.bytes, "{status}");
