@@ -118,6 +118,13 @@ module _ (is_known : Bool) (s : State StoreCall) (xs ys : List (Asked StoreCall)
             subst (λ (u : State StoreCall × State StoreCall). HoldsEither u.0 u.1 image)
             (λ i. (sym (after_on s xs two.answered) i, (sym (after_on s xs (two.answered ++ two.more)) ∙ ap (after s) whole) i))
             (two.left known (one.leads.settled known holds) image is);
+        stops = record {
+          front = xs ++ two.stops.front;
+          last = two.stops.last;
+          parts = append_assoc xs two.stops.front two.stops.last ∙ ap (λ (l : List (Asked StoreCall)). xs ++ l) two.stops.parts ∙ whole;
+          one = two.stops.one;
+          unrefused = ap reason_in (said_on s xs two.stops.front) ∙ reason_behind (said s xs) (said (after s xs) two.stops.front) one.unrefused ∙ two.stops.unrefused;
+        };
         by = subst (λ (l : List LineReply). StopsBy status l two.more) (sym (said_on s xs two.answered)) (stops_on status (said (after s xs) two.answered) two.more two.by);
       }
 
@@ -142,6 +149,7 @@ not_begun is_known s all old new same = subst (λ (h : History). Stopped is_know
   valid = tt;
   moments = λ known holds. started (HoldsFirst s []) old;
   left = λ known holds image is. inl (image_holds s old holds image is);
+  stops = record { front = []; last = []; parts = refl; one = omega arith; unrefused = refl };
   by = tt;
 })
 
@@ -156,6 +164,7 @@ stopped_wider is_known s xs ys old new status h = record {
   valid = h.valid;
   moments = h.moments;
   left = h.left;
+  stops = h.stops;
   by = h.by;
 }
 
@@ -173,6 +182,7 @@ stopped_behind is_known s all old new core before now h =
       valid = subst AreValidAsks (sym whole) h.valid;
       moments = subst (λ (l : List (Asked StoreCall)). LeavesFirst is_known s l old new) (sym whole) h.moments;
       left = λ known holds image is. inl (image_holds (after s all) new (h.leads.settled known holds) image is);
+      stops = record { front = all; last = []; parts = refl; one = omega arith; unrefused = h.unrefused };
       by = tt;
     }
 
@@ -225,6 +235,7 @@ module _ (is_known : Bool) (s : State StoreCall) (doing : Doing StoreCall) (vali
     valid = (valid, tt);
     moments = step_moments leaves;
     left = λ known holds image is. inl (image_holds (asked_from s 1 doing).state new (leads.settled known holds) image is);
+    stops = record { front = []; last = one_asked; parts = refl; one = omega arith; unrefused = refl };
     by = (ap reason_in step_lines ∙ sym (reason_behind before (asked_from s 1 doing).lines unrefused) ∙ ap reason_in (sym replies) ∙ refused, refl);
   }
 
@@ -242,6 +253,7 @@ module _ (is_known : Bool) (s : State StoreCall) (doing : Doing StoreCall) (vali
     valid = (valid, tt);
     moments = step_moments leaves;
     left = λ known holds. now_left (HoldsEither s (asked_from s 1 doing).state) old new (leaves known holds) (λ image is. inl (image_holds s old holds image is));
+    stops = record { front = []; last = one_asked; parts = refl; one = omega arith; unrefused = refl };
     by = halts h one_asked;
   }
 

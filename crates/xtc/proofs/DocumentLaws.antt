@@ -57,6 +57,7 @@ module _ (is_known : Bool) (s : State StoreCall) (c : Command) (read : List ℕ)
     first = none_first (asks_of c s read);
     few = omega arith;
     valid = tt;
+    stops = record { front = []; last = []; parts = refl; one = omega arith; unrefused = refl };
     end = end;
     short = short;
     moments = λ known holds. started (HoldsFirst s []) old;
@@ -112,6 +113,7 @@ module _ (is_known : Bool) (s : State StoreCall) (c : Command) (read : List ℕ)
       first = subst (AreFirst (h.answered ++ h.more)) (sym is) (h.rest, append_assoc h.answered h.more h.rest ∙ h.parts);
       few = few_by status (said s h.answered) h.more h.by h.one;
       valid = h.valid;
+      stops = h.stops;
       end = end_is status h.answered h.more h.rest h.parts h.by;
       short = within_by status (said s h.answered) h.more h.by;
       moments = h.moments;
@@ -129,6 +131,7 @@ module _ (is_known : Bool) (s : State StoreCall) (c : Command) (read : List ℕ)
             first = subst (AreFirst (all ++ [])) (sym is) ([], append-nil (all ++ []) ∙ whole);
             few = omega arith;
             valid = subst AreValidAsks (sym whole) h.valid;
+            stops = record { front = all; last = []; parts = refl; one = omega arith; unrefused = h.unrefused };
             end = (is ∙ ap Ok (sym whole), ap (λ (l : List (Asked StoreCall)). end_by (reason_in (said s l))) whole ∙ ap end_by h.unrefused);
             short = short;
             moments = subst (λ (l : List (Asked StoreCall)). LeavesFirst is_known s l old new) (sym whole) h.moments;
@@ -145,6 +148,7 @@ module _ (is_known : Bool) (s : State StoreCall) (c : Command) (read : List ℕ)
     first = h.first;
     few = h.few;
     valid = h.valid;
+    stops = h.stops;
     end = h.end;
     short = h.short;
     moments = h.moments;
@@ -190,6 +194,7 @@ module _ (t : Tree) (n limit : ℕ) (formed : IsValidTree t) where
       record {
         asked = asked;
         first = went.first;
+        stops = went.stops;
         answered = length went.answered;
         all_but = let sum : length asked ≡ length went.answered + length went.more = length-append went.answered went.more in omega (arith, sum, went.few);
         sound = asked_sound t n limit formed asked went.valid;

@@ -21,7 +21,7 @@ use Rattle.session_driver.specs.Waiters.{AllStopped}
 use Rattle.store_calls.specs.StoreCalls.{store_meaning, IsValidStoreCall}
 use Rattle.xtc.specs.Book.{script_of, after_asked, replies_text}
 use Rattle.xtc.specs.Commands.{Command, run, put, get, reads_input}
-use Rattle.xtc.specs.Documents.{asks_of, end_of, text_of}
+use Rattle.xtc.specs.Documents.{asks_of, end_of, reason_in, text_of}
 use Rattle.xtc.specs.declared.status.Status.{Status}
 use Rattle.xtc.specs.declared.status.Status.TheVariants.{Done, Usage, LineTooLong, Damaged, ReadFault, WriteFault, DiskFault, NoMemory, NotJsonMl, DocumentRefused}
 
@@ -143,6 +143,14 @@ IsDocumentEnd c st read NoMemory asked = Unit {0}
 IsDocumentEnd c st read Usage asked = ⊥
 IsDocumentEnd c st read (Damaged place) asked = ⊥
 
+-- nothing was asked behind a refusal: all of these but the last one at most were answered, and none of them refused
+pub record StopsAtRefusal (st : State StoreCall) (asked : List (Asked StoreCall)) : Type 0 where
+  pub front : List (Asked StoreCall)
+  pub last : List (Asked StoreCall)
+  pub parts : front ++ last ≡ asked
+  pub one : length last ≤ 1
+  pub unrefused : reason_in (after_asked st front).lines ≡ None
+
 -- so many bytes were read: more than an input may have at that status alone
 abbrev pub IsWithin : Status → ℕ → Type 0
 IsWithin (LineTooLong line) count = whole_limit < count
@@ -155,12 +163,13 @@ WroteWhole Done before now text = Took before now text
 WroteWhole WriteFault before now text = TookPrefix before now text
 WroteWhole status before now text = now ≡ before
 
--- `put` or `get` over a store that was opened as a tree and a number. `asked` is what session 1 was asked in turn; `answered` of these were answered,
+-- `put` or `get` over a store that was opened as a tree and a number. `asked` is what session 1 was asked in turn, up to the first refusal; `answered` of these were answered,
 -- all but the last one at most, within whose commit the command stopped. The book of all is sound,
 -- and the files, now and as a crash leaves them at any moment, stand for a prefix of its commits with every one that was answered.
 pub record DocumentRan (t : Tree) (n limit : ℕ) (c : Command) (status : Status) (opening : Pair) (o : Outcome) : Type 0 where
   pub asked : List (Asked StoreCall)
   pub first : AreFirst asked (asks_of c (start t n limit) o.read)
+  pub stops : StopsAtRefusal (start t n limit) asked
   pub answered : ℕ
   pub all_but : length asked ≤ answered + slack status
   pub sound : IsSound t n limit (after_asked (start t n limit) asked)

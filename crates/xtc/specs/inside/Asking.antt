@@ -15,7 +15,7 @@ use Rattle.xtc.specs.Book.{after_asked}
 use Rattle.xtc.specs.Commands.{Command}
 use Rattle.xtc.specs.Documents.{asks, asks_of, element_in, reason_in, text_of}
 use Rattle.xtc.specs.Durable.{HoldState}
-use Rattle.xtc.specs.TopCall.{AreFirst, IsDocumentEnd, IsWithin, slack, whole_limit}
+use Rattle.xtc.specs.TopCall.{AreFirst, IsDocumentEnd, IsWithin, StopsAtRefusal, slack, whole_limit}
 use Rattle.xtc.specs.declared.status.Status.{Status}
 use Rattle.xtc.specs.declared.status.Status.TheVariants.{Done, Usage, LineTooLong, Damaged, ReadFault, WriteFault, DiskFault, NoMemory, NotJsonMl, DocumentRefused}
 use Rattle.xtc.specs.inside.Stores.{HoldsAll, HoldsEither, LeadsTo}
@@ -80,6 +80,7 @@ pub record Stopped (is_known : Bool) (s : State StoreCall) (all : List (Asked St
   pub valid : AreValidAsks (answered ++ more)
   pub moments : LeavesFirst is_known s (answered ++ more) old new
   pub left : LeftEither is_known s answered more old new
+  pub stops : StopsAtRefusal s (answered ++ more)
   pub by : StopsBy status (said s answered) more
 
 abbrev pub AskedInTurn : {T : Type 0} → Bool → State StoreCall → List (Asked StoreCall) → History → CoreView StoreCall Entries → History → List LineReply → List LineReply → Result T Status → Type 0
@@ -118,6 +119,7 @@ pub record DocumentWent (is_known : Bool) (s : State StoreCall) (c : Command) (r
   pub first : AreFirst (answered ++ more) (asks_of c s read)
   pub few : length more ≤ slack status
   pub valid : AreValidAsks (answered ++ more)
+  pub stops : StopsAtRefusal s (answered ++ more)
   pub end : IsDocumentEnd c s read status (answered ++ more)
   pub short : IsWithin status (length read)
   pub moments : LeavesFirst is_known s (answered ++ more) old new
