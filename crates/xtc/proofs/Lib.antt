@@ -4,6 +4,7 @@ pub mod CommitCounts
 pub mod CommitLaws
 pub mod DocumentLaws
 pub mod LineLaws
+pub mod OnTreeLaws
 pub mod OpeningLaws
 pub mod ReasonLaws
 pub mod ScriptBooks

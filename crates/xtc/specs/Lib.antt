@@ -7,5 +7,6 @@ pub mod Statuses
 pub mod TopCall
 pub mod Commands
 pub mod Documents
+pub mod DocumentsOnTree
 -- words of private functions and of the proof
 pub mod inside

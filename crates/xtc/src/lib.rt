@@ -8,10 +8,12 @@ mod asking;
 mod command;
 mod document;
 mod halt;
+mod laws;
 mod line;
 mod status;
 mod store;
 mod top_call;
 
+pub use laws::put_is_create;
 pub use status::{Reason, Status};
 pub use top_call::{Finish, xtc};

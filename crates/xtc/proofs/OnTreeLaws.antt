@@ -1,0 +1,176 @@
+-- One session alone on a store: each of its calls is answered as the tree answers it.
+use Rattle.std.proofs.Common.{◌≡◌, ◌==◌, ℕ, ◌+◌, Bool, true, false, if◌then◌else◌, cond, List, [], ◌∷◌, ◌++◌, refl, sym, ap, subst, ◌∙◌, arith}
+use Rattle.std.specs.Prelude.{◌≢◌, Option, None, Some}
+use Rattle.std.specs.Option.{option_or}
+use Rattle.std.proofs.lemmas.Bool.Decides.{nat_tests}
+use Rattle.lock_resources.specs.declared.request.Request.{Request}
+use Rattle.tree_model.specs.DomCalls.{dom}
+use Rattle.tree_model.specs.Names.{Name}
+use Rattle.tree_model.specs.Tree.{Tree}
+use Rattle.tree_model.specs.declared.dom_call.DomCall.TheVariants.{Create}
+use Rattle.tree_model.specs.declared.fragment.Fragment.{Fragment}
+use Rattle.tree_model.specs.declared.refusal.Refusal.{Refusal}
+use Rattle.tree_model.specs.declared.reply.Reply.{Reply}
+use Rattle.tree_model.specs.declared.reply.Reply.TheVariants as reply
+use Rattle.call_contract.specs.Attempts.{barred, granted, asked as asked_for}
+use Rattle.call_contract.specs.Books.{entry}
+use Rattle.call_contract.specs.States.{Answered, Live, State, start, view}
+use Rattle.call_contract.specs.Steps.{settled, begun_by, committed}
+use Rattle.call_contract.specs.declared.events.Answer.TheVariants as event_answer
+use Rattle.call_contract.specs.declared.events.Event.TheVariants as event
+use Rattle.call_contract.specs.declared.events.EventAnswer.TheVariants as said
+use Rattle.command_lines.specs.declared.command.StoreCall.{StoreCall}
+use Rattle.command_lines.specs.declared.command.StoreCall.TheVariants.{Dom}
+use Rattle.command_lines.specs.declared.line_reply.LineAnswer.TheVariants as answer
+use Rattle.command_lines.specs.declared.line_reply.LineReply.{LineReply}
+use Rattle.command_lines.specs.declared.line_reply.LineReply.TheVariants.{Said}
+use Rattle.command_lines.specs.declared.line_reply.SessionRefusal.TheVariants.{TxLimit, CommitLimit}
+use Rattle.tx_core.specs.Commits.{is_past_limit}
+use Rattle.session_driver.specs.Lines.{Asked, after_line, stepped, unless_refused}
+use Rattle.session_driver.specs.Progress.{Progress, and_then, stays}
+use Rattle.session_driver.specs.declared.doing.Doing.TheVariants.{Begin, Commit, Call}
+use Rattle.store_calls.specs.StoreCalls.{store_meaning}
+use Rattle.xtc.specs.Book.{after_asked}
+use Rattle.xtc.specs.Documents.{asks, calls, put_asks, reason_in, reason_of, label_in}
+use Rattle.xtc.specs.DocumentsOnTree.{PutOnTree, label_shown}
+use Rattle.xtc.specs.declared.status.Reason.TheVariants as reason
+
+none_barred : (gs : List Request) → barred {C = StoreCall} gs [] ≡ None
+none_barred [] = refl
+none_barred (g ∷ gs) = none_barred gs
+
+or_none : {A : Type 0} (x : Option A) → option_or x None ≡ x
+or_none None = refl
+or_none (Some y) = refl
+
+never_none : {A : Type 0} (x : Option A) (y : A) → option_or x (Some y) ≡ None → ⊥
+never_none None y is = cc
+never_none (Some z) y is = cc
+
+module _ (t : Tree) (n limit : ℕ) where
+  abbrev opened : State StoreCall
+  opened = start t n limit
+
+  -- session 1 has been answered these
+  abbrev alone : List (Answered StoreCall) → List Request → Live StoreCall
+  alone cs gs = record { session = 1; ordinal = 1; calls = cs; grants = gs; waits = None }
+
+  abbrev at_work : List (Answered StoreCall) → List Request → State StoreCall
+  at_work cs gs = record (begun_by opened 1) { live = alone cs gs ∷ []; waiting = [] }
+
+  same_numbers : n ≡ limit → (n + 0 == limit) ≡ true
+  same_numbers is = grind (arith, nat_tests, is)
+
+  other_numbers : n ≢ limit → (n + 0 == limit) ≡ false
+  other_numbers apart = go (n + 0 == limit) refl
+    where
+      go : (b : Bool) → (n + 0 == limit) ≡ b → (n + 0 == limit) ≡ false
+      go false is = is
+      go true is = absurd (apart (let same : n ≡ limit = grind (arith, nat_tests, is) in same))
+
+  -- ---- its lines
+
+  abbrev begun : Progress StoreCall
+  begun = record { state = at_work [] []; book = entry 1 event.Begin (said.Number 1) ∷ []; lines = Said 1 false (answer.Reply (reply.Number 1)) ∷ [] }
+
+  begin_is : (n + 0 == limit) ≡ false → after_line store_meaning opened (asks Begin) ≡ begun
+  begin_is some_left =
+      ap (λ b. unless_refused store_meaning opened 1 Begin (cond b (Some TxLimit) None)) some_left
+      ∙ ap (λ b. stepped store_meaning opened 1 Begin (if b then None else Some (record { state = begun_by opened 1; answer = said.Number 1 }))) some_left
+
+  begin_refused : (n + 0 == limit) ≡ true → after_line store_meaning opened (asks Begin) ≡ record { state = opened; book = []; lines = Said 1 false (answer.Session TxLimit) ∷ [] }
+  begin_refused spent = ap (λ b. unless_refused store_meaning opened 1 Begin (cond b (Some TxLimit) None)) spent
+
+  abbrev answer_of : List (Answered StoreCall) → StoreCall → Reply
+  answer_of cs c = store_meaning.reply c (view store_meaning cs t)
+
+  abbrev called : List (Answered StoreCall) → List Request → StoreCall → Progress StoreCall
+  called cs gs c = record {
+    state = at_work (cs ++ record { call = c; reply = answer_of cs c } ∷ []) (gs ++ granted store_meaning (at_work cs gs) (alone cs gs) c);
+    book = entry 1 (event.Call c) (said.Call (event_answer.Answered (answer_of cs c))) ∷ [];
+    lines = Said 1 false (answer.Reply (answer_of cs c)) ∷ [];
+  }
+
+  call_is : (cs : List (Answered StoreCall)) (gs : List Request) (c : StoreCall) → after_line store_meaning (at_work cs gs) (asks (Call c)) ≡ called cs gs c
+  call_is cs gs c =
+      ap (λ x. stepped store_meaning (at_work cs gs) 1 (Call c) (Some (settled store_meaning (at_work cs gs) (alone cs gs) c x)))
+      (none_barred (asked_for store_meaning (at_work cs gs) (alone cs gs) c))
+
+  abbrev made : List (Answered StoreCall) → List Request → Progress StoreCall
+  made cs gs = record {
+    state = committed store_meaning (at_work cs gs) (alone cs gs);
+    book = entry 1 event.Commit (said.Number (n + 1)) ∷ [];
+    lines = Said 1 false (answer.Reply (reply.Number (n + 1))) ∷ [];
+  }
+
+  commit_is : (cs : List (Answered StoreCall)) (gs : List Request) → is_past_limit store_meaning (at_work cs gs) (alone cs gs) ≡ false → after_line store_meaning (at_work cs gs) (asks Commit) ≡ made cs gs
+  commit_is cs gs some_left = ap (λ b. unless_refused store_meaning (at_work cs gs) 1 Commit (cond b (Some CommitLimit) None)) some_left
+
+  commit_refused : (cs : List (Answered StoreCall)) (gs : List Request) → is_past_limit store_meaning (at_work cs gs) (alone cs gs) ≡ true
+      → after_line store_meaning (at_work cs gs) (asks Commit) ≡ record { state = at_work cs gs; book = []; lines = Said 1 false (answer.Session CommitLimit) ∷ [] }
+  commit_refused cs gs spent = ap (λ b. unless_refused store_meaning (at_work cs gs) 1 Commit (cond b (Some CommitLimit) None)) spent
+
+  -- ---- `put`
+
+  module _ (name : Name) (element : Fragment) where
+    abbrev create : StoreCall
+    create = Dom (Create name (Some element))
+
+    abbrev created : Progress StoreCall
+    created = called [] [] create
+
+    abbrev whole : Progress StoreCall
+    whole = after_asked opened (put_asks name element)
+
+    abbrev last_line : Progress StoreCall
+    last_line = after_line store_meaning created.state (asks Commit)
+
+    -- a transaction is begun, and the tree's own call answered
+    put_is : (n + 0 == limit) ≡ false → whole ≡ and_then begun (and_then created (and_then last_line (stays last_line.state)))
+    put_is some_left =
+        ap (λ (p : Progress StoreCall). and_then p (after_asked p.state (calls (Create name (Some element)) ∷ asks Commit ∷ []))) (begin_is some_left)
+        ∙ ap (λ (p : Progress StoreCall). and_then begun (and_then p (after_asked p.state (asks Commit ∷ [])))) (call_is [] [] create)
+
+    limited : (n + 0 == limit) ≡ true → reason_in whole.lines ≡ Some reason.Limit
+    limited spent = ap (λ (p : Progress StoreCall). reason_in (and_then p (after_asked p.state (calls (Create name (Some element)) ∷ asks Commit ∷ []))).lines) (begin_refused spent)
+
+    refused : (why : Refusal) → (n + 0 == limit) ≡ false → (dom (Create name (Some element)) t).0 ≡ reply.Refused why → reason_in whole.lines ≡ Some (reason.Call why)
+    refused why some_left is =
+        ap (λ (p : Progress StoreCall). reason_in p.lines) (put_is some_left)
+        ∙ ap (λ (r : Reply). option_or (reason_of (Said 1 false (answer.Reply r))) (reason_in (last_line.lines ++ []))) is
+
+    abbrev cs : List (Answered StoreCall)
+    cs = record { call = create; reply = answer_of [] create } ∷ []
+
+    abbrev gs : List Request
+    gs = granted store_meaning (at_work [] []) (alone [] []) create
+
+    -- whatever the commit comes to
+    put_ends : (p : Progress StoreCall) → (n + 0 == limit) ≡ false → last_line ≡ p → whole ≡ and_then begun (and_then created (and_then p (stays p.state)))
+    put_ends p some_left is = put_is some_left ∙ ap (λ (q : Progress StoreCall). and_then begun (and_then created (and_then q (stays q.state)))) is
+
+    record Made : Type 0 where
+      label : label_in whole.lines ≡ label_shown (dom (Create name (Some element)) t).0
+      state : whole.state ≡ committed store_meaning (at_work cs gs) (alone cs gs)
+
+    put_done : reason_in whole.lines ≡ None → Made
+    put_done none = go (n + 0 == limit) refl (is_past_limit store_meaning (at_work cs gs) (alone cs gs)) refl
+      where
+        go : (b : Bool) → (n + 0 == limit) ≡ b → (p : Bool) → is_past_limit store_meaning (at_work cs gs) (alone cs gs) ≡ p → Made
+        go true spent p past = let some_left : Some reason.Limit ≡ None = sym (limited spent) ∙ none in cc
+        go false some_left true past =
+            let said_why : option_or (reason_of (Said 1 false (answer.Reply (answer_of [] create)))) (Some reason.Limit) ≡ None
+            = sym (ap (λ (p : Progress StoreCall). reason_in p.lines) (put_ends _ some_left (commit_refused cs gs past))) ∙ none in
+            absurd (never_none (reason_of (Said 1 false (answer.Reply (answer_of [] create)))) reason.Limit said_why)
+        go false some_left false past =
+            let all = put_ends (made cs gs) some_left (commit_is cs gs past) in
+            record { label = ap (λ (p : Progress StoreCall). label_in p.lines) all ∙ or_none (label_shown (answer_of [] create)); state = ap (λ (p : Progress StoreCall). p.state) all }
+
+    pub put_on_tree : PutOnTree t n limit name element whole
+    put_on_tree = record {
+      limited = λ is. limited (same_numbers is);
+      refused = λ why apart is. refused why (other_numbers apart) is;
+      label = λ none. (put_done none).label;
+      tree = λ none. ap (λ (u : State StoreCall). u.tree) (put_done none).state;
+      number = λ none. ap (λ (u : State StoreCall). u.number) (put_done none).state;
+    }

@@ -1,0 +1,29 @@
+-- What `put` and `get` come to by the calls of the plain tree (docs/MANUAL.md, "Commands").
+use Rattle.std.specs.Prelude.{◌≡◌, ◌≢◌, ℕ, ◌+◌, false, Option, None, Some}
+use Rattle.dewey_labels.specs.Labels.{Label}
+use Rattle.tree_model.specs.DomCalls.{dom}
+use Rattle.tree_model.specs.Names.{Name}
+use Rattle.tree_model.specs.Tree.{Tree}
+use Rattle.tree_model.specs.declared.dom_call.DomCall.TheVariants.{Create}
+use Rattle.tree_model.specs.declared.fragment.Fragment.{Fragment}
+use Rattle.tree_model.specs.declared.refusal.Refusal.{Refusal}
+use Rattle.tree_model.specs.declared.reply.Reply.{Reply}
+use Rattle.tree_model.specs.declared.reply.Reply.TheVariants as reply
+use Rattle.command_lines.specs.declared.command.StoreCall.{StoreCall}
+use Rattle.command_lines.specs.declared.line_reply.LineAnswer.TheVariants as answer
+use Rattle.command_lines.specs.declared.line_reply.LineReply.TheVariants.{Said}
+use Rattle.session_driver.specs.Progress.{Progress}
+use Rattle.xtc.specs.Documents.{reason_in, label_of, label_in}
+use Rattle.xtc.specs.declared.status.Reason.TheVariants.{Call, Limit}
+
+-- the label that a reply of the tree shows
+abbrev pub label_shown : Reply → Option Label
+label_shown r = label_of (Said 1 false (answer.Reply r))
+
+-- `put` does what `create` does on the tree, by one commit: it is refused as that is, and shows its label; and where no number is left for a transaction
+pub record PutOnTree (t : Tree) (n limit : ℕ) (name : Name) (element : Fragment) (put : Progress StoreCall) : Type 0 where
+  pub limited : n ≡ limit → reason_in put.lines ≡ Some Limit
+  pub refused : (why : Refusal) → n ≢ limit → (dom (Create name (Some element)) t).0 ≡ reply.Refused why → reason_in put.lines ≡ Some (Call why)
+  pub label : reason_in put.lines ≡ None → label_in put.lines ≡ label_shown (dom (Create name (Some element)) t).0
+  pub tree : reason_in put.lines ≡ None → put.state.tree ≡ (dom (Create name (Some element)) t).1
+  pub number : reason_in put.lines ≡ None → put.state.number ≡ n + 1

@@ -1,0 +1,15 @@
+// What the commands of one document come to, by the calls of the plain tree.
+ghost use Rattle.std.specs.Prelude.{ℕ};
+ghost use Rattle.tree_model.specs.Names.{Name};
+ghost use Rattle.tree_model.specs.Tree.{Tree};
+ghost use Rattle.tree_model.specs.declared.fragment.Fragment.{Fragment};
+ghost use Rattle.call_contract.specs.States.{start};
+ghost use Rattle.xtc.specs.Book.{after_asked};
+ghost use Rattle.xtc.specs.Documents.{put_asks};
+ghost use Rattle.xtc.specs.DocumentsOnTree.{PutOnTree};
+
+/// What `put` asks does what `create` does on the plain tree, by one commit: it is refused as that is, and shows its label.
+pub fn put_is_create()
+    ensures { (t : Tree) (n limit : ℕ) (name : Name) (element : Fragment)
+        → PutOnTree t n limit name element (after_asked (start t n limit) (put_asks name element)) }
+{}
