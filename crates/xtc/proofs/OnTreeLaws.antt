@@ -1,5 +1,5 @@
 -- One session alone on a store: each of its calls is answered as the tree answers it.
-use Rattle.std.proofs.Common.{◌≡◌, ◌==◌, ℕ, ◌+◌, Bool, true, false, if◌then◌else◌, cond, List, [], ◌∷◌, ◌++◌, refl, sym, ap, subst, ◌∙◌, arith}
+use Rattle.std.proofs.Common.{◌≡◌, ◌==◌, ℕ, ◌+◌, Bool, true, false, if◌then◌else◌, cond, List, [], ◌∷◌, ◌++◌, refl, sym, ap, ◌∙◌, arith}
 use Rattle.std.specs.Prelude.{◌≢◌, Option, None, Some}
 use Rattle.std.specs.Option.{option_or}
 use Rattle.std.proofs.lemmas.Bool.Decides.{nat_tests}
@@ -22,11 +22,10 @@ use Rattle.call_contract.specs.declared.events.EventAnswer.TheVariants as said
 use Rattle.command_lines.specs.declared.command.StoreCall.{StoreCall}
 use Rattle.command_lines.specs.declared.command.StoreCall.TheVariants.{Dom}
 use Rattle.command_lines.specs.declared.line_reply.LineAnswer.TheVariants as answer
-use Rattle.command_lines.specs.declared.line_reply.LineReply.{LineReply}
 use Rattle.command_lines.specs.declared.line_reply.LineReply.TheVariants.{Said}
 use Rattle.command_lines.specs.declared.line_reply.SessionRefusal.TheVariants.{TxLimit, CommitLimit}
 use Rattle.tx_core.specs.Commits.{is_past_limit}
-use Rattle.session_driver.specs.Lines.{Asked, after_line, stepped, unless_refused}
+use Rattle.session_driver.specs.Lines.{after_line, stepped, unless_refused}
 use Rattle.session_driver.specs.Progress.{Progress, and_then, stays}
 use Rattle.session_driver.specs.declared.doing.Doing.TheVariants.{Begin, Commit, Call}
 use Rattle.store_calls.specs.StoreCalls.{store_meaning}
