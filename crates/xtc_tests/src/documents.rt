@@ -1,5 +1,5 @@
 //! The commands of one document: each with its input, over a store, and how it ends.
-use crate::tests::{EMPTY, NEW, NO_DOCUMENT, SIXTY, Script, file_of, run_on, run_words};
+use crate::tests::{CUT, EMPTY, NEW, NO_DOCUMENT, SIXTY, Script, file_of, run_on, run_words};
 use std::alloc::{AllocError, Global};
 use std::test::Fail;
 
@@ -16,10 +16,6 @@ fn whole(bytes: &[u8]) -> Script<'_> {
 /// The sixty bytes, and behind them the commit of document y with the element b.
 const TWO: &[u8] =
     b"\x01XTCJRN1\x01\0\0\0\0\x01\0\0\0\x29\x01\x01\0x\0\0\0\0\x07\x041.1001\x01\x01\x83\x69\0\0\0\0\0\x01\x01\x01\x01\x83\x69\x83\x69\0\0\0\0\0\x02\x02a\x01\0\0\0\0\x02\0\0\0\x29\x01\x01\0y\0\0\0\0\x07\x041.1003\x01\x01\x83\x6b\0\0\0\0\0\x01\x01\x01\x01\x83\x6b\x83\x69\0\0\0\0\0\x02\x02b\0";
-
-/// The sixty bytes without the last twenty.
-const CUT: &[u8] =
-    b"\x01XTCJRN1\x01\0\0\0\0\x01\0\0\0\x29\x01\x01\0x\0\0\0\0\x07\x041.1001\x01\x01\x83\x69\0\0";
 
 /// The words, the input and the journal; the status, the text and the journal then.
 struct Row<'a> {

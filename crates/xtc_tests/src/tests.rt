@@ -198,6 +198,10 @@ const CLOSED: &[u8] =
 pub const MORE: &[u8] =
     b"\x01XTCJRN1\x01\0\0\0\0\x01\0\0\0\x29\x01\x01\0x\0\0\0\0\x07\x041.1001\x01\x01\x83\x69\0\0\0\0\0\x01\x01\x01\x01\x83\x69\x83\x69\0\0\0\0\0\x02\x02a\x01\0\0\0\0\x02\0\0\0\0\0";
 
+/// The sixty bytes without the last twenty.
+pub const CUT: &[u8] =
+    b"\x01XTCJRN1\x01\0\0\0\0\x01\0\0\0\x29\x01\x01\0x\0\0\0\0\x07\x041.1001\x01\x01\x83\x69\0\0";
+
 /// A journal whose one commit puts the catalogue's entry of x and no document.
 pub const NO_DOCUMENT: &[u8] =
     b"\x01XTCJRN1\x01\0\0\0\0\x01\0\0\0\x10\x01\x01\0x\0\0\0\0\x07\x041.1001\0";
@@ -224,97 +228,137 @@ pub fn file_of(bytes: &[u8], fails: u64) -> Stored<'_> {
     Stored { bytes, fails }
 }
 
+/// The script, the files with the call of each that fails; the status, the text and the journal then.
+struct Row<'a> {
+    script: &'a [u8],
+    journal: Stored<'a>,
+    pages: Stored<'a>,
+    status: &'a str,
+    text: &'a [u8],
+    now: &'a [u8],
+}
+
+const ROWS: &[Row<'static>] = &[
+    Row {
+        script: b"",
+        journal: EMPTY,
+        pages: EMPTY,
+        status: "0 ",
+        text: b"",
+        now: NEW,
+    },
+    Row {
+        script: CREATE,
+        journal: EMPTY,
+        pages: EMPTY,
+        status: "0 ",
+        text: CREATED,
+        now: SIXTY,
+    },
+    Row {
+        script: CREATE,
+        journal: Stored {
+            bytes: CLOSED,
+            fails: 0,
+        },
+        pages: EMPTY,
+        status: "0 ",
+        text: CREATED,
+        now: SIXTY,
+    },
+    Row {
+        script: CREATE,
+        journal: Stored {
+            bytes: SIXTY,
+            fails: 0,
+        },
+        pages: EMPTY,
+        status: "0 ",
+        text: IS_THERE,
+        now: MORE,
+    },
+    Row {
+        script: CREATE_LIVE,
+        journal: EMPTY,
+        pages: EMPTY,
+        status: "0 ",
+        text: CREATED_LIVE,
+        now: SIXTY,
+    },
+    Row {
+        script: CREATE,
+        journal: Stored {
+            bytes: CUT,
+            fails: 0,
+        },
+        pages: EMPTY,
+        status: "4 xtc: damaged journal at 8",
+        text: b"",
+        now: CUT,
+    },
+    Row {
+        script: CREATE,
+        journal: EMPTY,
+        pages: Stored {
+            bytes: &[0; 100],
+            fails: 0,
+        },
+        status: "4 xtc: damaged pages at 0",
+        text: b"",
+        now: b"",
+    },
+    Row {
+        script: CREATE,
+        journal: Stored {
+            bytes: NO_DOCUMENT,
+            fails: 0,
+        },
+        pages: EMPTY,
+        status: "4 xtc: damaged tree at 1",
+        text: b"",
+        now: NO_DOCUMENT,
+    },
+    Row {
+        script: CREATE,
+        journal: Stored {
+            bytes: SIXTY,
+            fails: 1,
+        },
+        pages: EMPTY,
+        status: "7 xtc: disk failed",
+        text: b"",
+        now: SIXTY,
+    },
+    Row {
+        script: CREATE,
+        journal: Stored {
+            bytes: SIXTY,
+            fails: 0,
+        },
+        pages: Stored {
+            bytes: b"",
+            fails: 1,
+        },
+        status: "7 xtc: disk failed",
+        text: b"",
+        now: SIXTY,
+    },
+];
+
 #[test]
 fn each_store_answers_its_script_and_has_its_bytes(rt: HostRuntime) -> Result<(), Fail> {
-    let pages = [0; 100];
-    let none: &[u8] = b"";
-    // The script, the files with the call of each that fails; the status, the text and the journal then.
-    for (bytes, journal, pages, status, text, now) in [
-        (none, file_of(b"", 0), file_of(b"", 0), "0 ", none, NEW),
-        (
-            CREATE,
-            file_of(b"", 0),
-            file_of(b"", 0),
-            "0 ",
-            CREATED,
-            SIXTY,
-        ),
-        (
-            CREATE,
-            file_of(CLOSED, 0),
-            file_of(b"", 0),
-            "0 ",
-            CREATED,
-            SIXTY,
-        ),
-        (
-            CREATE,
-            file_of(SIXTY, 0),
-            file_of(b"", 0),
-            "0 ",
-            IS_THERE,
-            MORE,
-        ),
-        (
-            CREATE_LIVE,
-            file_of(b"", 0),
-            file_of(b"", 0),
-            "0 ",
-            CREATED_LIVE,
-            SIXTY,
-        ),
-        (
-            CREATE,
-            file_of(&SIXTY[..40], 0),
-            file_of(b"", 0),
-            "4 xtc: damaged journal at 8",
-            none,
-            &SIXTY[..40],
-        ),
-        (
-            CREATE,
-            file_of(b"", 0),
-            file_of(&pages, 0),
-            "4 xtc: damaged pages at 0",
-            none,
-            none,
-        ),
-        (
-            CREATE,
-            file_of(NO_DOCUMENT, 0),
-            file_of(b"", 0),
-            "4 xtc: damaged tree at 1",
-            none,
-            NO_DOCUMENT,
-        ),
-        (
-            CREATE,
-            file_of(SIXTY, 1),
-            file_of(b"", 0),
-            "7 xtc: disk failed",
-            none,
-            SIXTY,
-        ),
-        (
-            CREATE,
-            file_of(SIXTY, 0),
-            file_of(b"", 1),
-            "7 xtc: disk failed",
-            none,
-            SIXTY,
-        ),
-    ] {
+    for row in ROWS {
         let script = Script {
-            bytes,
+            bytes: row.script,
             piece: 65_536,
             read: 0,
             write: 0,
         };
-        let outcome = run_words(rt.alloc(), "run", script, journal, pages)?;
-        assert_eq!(rt; outcome.told(rt.alloc())?.as_str(), status);
-        assert_eq!(rt; outcome.text.as_slice(), text, "{status}");
-        assert_eq!(rt; outcome.journal.bytes(), now, "{status}");
-        assert_eq!(rt; outcome.pages.bytes(), pages.bytes, "{status}");
+        let outcome = run_words(rt.alloc(), "run", script, row.journal, row.pages)?;
+        assert_eq!(rt; outcome.told(rt.alloc())?.as_str(), row.status);
+        assert_eq!(rt; outcome.text.as_slice(), row.text, "{}", row.status);
+        assert_eq!(rt; outcome.journal.bytes(), row.now, "{}", row.status);
+        assert_eq!(rt; outcome.pages.bytes(), row.pages.bytes, "{}", row.status);
     }
     Ok(())
 }
