@@ -5,15 +5,18 @@ use call_contract::TreeCall;
 use command_lines::{
     BadLine, Command, LineAnswer, LineReply, StoreCall, What, read_line, write_reply,
 };
-use dewey_labels::List;
+use dewey_labels::{List, NoMemory};
 use lock_resources::Request;
-use node_seq::SeqError;
+use node_seq::{Answer, SeqError, UnknownSeq};
 use std::alloc::Global;
 use store_calls::StoreOp;
-use tree_model::{Changes, Reply};
+use tree_model::{Changes, Key, Record, Reply};
 
 /// The most requests that are shown one by one.
 const MOST_SHOWN: usize = 40;
+
+/// How many reads a map that isn't known answers with an entry, before one fails.
+const ANSWERED_READS: usize = 24;
 
 /// The text of what a line's call is answered, with its changes and requests. The changes are made in the map.
 pub fn do_line(alloc: Global, line: &str, map: &mut CountedSeq) -> Result<String, SeqError> {
@@ -57,6 +60,9 @@ fn try_call(
     }
     if !fails_at_each(alloc, op, map, plan_reads, call_reads)? {
         text.push_str("\n  a fault was passed over")?;
+    }
+    if !ends_over_any_map(alloc, op, map.entries())? {
+        text.push_str("\n  a fault that wasn't counted")?;
     }
     map.count_anew(0);
     map.change(alloc, changes)?;
@@ -131,4 +137,38 @@ fn fails_at_each(
         }
     }
     Ok(true)
+}
+
+/// Whether a call ends with a fault exactly where one was counted, over maps that aren't known: each read is answered by the next one of the entries,
+/// from a different one on in each map, whatever it asks, until one fails.
+fn ends_over_any_map(
+    alloc: Global,
+    op: &StoreOp,
+    entries: &[(Key, Record)],
+) -> Result<bool, SeqError> {
+    for start in [0, 1, 2, 5, 11, 23] {
+        let mut seq = any_map(alloc, entries, start)?;
+        let mut requests = List::new(alloc);
+        let is_planned = op.requests(alloc, &mut seq, &mut requests).is_ok();
+        if is_planned != (seq.faults == 0) {
+            return Ok(false);
+        }
+        let mut seq = any_map(alloc, entries, start)?;
+        let mut changes: Changes = List::new(alloc);
+        let is_answered = op.apply(alloc, &mut seq, &mut changes).is_ok();
+        if is_answered != (seq.faults == 0) {
+            return Ok(false);
+        }
+    }
+    Ok(true)
+}
+
+/// A map that isn't known, whose first reads are answered by the entries from this one on, and the next one by a fault.
+fn any_map(alloc: Global, entries: &[(Key, Record)], start: usize) -> Result<UnknownSeq, NoMemory> {
+    let mut answers = Vec::new(alloc);
+    for (key, record) in entries.iter().skip(start).take(ANSWERED_READS) {
+        answers.push(Answer::Found(key.copy(alloc)?, record.copy(alloc)?))?;
+    }
+    answers.push(Answer::Fault)?;
+    Ok(UnknownSeq { answers, faults: 0 })
 }
