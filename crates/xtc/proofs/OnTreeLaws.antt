@@ -4,10 +4,11 @@ use Rattle.std.specs.Prelude.{◌≢◌, Option, None, Some}
 use Rattle.std.specs.Option.{option_or}
 use Rattle.std.proofs.lemmas.Bool.Decides.{nat_tests}
 use Rattle.lock_resources.specs.declared.request.Request.{Request}
+use Rattle.dewey_labels.specs.Labels.{Label}
 use Rattle.tree_model.specs.DomCalls.{dom}
 use Rattle.tree_model.specs.Names.{Name}
 use Rattle.tree_model.specs.Tree.{Tree}
-use Rattle.tree_model.specs.declared.dom_call.DomCall.TheVariants.{Create}
+use Rattle.tree_model.specs.declared.dom_call.DomCall.TheVariants.{Create, Doc, Dump}
 use Rattle.tree_model.specs.declared.fragment.Fragment.{Fragment}
 use Rattle.tree_model.specs.declared.refusal.Refusal.{Refusal}
 use Rattle.tree_model.specs.declared.reply.Reply.{Reply}
@@ -22,16 +23,17 @@ use Rattle.call_contract.specs.declared.events.EventAnswer.TheVariants as said
 use Rattle.command_lines.specs.declared.command.StoreCall.{StoreCall}
 use Rattle.command_lines.specs.declared.command.StoreCall.TheVariants.{Dom}
 use Rattle.command_lines.specs.declared.line_reply.LineAnswer.TheVariants as answer
+use Rattle.command_lines.specs.declared.line_reply.LineReply.{LineReply}
 use Rattle.command_lines.specs.declared.line_reply.LineReply.TheVariants.{Said}
 use Rattle.command_lines.specs.declared.line_reply.SessionRefusal.TheVariants.{TxLimit, CommitLimit}
 use Rattle.tx_core.specs.Commits.{is_past_limit}
-use Rattle.session_driver.specs.Lines.{after_line, stepped, unless_refused}
+use Rattle.session_driver.specs.Lines.{Asked, after_line, stepped, unless_refused}
 use Rattle.session_driver.specs.Progress.{Progress, and_then, stays}
-use Rattle.session_driver.specs.declared.doing.Doing.TheVariants.{Begin, Commit, Call}
+use Rattle.session_driver.specs.declared.doing.Doing.TheVariants.{Begin, Commit, Abort, Call}
 use Rattle.store_calls.specs.StoreCalls.{store_meaning}
 use Rattle.xtc.specs.Book.{after_asked}
-use Rattle.xtc.specs.Documents.{asks, calls, put_asks, reason_in, reason_of, label_in}
-use Rattle.xtc.specs.DocumentsOnTree.{PutOnTree, label_shown}
+use Rattle.xtc.specs.Documents.{asks, calls, put_asks, find_asks, dump_asks, get_asks, reason_in, reason_of, label_in, tree_in}
+use Rattle.xtc.specs.DocumentsOnTree.{PutOnTree, GetOnTree, label_shown}
 use Rattle.xtc.specs.declared.status.Reason.TheVariants as reason
 
 none_barred : (gs : List Request) → barred {C = StoreCall} gs [] ≡ None
@@ -172,4 +174,95 @@ module _ (t : Tree) (n limit : ℕ) where
       label = λ none. (put_done none).label;
       tree = λ none. ap (λ (u : State StoreCall). u.tree) (put_done none).state;
       number = λ none. ap (λ (u : State StoreCall). u.number) (put_done none).state;
+    }
+
+  -- ---- `get`
+
+  module _ (name : Name) where
+    abbrev doc : StoreCall
+    doc = Dom (Doc name)
+
+    abbrev found : Progress StoreCall
+    found = called [] [] doc
+
+    abbrev found_calls : List (Answered StoreCall)
+    found_calls = record { call = doc; reply = answer_of [] doc } ∷ []
+
+    abbrev found_grants : List Request
+    found_grants = granted store_meaning (at_work [] []) (alone [] []) doc
+
+    abbrev got : Progress StoreCall
+    got = after_asked opened (get_asks opened name)
+
+    -- a transaction is begun, and the tree's own call answered, whatever is asked behind it
+    found_is : (n + 0 == limit) ≡ false → (more : List (Asked StoreCall)) → after_asked opened (find_asks name ++ more) ≡ and_then begun (and_then found (after_asked found.state more))
+    found_is some_left more =
+        ap (λ (p : Progress StoreCall). and_then p (after_asked p.state (calls (Doc name) ∷ more))) (begin_is some_left)
+        ∙ ap (λ (p : Progress StoreCall). and_then begun (and_then p (after_asked p.state more))) (call_is [] [] doc)
+
+    -- what is asked behind it goes by the label that was found
+    got_by : (n + 0 == limit) ≡ false → (place : Option Label) → label_shown (answer_of [] doc) ≡ place
+        → got ≡ and_then begun (and_then found (after_asked found.state (dump_asks place)))
+    got_by some_left place is =
+        ap (λ (at : Option Label). after_asked opened (find_asks name ++ dump_asks at))
+        (ap (λ (p : Progress StoreCall). label_in p.lines) (found_is some_left []) ∙ or_none (label_shown (answer_of [] doc)) ∙ is)
+        ∙ found_is some_left (dump_asks place)
+
+    -- no label is found where no transaction can be begun
+    got_nothing : (n + 0 == limit) ≡ true → got ≡ and_then (record { state = opened; book = []; lines = Said 1 false (answer.Session TxLimit) ∷ [] }) (after_asked opened (calls (Doc name) ∷ []))
+    got_nothing spent =
+        ap (λ (at : Option Label). after_asked opened (find_asks name ++ dump_asks at))
+        (ap (λ (p : Progress StoreCall). label_in (and_then p (after_asked p.state (calls (Doc name) ∷ []))).lines) (begin_refused spent))
+        ∙ ap (λ (p : Progress StoreCall). and_then p (after_asked p.state (calls (Doc name) ∷ []))) (begin_refused spent)
+
+    module _ (at : Label) where
+      abbrev dump : StoreCall
+      dump = Dom (Dump at)
+
+      abbrev shown : Progress StoreCall
+      shown = called found_calls found_grants dump
+
+      shown_is : after_asked found.state (dump_asks (Some at)) ≡ and_then shown (after_asked shown.state (asks Abort ∷ []))
+      shown_is = ap (λ (p : Progress StoreCall). and_then p (after_asked p.state (asks Abort ∷ []))) (call_is found_calls found_grants dump)
+
+      abbrev lines_by : Reply → Reply → List LineReply
+      lines_by r q = begun.lines ++ Said 1 false (answer.Reply r) ∷ Said 1 false (answer.Reply q) ∷ Said 1 false (answer.Reply reply.Nothing) ∷ []
+
+      -- the lines, by what the tree's own calls answer
+      got_lines : (q : Reply) → (n + 0 == limit) ≡ false → (dom (Doc name) t).0 ≡ reply.Place (Some at) → (dom (Dump at) t).0 ≡ q → got.lines ≡ lines_by (reply.Place (Some at)) q
+      got_lines q some_left is_found is_shown =
+          ap (λ (p : Progress StoreCall). p.lines) (got_by some_left (Some at) (ap label_shown is_found))
+          ∙ ap (λ (p : Progress StoreCall). begun.lines ++ (found.lines ++ p.lines)) shown_is
+          ∙ ap (λ (r : Reply). lines_by r (answer_of found_calls dump)) is_found
+          ∙ ap (λ (r : Reply). lines_by (reply.Place (Some at)) r) is_shown
+
+    missing : (why : Refusal) → (n + 0 == limit) ≡ false → (dom (Doc name) t).0 ≡ reply.Refused why → reason_in got.lines ≡ Some (reason.Call why)
+    missing why some_left is =
+        ap (λ (p : Progress StoreCall). reason_in p.lines) (got_by some_left None (ap label_shown is))
+        ∙ ap (λ (r : Reply). option_or (reason_of (Said 1 false (answer.Reply r))) None) is
+
+    abbrev IsKept : Progress StoreCall → Type 0
+    IsKept p = (p.state.tree ≡ t) × (p.state.number ≡ n)
+
+    kept : IsKept got
+    kept = go (n + 0 == limit) refl (label_shown (answer_of [] doc)) refl
+      where
+        go : (b : Bool) → (n + 0 == limit) ≡ b → (place : Option Label) → label_shown (answer_of [] doc) ≡ place → IsKept got
+        go true spent place is = (ap (λ (p : Progress StoreCall). p.state.tree) (got_nothing spent), ap (λ (p : Progress StoreCall). p.state.number) (got_nothing spent))
+        go false some_left None is = (ap (λ (p : Progress StoreCall). p.state.tree) (got_by some_left None is), ap (λ (p : Progress StoreCall). p.state.number) (got_by some_left None is))
+        go false some_left (Some at) is =
+            let all = got_by some_left (Some at) is in
+            (ap (λ (p : Progress StoreCall). p.state.tree) all ∙ ap (λ (p : Progress StoreCall). p.state.tree) (shown_is at),
+             ap (λ (p : Progress StoreCall). p.state.number) all ∙ ap (λ (p : Progress StoreCall). p.state.number) (shown_is at))
+
+    pub get_on_tree : GetOnTree t n limit name got
+    get_on_tree = record {
+      limited = λ is. ap (λ (p : Progress StoreCall). reason_in p.lines) (got_nothing (same_numbers is));
+      missing = λ why apart is. missing why (other_numbers apart) is;
+      refused = λ at why apart is_found is_shown. ap reason_in (got_lines at (reply.Refused why) (other_numbers apart) is_found is_shown);
+      dumped = λ at document apart is_found is_shown.
+          let lines = got_lines at (reply.Tree document) (other_numbers apart) is_found is_shown in
+          (ap reason_in lines, ap tree_in lines ∙ or_none document);
+      tree = kept.0;
+      number = kept.1;
     }

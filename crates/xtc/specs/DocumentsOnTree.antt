@@ -4,7 +4,7 @@ use Rattle.dewey_labels.specs.Labels.{Label}
 use Rattle.tree_model.specs.DomCalls.{dom}
 use Rattle.tree_model.specs.Names.{Name}
 use Rattle.tree_model.specs.Tree.{Tree}
-use Rattle.tree_model.specs.declared.dom_call.DomCall.TheVariants.{Create}
+use Rattle.tree_model.specs.declared.dom_call.DomCall.TheVariants.{Create, Doc, Dump}
 use Rattle.tree_model.specs.declared.fragment.Fragment.{Fragment}
 use Rattle.tree_model.specs.declared.refusal.Refusal.{Refusal}
 use Rattle.tree_model.specs.declared.reply.Reply.{Reply}
@@ -13,7 +13,7 @@ use Rattle.command_lines.specs.declared.command.StoreCall.{StoreCall}
 use Rattle.command_lines.specs.declared.line_reply.LineAnswer.TheVariants as answer
 use Rattle.command_lines.specs.declared.line_reply.LineReply.TheVariants.{Said}
 use Rattle.session_driver.specs.Progress.{Progress}
-use Rattle.xtc.specs.Documents.{reason_in, label_of, label_in}
+use Rattle.xtc.specs.Documents.{reason_in, label_of, label_in, tree_in}
 use Rattle.xtc.specs.declared.status.Reason.TheVariants.{Call, Limit}
 
 -- the label that a reply of the tree shows
@@ -27,3 +27,14 @@ pub record PutOnTree (t : Tree) (n limit : ℕ) (name : Name) (element : Fragmen
   pub label : reason_in put.lines ≡ None → label_in put.lines ≡ label_shown (dom (Create name (Some element)) t).0
   pub tree : reason_in put.lines ≡ None → put.state.tree ≡ (dom (Create name (Some element)) t).1
   pub number : reason_in put.lines ≡ None → put.state.number ≡ n + 1
+
+-- `get` answers what `doc` and `dump` answer on the tree, and changes nothing: it is refused as these are, and where no number is left for a transaction
+pub record GetOnTree (t : Tree) (n limit : ℕ) (name : Name) (get : Progress StoreCall) : Type 0 where
+  pub limited : n ≡ limit → reason_in get.lines ≡ Some Limit
+  pub missing : (why : Refusal) → n ≢ limit → (dom (Doc name) t).0 ≡ reply.Refused why → reason_in get.lines ≡ Some (Call why)
+  pub refused : (at : Label) (why : Refusal) → n ≢ limit → (dom (Doc name) t).0 ≡ reply.Place (Some at) → (dom (Dump at) t).0 ≡ reply.Refused why
+    → reason_in get.lines ≡ Some (Call why)
+  pub dumped : (at : Label) (document : Option Fragment) → n ≢ limit → (dom (Doc name) t).0 ≡ reply.Place (Some at) → (dom (Dump at) t).0 ≡ reply.Tree document
+    → (reason_in get.lines ≡ None) × (tree_in get.lines ≡ document)
+  pub tree : get.state.tree ≡ t
+  pub number : get.state.number ≡ n

@@ -5,11 +5,17 @@ ghost use Rattle.tree_model.specs.Tree.{Tree};
 ghost use Rattle.tree_model.specs.declared.fragment.Fragment.{Fragment};
 ghost use Rattle.call_contract.specs.States.{start};
 ghost use Rattle.xtc.specs.Book.{after_asked};
-ghost use Rattle.xtc.specs.Documents.{put_asks};
-ghost use Rattle.xtc.specs.DocumentsOnTree.{PutOnTree};
+ghost use Rattle.xtc.specs.Documents.{put_asks, get_asks};
+ghost use Rattle.xtc.specs.DocumentsOnTree.{PutOnTree, GetOnTree};
 
 /// What `put` asks does what `create` does on the plain tree, by one commit: it is refused as that is, and shows its label.
 pub fn put_is_create()
     ensures { (t : Tree) (n limit : ℕ) (name : Name) (element : Fragment)
         → PutOnTree t n limit name element (after_asked (start t n limit) (put_asks name element)) }
+{}
+
+/// What `get` asks answers what `doc` and `dump` do on the plain tree, and changes nothing.
+pub fn get_is_dump()
+    ensures { (t : Tree) (n limit : ℕ) (name : Name)
+        → GetOnTree t n limit name (after_asked (start t n limit) (get_asks (start t n limit) name)) }
 {}
