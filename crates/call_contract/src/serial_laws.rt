@@ -60,7 +60,8 @@ pub fn commit_replays_others<C: TreeCall>()
 /// What a transaction's calls change leads from the tree that they are made on to the tree that it sees, and one more call's changes are laid over those before.
 /// So it is of each live one on the committed tree.
 pub fn changes_lead_to_what_is_seen<C: TreeCall>()
-    ensures calls { (cs : List (Answered C)) (t : Tree) → IsValidTree t → AllByRecursion (λ a. C.is_valid a.call) cs → LeadTo (changes_of_calls C.meaning cs t) t (view C.meaning cs t) }
+    ensures calls { (cs : List (Answered C)) (t : Tree) → IsValidTree t → AllByRecursion (λ a. C.is_valid a.call) cs
+        → LeadTo (changes_of_calls C.meaning cs t) t (view C.meaning cs t) }
     ensures one_more { (cs : List (Answered C)) (a : Answered C) (t : Tree)
         → changes_of_calls C.meaning (cs ++ a ∷ []) t ≡ laid (changes_of C.meaning a.call (view C.meaning cs t)) (changes_of_calls C.meaning cs t) }
     ensures live { (st : State C) → IsReached C.is_valid C.meaning st → ChangesLead C.meaning st }
@@ -101,9 +102,13 @@ pub fn books_append<C: TreeCall>()
 
 /// What the book of a run tells of its sessions is so in the state after it: who is live, with which answered calls and waits, who waits in which order, and the counts.
 pub fn books_tell_of_sessions<C: TreeCall>()
-    ensures live { (t : Tree) (n limit : ℕ) (b : Book C) → IsRun C.meaning (start t n limit) b → live_after [] b ≡ map without_grants (last C.meaning (start t n limit) b).live }
-    ensures queue { (t : Tree) (n limit : ℕ) (b : Book C) → IsRun C.meaning (start t n limit) b → queue_after [] b ≡ (last C.meaning (start t n limit) b).waiting }
+    ensures live { (t : Tree) (n limit : ℕ) (b : Book C) → IsRun C.meaning (start t n limit) b
+        → live_after [] b ≡ map without_grants (last C.meaning (start t n limit) b).live }
+    ensures queue { (t : Tree) (n limit : ℕ) (b : Book C) → IsRun C.meaning (start t n limit) b
+        → queue_after [] b ≡ (last C.meaning (start t n limit) b).waiting }
     ensures begun { (t : Tree) (n limit : ℕ) (b : Book C) → IsRun C.meaning (start t n limit) b → begins b ≡ (last C.meaning (start t n limit) b).begun }
-    ensures ordinals { (t : Tree) (n limit : ℕ) (b : Book C) (s : ℕ) → IsRun C.meaning (start t n limit) b → begins_of b s ≡ (last C.meaning (start t n limit) b).ordinals s }
-    ensures number { (t : Tree) (n limit : ℕ) (b : Book C) → IsRun C.meaning (start t n limit) b → n + commits_in b ≡ (last C.meaning (start t n limit) b).number }
+    ensures ordinals { (t : Tree) (n limit : ℕ) (b : Book C) (s : ℕ) → IsRun C.meaning (start t n limit) b
+        → begins_of b s ≡ (last C.meaning (start t n limit) b).ordinals s }
+    ensures number { (t : Tree) (n limit : ℕ) (b : Book C) → IsRun C.meaning (start t n limit) b
+        → n + commits_in b ≡ (last C.meaning (start t n limit) b).number }
 {}

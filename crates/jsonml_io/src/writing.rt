@@ -38,7 +38,8 @@ pub fn write_fragment(
     out: &mut List<u8>,
 ) -> Result<(), NoMemory>
     ensures ok { OnOk result (out.new ≡ out.old ++ fragment_text fragment.now) }
-    ensures read_again { OnOk result (IsValid (plain fragment.now) → depth (plain fragment.now) ≤ most_depth → fragment_in (fragment_text fragment.now) ≡ Ok fragment.now) }
+    ensures read_again { OnOk result (IsValid (plain fragment.now) → depth (plain fragment.now) ≤ most_depth
+        → fragment_in (fragment_text fragment.now) ≡ Ok fragment.now) }
     ensures err { OnErr result (out.new ≡ out.old) }
 {
     let text = to_value(alloc, fragment)?.to_vec(alloc)?;

@@ -20,8 +20,10 @@ pub fn joins_bar_as_their_parts()
 /// A table that holds the joins of the owners' grants does so after a grant and after a release.
 #[tactic(auto, using(crate::proofs::Granted::granted_table, crate::proofs::Granted::released_table))]
 pub fn tables_hold_the_joins_of_grants()
-    ensures granted { (t u : Table) (grants : ℕ → List Request) (owner : ℕ) (q : Request) → IsTableOf t grants → IsGranted t owner q u → IsTableOf u (with_grant grants owner q) }
-    ensures released { (t u : Table) (grants : ℕ → List Request) (owner : ℕ) → IsTableOf t grants → IsReleased t owner u → IsTableOf u (without_owner grants owner) }
+    ensures granted { (t u : Table) (grants : ℕ → List Request) (owner : ℕ) (q : Request) → IsTableOf t grants → IsGranted t owner q u
+        → IsTableOf u (with_grant grants owner q) }
+    ensures released { (t u : Table) (grants : ℕ → List Request) (owner : ℕ) → IsTableOf t grants → IsReleased t owner u
+        → IsTableOf u (without_owner grants owner) }
 {}
 
 /// Two resources are the same exactly where they are equal.

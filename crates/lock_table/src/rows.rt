@@ -57,7 +57,8 @@ pub fn put(
     resource: &Resource,
     ask: Ask,
 ) -> Result<(), NoMemory>
-    ensures ok { OnOk result ((o : ℕ) (r : Resource) → held_in rows.new o r ≡ cond ((owner == o) && same_resource resource.now r) (Some ask) (held_in rows.old o r)) }
+    ensures ok { OnOk result ((o : ℕ) (r : Resource) → held_in rows.new o r
+        ≡ cond ((owner == o) && same_resource resource.now r) (Some ask) (held_in rows.old o r)) }
     ensures err { OnErr result ((o : ℕ) (r : Resource) → held_in rows.new o r ≡ held_in rows.old o r) }
 {
     match rows.get_mut(resource) {
@@ -75,7 +76,8 @@ fn put_new(
     ask: Ask,
 ) -> Result<(), NoMemory>
     requires { (o : ℕ) → held_in rows.old o resource.now ≡ None }
-    ensures ok { OnOk result ((o : ℕ) (r : Resource) → held_in rows.new o r ≡ cond ((owner == o) && same_resource resource.now r) (Some ask) (held_in rows.old o r)) }
+    ensures ok { OnOk result ((o : ℕ) (r : Resource) → held_in rows.new o r
+        ≡ cond ((owner == o) && same_resource resource.now r) (Some ask) (held_in rows.old o r)) }
     ensures err { OnErr result ((o : ℕ) (r : Resource) → held_in rows.new o r ≡ held_in rows.old o r) }
 {
     let row = row_of(alloc, owner, ask)?;
@@ -129,7 +131,8 @@ pub fn barring_at(
     ask: Ask,
 ) -> Result<List<u32>, NoMemory>
     ensures rising { IfOk result (λ holders. IsStrictlySortedBy nat_cmp holders) }
-    ensures each { IfOk result (λ holders. (o : ℕ) → list_any (λ h. h == o) holders ≡ (not (o == owner) && is_barred_by ask (held_in rows.now o resource.now))) }
+    ensures each { IfOk result (λ holders. (o : ℕ) → list_any (λ h. h == o) holders
+        ≡ (not (o == owner) && is_barred_by ask (held_in rows.now o resource.now))) }
 {
     match rows.get(resource) {
         Some(row) => barring_in(alloc, row, owner, ask),

@@ -23,7 +23,8 @@ pub fn what_is_written_is_read_again()
 /// A body of changes that is written is read again, and what is read as one was written so.
 pub fn bodies_are_read_again()
     ensures again { (cs : List Change) → AllByRecursion IsWritableChange cs → changes_of (changes_bytes cs) ≡ Some cs }
-    ensures written { (bytes : List ℕ) (cs : List Change) → IsBytes bytes → changes_of bytes ≡ Some cs → (bytes ≡ changes_bytes cs) × AllByRecursion IsWritableChange cs }
+    ensures written { (bytes : List ℕ) (cs : List Change) → IsBytes bytes → changes_of bytes ≡ Some cs → (bytes ≡ changes_bytes cs)
+        × AllByRecursion IsWritableChange cs }
 {}
 
 /// Keys sort as their bytes do: the order of `Key` is the one that the first differing byte decides.

@@ -47,7 +47,8 @@ impl<'a, S: Source> Source for Bounded<'a, S> {
         ensures bytes { IfOk result (λ count. Gave (S.left self.old.inner.now) (S.left self.new.inner.now) (take count buf.new)) }
         ensures count { IfOk result (λ count. S.given self.new.inner.now ≡ S.given self.old.inner.now + count) }
         ensures end { result ≡ Ok 0 → IfSome (S.left self.old.inner.now) (λ bytes. bytes ≡ []) }
-        ensures asked { MatchResult result (λ _. S.asked self.new.inner.now ≡ S.given self.old.inner.now) (λ _. S.asked self.new.inner.now ≡ S.asked self.old.inner.now) }
+        ensures asked { MatchResult result (λ _. S.asked self.new.inner.now ≡ S.given self.old.inner.now)
+            (λ _. S.asked self.new.inner.now ≡ S.asked self.old.inner.now) }
         ensures err { OnErr result ((S.left self.new.inner.now ≡ S.left self.old.inner.now) × (S.given self.new.inner.now ≡ S.given self.old.inner.now)) }
         ensures cause { HasCause failed (self.old.faults) (self.new.faults) result }
 

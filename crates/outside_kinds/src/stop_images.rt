@@ -115,7 +115,8 @@ impl MemDisk {
     /// A sync that the crash comes in has made sure of nothing yet. After the last call it is a crash of now.
     pub fn stop_images(&self, alloc: Global, call: u64) -> Result<List<List<u8>>, NoMemory>
         ensures images { IfOk result (λ images. All (IsImage (stopped_in call self.now).now) images) }
-        ensures among { IfOk result (λ images. images ≡ torn (behind_sync (until call self.now.noted) (until call self.now.noted)) (stopped_in call self.now).now.synced) }
+        ensures among { IfOk result (λ images. images ≡ torn (behind_sync (until call self.now.noted) (until call self.now.noted))
+            (stopped_in call self.now).now.synced) }
         ensures moment { Since (stopped_in call self.now) (history_of self.now) }
     {
         let calls = calls_until(self.noted(), call);

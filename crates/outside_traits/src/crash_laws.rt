@@ -21,7 +21,8 @@ pub fn no_other_image_inside_an_open_range()
 
 /// In an open range a crash may leave any bytes, whatever else it leaves, and of a file that grew any length from that at the last sync on.
 pub fn any_bytes_and_any_length_of_what_is_open()
-    ensures bytes { (at : ℕ) (bytes file : List ℕ) (s : DiskState) → IsBytes bytes → IsOpen s at (length bytes) → IsImage s file → IsImage s (put_at_or_past at bytes file) }
+    ensures bytes { (at : ℕ) (bytes file : List ℕ) (s : DiskState) → IsBytes bytes → IsOpen s at (length bytes) → IsImage s file
+        → IsImage s (put_at_or_past at bytes file) }
     ensures length { (n : ℕ) (file : List ℕ) (s : DiskState) → length s.synced ≤ n → IsImage s file → IsImage s (take n file) }
 {}
 

@@ -44,7 +44,8 @@ pub fn drive<C: TreeCall + Drop, B: NodeRead + Drop>(
     ensures prepared { IfOk result (λ p. IfSome p (λ prepared. (core.new ≡ record core.old { prepared = Some session }) × IsPrepared core.old prepared)) }
     ensures room { IfOk result (λ p. IfSome p (λ _. (out.new.items ≡ out.old.items) × (length out.new.items < vec_capacity out.new))) }
     ensures begun { OnErr result ((t : Tree) → StandsFor (B.contents core.old.opening) t
-        → HasBegun core.old core.new out.old.items out.new.items (after_line C.meaning (state_from C.meaning t core.old) (record { session = session; doing = doing }))) }
+        → HasBegun core.old core.new out.old.items out.new.items
+        (after_line C.meaning (state_from C.meaning t core.old) (record { session = session; doing = doing }))) }
     ensures later { HasGrown core.old core.new out.old.items out.new.items }
     ensures commit { IfOk result (λ p. IfSome p (λ _. doing ≡ asked.Commit)) }
     ensures refused { IfSome (refused_by_book core.old session doing) (λ why. IfOk result (λ p.
@@ -76,10 +77,14 @@ pub fn finish_commit<C: TreeCall + Drop, B: NodeRead + Drop>(
     requires prepared { core.old.prepared ≡ Some session }
     requires commit { IsPrepared core.old prepared }
     requires room { length out.old.items < vec_capacity out.old }
-    ensures line { IfOk result (λ _. (t : Tree) → StandsFor (B.contents core.old.opening) t → refusal C.meaning (state_from C.meaning t core.old) session asked.Commit ≡ None
-        → HasDone core.old core.new out.old.items out.new.items (after_line C.meaning (state_from C.meaning t core.old) (record { session = session; doing = asked.Commit }))) }
-    ensures begun { OnErr result ((t : Tree) → StandsFor (B.contents core.old.opening) t → refusal C.meaning (state_from C.meaning t core.old) session asked.Commit ≡ None
-        → HasBegun core.old core.new out.old.items out.new.items (after_line C.meaning (state_from C.meaning t core.old) (record { session = session; doing = asked.Commit }))) }
+    ensures line { IfOk result (λ _. (t : Tree) → StandsFor (B.contents core.old.opening) t
+        → refusal C.meaning (state_from C.meaning t core.old) session asked.Commit ≡ None
+        → HasDone core.old core.new out.old.items out.new.items
+        (after_line C.meaning (state_from C.meaning t core.old) (record { session = session; doing = asked.Commit }))) }
+    ensures begun { OnErr result ((t : Tree) → StandsFor (B.contents core.old.opening) t
+        → refusal C.meaning (state_from C.meaning t core.old) session asked.Commit ≡ None
+        → HasBegun core.old core.new out.old.items out.new.items
+        (after_line C.meaning (state_from C.meaning t core.old) (record { session = session; doing = asked.Commit }))) }
     ensures made { HasGrown (with_entry core.old (entry_of session event.Commit (said.Number (next_number core.old)))) core.new
         (out.old.items ++ Said session false (line_answer.Reply (reply.Number (next_number core.old))) ∷ []) out.new.items }
     ensures session { (why : SessionError) → result ≢ Err (call_error.Session why) }
@@ -106,11 +111,14 @@ fn begin<C: TreeCall + Drop, B: NodeRead + Drop>(
 ) -> Result<(), CallError>
     requires room { length out.old.items < vec_capacity out.old }
     ensures line { IfOk result (λ _. (t : Tree) → StandsFor (B.contents core.old.opening) t
-        → HasDone core.old core.new out.old.items out.new.items (after_line C.meaning (state_from C.meaning t core.old) (record { session = session; doing = asked.Begin }))) }
+        → HasDone core.old core.new out.old.items out.new.items
+        (after_line C.meaning (state_from C.meaning t core.old) (record { session = session; doing = asked.Begin }))) }
     ensures begun { OnErr result ((t : Tree) → StandsFor (B.contents core.old.opening) t
-        → HasBegun core.old core.new out.old.items out.new.items (after_line C.meaning (state_from C.meaning t core.old) (record { session = session; doing = asked.Begin }))) }
+        → HasBegun core.old core.new out.old.items out.new.items
+        (after_line C.meaning (state_from C.meaning t core.old) (record { session = session; doing = asked.Begin }))) }
     ensures later { HasGrown core.old core.new out.old.items out.new.items }
-    ensures refused { IfSome (refused_by_book core.old session (asked.Begin)) (λ why. IfOk result (λ _. (core.new ≡ core.old) × (out.new.items ≡ out.old.items ++ Said session false (line_answer.Session why) ∷ []))) }
+    ensures refused { IfSome (refused_by_book core.old session (asked.Begin)) (λ why. IfOk result (λ _. (core.new ≡ core.old)
+        × (out.new.items ≡ out.old.items ++ Said session false (line_answer.Session why) ∷ []))) }
     ensures session { (why : SessionError) → result ≢ Err (call_error.Session why) }
     ensures unchanged { B.unchanged core.old.base core.new.base }
     ensures cause { HasCause call_error.DiskFault (B.count core.old.base) (B.count core.new.base) result }
@@ -140,11 +148,14 @@ fn abort<C: TreeCall + Drop, B: NodeRead + Drop>(
 ) -> Result<(), CallError>
     requires room { length out.old.items < vec_capacity out.old }
     ensures line { IfOk result (λ _. (t : Tree) → StandsFor (B.contents core.old.opening) t
-        → HasDone core.old core.new out.old.items out.new.items (after_line C.meaning (state_from C.meaning t core.old) (record { session = session; doing = asked.Abort }))) }
+        → HasDone core.old core.new out.old.items out.new.items
+        (after_line C.meaning (state_from C.meaning t core.old) (record { session = session; doing = asked.Abort }))) }
     ensures begun { OnErr result ((t : Tree) → StandsFor (B.contents core.old.opening) t
-        → HasBegun core.old core.new out.old.items out.new.items (after_line C.meaning (state_from C.meaning t core.old) (record { session = session; doing = asked.Abort }))) }
+        → HasBegun core.old core.new out.old.items out.new.items
+        (after_line C.meaning (state_from C.meaning t core.old) (record { session = session; doing = asked.Abort }))) }
     ensures later { HasGrown core.old core.new out.old.items out.new.items }
-    ensures refused { IfSome (refused_by_book core.old session (asked.Abort)) (λ why. IfOk result (λ _. (core.new ≡ core.old) × (out.new.items ≡ out.old.items ++ Said session false (line_answer.Session why) ∷ []))) }
+    ensures refused { IfSome (refused_by_book core.old session (asked.Abort)) (λ why. IfOk result (λ _. (core.new ≡ core.old)
+        × (out.new.items ≡ out.old.items ++ Said session false (line_answer.Session why) ∷ []))) }
     ensures session { (why : SessionError) → result ≢ Err (call_error.Session why) }
     ensures unchanged { B.unchanged core.old.base core.new.base }
     ensures cause { HasCause call_error.DiskFault (B.count core.old.base) (B.count core.new.base) result }
@@ -170,11 +181,14 @@ fn attempt<C: TreeCall + Drop, B: NodeRead + Drop>(
 ) -> Result<(), CallError>
     requires room { length out.old.items < vec_capacity out.old }
     ensures line { IfOk result (λ _. (t : Tree) → StandsFor (B.contents core.old.opening) t
-        → HasDone core.old core.new out.old.items out.new.items (after_line C.meaning (state_from C.meaning t core.old) (record { session = session; doing = asked.Call call }))) }
+        → HasDone core.old core.new out.old.items out.new.items
+        (after_line C.meaning (state_from C.meaning t core.old) (record { session = session; doing = asked.Call call }))) }
     ensures begun { OnErr result ((t : Tree) → StandsFor (B.contents core.old.opening) t
-        → HasBegun core.old core.new out.old.items out.new.items (after_line C.meaning (state_from C.meaning t core.old) (record { session = session; doing = asked.Call call }))) }
+        → HasBegun core.old core.new out.old.items out.new.items
+        (after_line C.meaning (state_from C.meaning t core.old) (record { session = session; doing = asked.Call call }))) }
     ensures later { HasGrown core.old core.new out.old.items out.new.items }
-    ensures refused { IfSome (refused_by_book core.old session (asked.Call call)) (λ why. IfOk result (λ _. (core.new ≡ core.old) × (out.new.items ≡ out.old.items ++ Said session false (line_answer.Session why) ∷ []))) }
+    ensures refused { IfSome (refused_by_book core.old session (asked.Call call)) (λ why. IfOk result (λ _. (core.new ≡ core.old)
+        × (out.new.items ≡ out.old.items ++ Said session false (line_answer.Session why) ∷ []))) }
     ensures session { (why : SessionError) → result ≢ Err (call_error.Session why) }
     ensures unchanged { B.unchanged core.old.base core.new.base }
     ensures cause { HasCause call_error.DiskFault (B.count core.old.base) (B.count core.new.base) result }
@@ -222,13 +236,15 @@ fn prepare<C: TreeCall + Drop, B: NodeRead + Drop>(
 ) -> Result<Option<Prepared>, CallError>
     requires room { length out.old.items < vec_capacity out.old }
     ensures line { IfOk result (λ p. (t : Tree) → StandsFor (B.contents core.old.opening) t
-        → IsDriven C.meaning (state_from C.meaning t core.old) (record { session = session; doing = asked.Commit }) core.old core.new out.old.items out.new.items p) }
+        → IsDriven C.meaning (state_from C.meaning t core.old)
+        (record { session = session; doing = asked.Commit }) core.old core.new out.old.items out.new.items p) }
     ensures prepared { IfOk result (λ p. IfSome p (λ prepared. (core.new ≡ record core.old { prepared = Some session }) × IsPrepared core.old prepared)) }
     ensures room { IfOk result (λ p. IfSome p (λ _. (out.new.items ≡ out.old.items) × (length out.new.items < vec_capacity out.new))) }
     ensures err { OnErr result (out.new.items ≡ out.old.items) }
     ensures same { core.new ≡ record core.old { prepared = core.new.prepared } }
     ensures later { HasGrown core.old core.new out.old.items out.new.items }
-    ensures refused { IfSome (refused_by_book core.old session asked.Commit) (λ why. IfOk result (λ p. (p ≡ None) × (out.new.items ≡ out.old.items ++ Said session false (line_answer.Session why) ∷ []))) }
+    ensures refused { IfSome (refused_by_book core.old session asked.Commit) (λ why. IfOk result (λ p. (p ≡ None)
+        × (out.new.items ≡ out.old.items ++ Said session false (line_answer.Session why) ∷ []))) }
     ensures memory { IfErr result (λ e. e ≡ call_error.NoMemory) }
 {
     let prepared = core.prepare(alloc, session);

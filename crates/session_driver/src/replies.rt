@@ -32,7 +32,8 @@ pub(crate) fn refuse(
     error: SessionError,
 ) -> Result<(), CallError>
     requires room { length out.old.items < vec_capacity out.old }
-    ensures ok { IfOk result (λ _. (why : SessionRefusal) × (shown_why error ≡ Some why) × (out.new.items ≡ out.old.items ++ Said session false (Session why) ∷ [])) }
+    ensures ok { IfOk result (λ _. (why : SessionRefusal) × (shown_why error ≡ Some why)
+        × (out.new.items ≡ out.old.items ++ Said session false (Session why) ∷ [])) }
     ensures err { OnErr result ((shown_why error ≡ None) × (out.new.items ≡ out.old.items)) }
     ensures memory { IfErr result (λ e. e ≡ call_error.NoMemory) }
 {

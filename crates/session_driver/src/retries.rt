@@ -26,8 +26,10 @@ pub(crate) fn retry_all<C: TreeCall + Drop, B: NodeRead + Drop>(
     core: &mut Core<C, B>,
     out: &mut Vec<LineReply>,
 ) -> Result<(), CallError>
-    ensures ok { IfOk result (λ _. (t : Tree) → StandsFor (B.contents core.old.opening) t → HasDone core.old core.new out.old.items out.new.items (retries C.meaning (state_from C.meaning t core.old))) }
-    ensures err { OnErr result ((t : Tree) → StandsFor (B.contents core.old.opening) t → HasBegun core.old core.new out.old.items out.new.items (retries C.meaning (state_from C.meaning t core.old))) }
+    ensures ok { IfOk result (λ _. (t : Tree) → StandsFor (B.contents core.old.opening) t
+        → HasDone core.old core.new out.old.items out.new.items (retries C.meaning (state_from C.meaning t core.old))) }
+    ensures err { OnErr result ((t : Tree) → StandsFor (B.contents core.old.opening) t
+        → HasBegun core.old core.new out.old.items out.new.items (retries C.meaning (state_from C.meaning t core.old))) }
     ensures later { HasGrown core.old core.new out.old.items out.new.items }
     ensures session { (why : SessionError) → result ≢ Err (call_error.Session why) }
     ensures unchanged { B.unchanged core.old.base core.new.base }

@@ -14,7 +14,8 @@ pub fn after_release()
 
 /// Nor after a request is asked by an owner that doesn't wait, whatever is answered.
 pub fn after_ask()
-    ensures answered { (g : Graph) (t u : Table) (owner : ℕ) (q : Request) (asked : Asked) → waits g owner ≡ None → Answers t owner q u asked → HasNoCycle g t → HasNoCycle g u }
+    ensures answered { (g : Graph) (t u : Table) (owner : ℕ) (q : Request) (asked : Asked) → waits g owner ≡ None → Answers t owner q u asked → HasNoCycle g t
+        → HasNoCycle g u }
     ensures err { (g : Graph) (t u : Table) → IsSame t u → HasNoCycle g t → HasNoCycle g u }
 {}
 
