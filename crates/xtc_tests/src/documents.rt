@@ -1,212 +1,220 @@
 //! The commands of one document: each with its input, over a store, and how it ends.
-use crate::tests::{CUT, EMPTY, NEW, NO_DOCUMENT, SIXTY, Script, file_of, run_on, run_words};
-use std::alloc::{AllocError, Global};
+use crate::tests::{CUT, Case, NEW, NO_DOCUMENT, PLAIN, SIXTY, run_cases};
 use std::test::Fail;
-
-/// An input that comes in pieces, with no fault.
-fn whole(bytes: &[u8]) -> Script<'_> {
-    Script {
-        bytes,
-        piece: 7,
-        read: 0,
-        write: 0,
-    }
-}
 
 /// The sixty bytes, and behind them the commit of document y with the element b.
 const TWO: &[u8] =
     b"\x01XTCJRN1\x01\0\0\0\0\x01\0\0\0\x29\x01\x01\0x\0\0\0\0\x07\x041.1001\x01\x01\x83\x69\0\0\0\0\0\x01\x01\x01\x01\x83\x69\x83\x69\0\0\0\0\0\x02\x02a\x01\0\0\0\0\x02\0\0\0\x29\x01\x01\0y\0\0\0\0\x07\x041.1003\x01\x01\x83\x6b\0\0\0\0\0\x01\x01\x01\x01\x83\x6b\x83\x69\0\0\0\0\0\x02\x02b\0";
 
-/// The words, the input and the journal; the status, the text and the journal then.
-struct Row<'a> {
-    words: &'a str,
-    input: &'a str,
-    journal: &'a [u8],
-    status: &'a str,
-    text: &'a str,
-    now: &'a [u8],
-}
+/// A run of `put x` on a new store, whose input comes in small pieces.
+const PUT: Case<'static> = Case {
+    words: "put x",
+    piece: 7,
+    journal: NEW,
+    now: Some(NEW),
+    ..PLAIN
+};
 
-const ROWS: &[Row<'static>] = &[
+/// A run of `get x` where the document is there.
+const GET: Case<'static> = Case {
+    words: "get x",
+    piece: 7,
+    journal: SIXTY,
+    text: "[\"a\"]\n",
+    now: Some(SIXTY),
+    ..PLAIN
+};
+
+const ENDS: &[Case<'static>] = &[
     // A document is created and read, once.
-    Row {
-        words: "put x",
-        input: "[\"a\"]",
-        journal: NEW,
-        status: "0 ",
+    Case {
+        input: r#"["a"]"#,
         text: "\"1.1001\"\n",
-        now: SIXTY,
+        now: Some(SIXTY),
+        ..PUT
     },
-    Row {
-        words: "put x",
+    Case {
         input: " [ \"a\" ]\r\n",
         journal: b"",
-        status: "0 ",
         text: "\"1.1001\"\n",
-        now: SIXTY,
+        now: Some(SIXTY),
+        ..PUT
     },
-    Row {
-        words: "get x",
-        input: "",
+    Case { ..GET },
+    Case {
+        input: r#"["b"]"#,
         journal: SIXTY,
-        status: "0 ",
-        text: "[\"a\"]\n",
-        now: SIXTY,
+        status: "10 Call(DocumentExists)",
+        now: Some(SIXTY),
+        ..PUT
     },
-    Row {
-        words: "put x",
-        input: "[\"b\"]",
-        journal: SIXTY,
-        status: "10 DocumentExists",
-        text: "",
-        now: SIXTY,
-    },
-    Row {
+    Case {
         words: "put y",
-        input: "[\"b\"]",
+        input: r#"["b"]"#,
         journal: SIXTY,
-        status: "0 ",
         text: "\"1.1003\"\n",
-        now: TWO,
+        now: Some(TWO),
+        ..PUT
     },
-    Row {
+    Case {
         words: "get y",
-        input: "",
         journal: TWO,
-        status: "0 ",
         text: "[\"b\"]\n",
-        now: TWO,
+        now: Some(TWO),
+        ..GET
     },
     // No document has the name, or may have it.
-    Row {
+    Case {
         words: "get y",
-        input: "",
-        journal: SIXTY,
-        status: "10 code 8",
+        status: "10 Call(Dom(8))",
         text: "",
-        now: SIXTY,
+        ..GET
     },
-    Row {
-        words: "get x",
-        input: "",
+    Case {
         journal: b"",
-        status: "10 code 8",
+        status: "10 Call(Dom(8))",
         text: "",
-        now: NEW,
+        now: Some(NEW),
+        ..GET
     },
-    Row {
+    Case {
         words: "get ",
-        input: "",
-        journal: SIXTY,
-        status: "10 code 8",
+        status: "10 Call(Dom(8))",
         text: "",
-        now: SIXTY,
+        ..GET
     },
-    Row {
+    Case {
         words: "put 1a",
-        input: "[\"a\"]",
+        input: r#"["a"]"#,
         journal: SIXTY,
-        status: "10 code 5",
-        text: "",
-        now: SIXTY,
+        status: "10 Call(Dom(5))",
+        now: Some(SIXTY),
+        ..PUT
     },
-    Row {
+    Case {
         words: "put ",
-        input: "[\"a\"]",
-        journal: b"",
-        status: "10 code 5",
-        text: "",
-        now: NEW,
+        input: r#"["a"]"#,
+        status: "10 Call(Dom(5))",
+        ..PUT
     },
     // The input isn't an element in JsonML.
-    Row {
-        words: "put x",
+    Case {
         input: "[1]",
-        journal: b"",
         status: "9 NotJsonMl at /0",
-        text: "",
-        now: NEW,
+        ..PUT
     },
-    Row {
-        words: "put x",
-        input: "\"t\"",
-        journal: SIXTY,
+    Case {
+        input: r#""t""#,
         status: "9 NotJsonMl at ",
-        text: "",
-        now: SIXTY,
+        ..PUT
     },
-    Row {
-        words: "put x",
+    Case {
         input: "[",
-        journal: SIXTY,
         status: "9 NotJson at ",
-        text: "",
-        now: SIXTY,
+        ..PUT
     },
-    Row {
-        words: "put x",
+    Case {
         input: "",
-        journal: NEW,
         status: "9 NotJson at ",
-        text: "",
-        now: NEW,
+        ..PUT
     },
-    Row {
-        words: "put x",
-        input: "[\"a\",{\"n\":1.5}]",
-        journal: NEW,
+    Case {
+        input: r#"["a",{"n":1.5}]"#,
         status: "9 Fraction at /1/n",
-        text: "",
-        now: NEW,
+        ..PUT
     },
-    Row {
-        words: "put x",
-        input: "[\"a\",[\"1a\"]]",
-        journal: NEW,
+    Case {
+        input: r#"["a",["1a"]]"#,
         status: "9 BadName at /1/0",
-        text: "",
-        now: NEW,
+        ..PUT
     },
-    Row {
-        words: "put x",
-        input: "[\"a\",{\"n\":[]}]",
-        journal: NEW,
+    Case {
+        input: r#"["a",{"n":[]}]"#,
         status: "9 NotJsonMl at /1/n",
-        text: "",
-        now: NEW,
+        ..PUT
+    },
+    Case {
+        input: r#"@100 ["a",@["a"]@100 ]@"#,
+        status: "9 TooDeep at @100 /1@",
+        ..PUT
+    },
+    Case {
+        input: r#"@100 ["a",@"t"@100 ]@"#,
+        status: "9 TooDeep at @100 /1@",
+        ..PUT
+    },
+    Case {
+        input: r#"["a","@1048577 x@"]"#,
+        status: "9 TextLimit at /1",
+        ..PUT
+    },
+    Case {
+        input: r#"["a",{"k":"@1048577 x@"}]"#,
+        status: "9 TextLimit at /1/k",
+        ..PUT
     },
     // The words are tested first, then the store is opened, then the input is read.
-    Row {
+    Case {
         words: "put -x",
         input: "[",
         journal: CUT,
         status: "2 xtc: usage",
-        text: "",
-        now: CUT,
+        now: Some(CUT),
+        ..PUT
     },
-    Row {
-        words: "put x",
+    Case {
         input: "[",
         journal: CUT,
         status: "4 xtc: damaged journal at 8",
-        text: "",
-        now: CUT,
+        now: Some(CUT),
+        ..PUT
     },
-    Row {
-        words: "get x",
-        input: "",
+    Case {
         journal: CUT,
         status: "4 xtc: damaged journal at 8",
         text: "",
-        now: CUT,
+        now: Some(CUT),
+        ..GET
     },
-    Row {
-        words: "get x",
-        input: "",
+    Case {
         journal: NO_DOCUMENT,
         status: "4 xtc: damaged tree at 1",
         text: "",
-        now: NO_DOCUMENT,
+        now: Some(NO_DOCUMENT),
+        ..GET
+    },
+    // An input of `put` may have 16,777,216 bytes, and a line 1,048,576; the first line here has 22 and its end.
+    Case {
+        input: r#"["a"]"#,
+        bytes: 16_777_216,
+        piece: 65_536,
+        text: "\"1.1001\"\n",
+        now: Some(SIXTY),
+        ..PUT
+    },
+    Case {
+        input: r#"["a"]"#,
+        bytes: 16_777_217,
+        piece: 65_536,
+        status: "3 xtc: line 0 is too long",
+        ..PUT
+    },
+    Case {
+        words: "run",
+        input: "{\"s\":1,\"call\":\"begin\"}\n[]",
+        bytes: 1_048_599,
+        piece: 65_536,
+        text: "{\"ok\":1,\"s\":1}\n{\"bad\":\"object\",\"line\":2}\n",
+        ..PUT
+    },
+    Case {
+        words: "run",
+        input: "{\"s\":1,\"call\":\"begin\"}\n[]",
+        bytes: 1_048_600,
+        piece: 65_536,
+        status: "3 xtc: line 2 is too long",
+        text: "{\"ok\":1,\"s\":1}\n",
+        ..PUT
     },
 ];
 
@@ -214,293 +222,157 @@ const ROWS: &[Row<'static>] = &[
 fn each_command_of_a_document_ends_and_writes_as_its_input_and_store_have_it(
     rt: HostRuntime,
 ) -> Result<(), Fail> {
-    let alloc = rt.alloc();
-    for row in ROWS {
-        let outcome = run_words(
-            alloc,
-            row.words,
-            whole(row.input.as_bytes()),
-            file_of(row.journal, 0),
-            EMPTY,
-        )?;
-        assert_eq!(rt;
-            outcome.told(alloc)?.as_str(),
-            row.status,
-            "{} {}",
-            row.words,
-            row.input
-        );
-        assert_eq!(rt;
-            outcome.text.as_slice(),
-            row.text.as_bytes(),
-            "{} {}",
-            row.words,
-            row.input
-        );
-        assert_eq!(rt;
-            outcome.journal.bytes(),
-            row.now,
-            "{} {}",
-            row.words,
-            row.input
-        );
-        assert_eq!(rt;
-            outcome.pages.bytes().len(),
-            0,
-            "{} {}",
-            row.words,
-            row.input
-        );
-    }
-    Ok(())
+    run_cases(&rt, rt.alloc(), ENDS)
 }
 
-/// An input of `put`, and what `get` writes then.
-const PAIRS: &[(&str, &str)] = &[
-    (
-        "[\"a\",{\"n\":5,\"t\":true,\"z\":null},\"\",[\"b\"],\"x\",\"y\"]",
-        "[\"a\",{\"n\":\"5\",\"t\":\"true\",\"z\":\"\"},\"\",[\"b\"],\"x\",\"y\"]\n",
-    ),
-    ("[\"a\", \"\\u00e9\\n\"]", "[\"a\",\"\u{e9}\\n\"]\n"),
+const ROUND_TRIPS: &[Case<'static>] = &[
+    Case {
+        input: r#"["a",{"n":5,"t":true,"z":null},"",["b"],"x","y"]"#,
+        text: "\"1.1001\"\n",
+        now: None,
+        then: "0 [\"a\",{\"n\":\"5\",\"t\":\"true\",\"z\":\"\"},\"\",[\"b\"],\"x\",\"y\"]\n",
+        ..PUT
+    },
+    Case {
+        input: r#"["a", "\u00e9\n"]"#,
+        text: "\"1.1001\"\n",
+        now: None,
+        then: "0 [\"a\",\"\u{e9}\\n\"]\n",
+        ..PUT
+    },
+    // The deepest level and the longest text.
+    Case {
+        input: r#"@99 ["a",@["a"]@99 ]@"#,
+        text: "\"1.1001\"\n",
+        now: None,
+        then: "0 @99 [\"a\",@[\"a\"]@99 ]@\n",
+        ..PUT
+    },
+    Case {
+        input: r#"["a","@1048576 x@"]"#,
+        text: "\"1.1001\"\n",
+        now: None,
+        then: "0 [\"a\",\"@1048576 x@\"]\n",
+        ..PUT
+    },
+    // A document without an element.
+    Case {
+        words: "run",
+        input: "{\"s\":1,\"call\":\"begin\"}\n{\"s\":1,\"call\":\"create\",\"name\":\"x\",\"tree\":null}\n{\"s\":1,\"call\":\"commit\"}\n",
+        text: "{\"ok\":1,\"s\":1}\n{\"ok\":\"1.1001\",\"s\":1}\n{\"ok\":1,\"s\":1}\n",
+        now: None,
+        then: "0 null\n",
+        ..PUT
+    },
 ];
 
 #[test]
 fn what_is_put_is_what_is_got(rt: HostRuntime) -> Result<(), Fail> {
-    let alloc = rt.alloc();
-    for (put, got) in PAIRS {
-        let made = run_words(alloc, "put d", whole(put.as_bytes()), EMPTY, EMPTY)?;
-        assert_eq!(rt; made.text.as_slice(), b"\"1.1001\"\n".as_slice(), "{put}");
-        let store = file_of(made.journal.bytes(), 0);
-        let read = run_words(alloc, "get d", whole(b""), store, EMPTY)?;
-        assert_eq!(rt; read.text.as_slice(), got.as_bytes(), "{put}");
-    }
-    // A document without an element.
-    let script =
-        b"{\"s\":1,\"call\":\"begin\"}\n{\"s\":1,\"call\":\"create\",\"name\":\"d\",\"tree\":null}\n{\"s\":1,\"call\":\"commit\"}\n";
-    let made = run_on(alloc, script, EMPTY)?;
-    let store = file_of(made.journal.bytes(), 0);
-    let read = run_words(alloc, "get d", whole(b""), store, EMPTY)?;
-    assert_eq!(rt; read.text.as_slice(), b"null\n".as_slice());
-    Ok(())
+    run_cases(&rt, rt.alloc(), ROUND_TRIPS)
 }
 
-/// The words, the journal with the call that fails behind those of the opening, the read and the write that fail;
-/// the status, how many bytes of the text are written, and whether the document is found then, where that is sure.
-struct Faulty<'a> {
-    words: &'a str,
-    journal: &'a [u8],
-    call: u64,
-    read: u64,
-    write: u64,
-    status: &'a str,
-    written: usize,
-    found: Option<bool>,
-}
-
-const FAULTY: &[Faulty<'static>] = &[
-    Faulty {
-        words: "put x",
-        journal: NEW,
-        call: 0,
+const FAULTS: &[Case<'static>] = &[
+    Case {
+        input: r#"["a"]"#,
+        piece: 4,
         read: 1,
-        write: 0,
         status: "5 xtc: input failed",
-        written: 0,
-        found: Some(false),
+        ..PUT
     },
-    Faulty {
-        words: "put x",
-        journal: NEW,
-        call: 0,
+    Case {
+        input: r#"["a"]"#,
+        piece: 4,
         read: 2,
-        write: 0,
         status: "5 xtc: input failed",
-        written: 0,
-        found: Some(false),
+        ..PUT
     },
-    Faulty {
-        words: "put x",
-        journal: NEW,
-        call: 0,
-        read: 0,
+    Case {
+        input: r#"["a"]"#,
+        piece: 4,
         write: 1,
         status: "6 xtc: output failed",
-        written: 0,
-        found: Some(true),
+        now: Some(SIXTY),
+        ..PUT
     },
-    Faulty {
-        words: "put x",
-        journal: NEW,
-        call: 0,
-        read: 0,
+    Case {
+        input: r#"["a"]"#,
+        piece: 4,
+        write: 2,
+        status: "6 xtc: output failed",
+        text: "\"1.1001\"\n",
+        written: 4,
+        now: Some(SIXTY),
+        ..PUT
+    },
+    // Whether the document is there is sure of the first two calls of its commit alone.
+    Case {
+        input: r#"["a"]"#,
+        later_call: 1,
+        status: "7 xtc: disk failed",
+        now: None,
+        then: "10 Call(Dom(8))",
+        ..PUT
+    },
+    Case {
+        input: r#"["a"]"#,
+        later_call: 2,
+        status: "7 xtc: disk failed",
+        now: None,
+        then: "10 Call(Dom(8))",
+        ..PUT
+    },
+    Case {
+        input: r#"["a"]"#,
+        later_call: 3,
+        status: "7 xtc: disk failed",
+        now: None,
+        ..PUT
+    },
+    Case {
+        input: r#"["a"]"#,
+        later_call: 4,
+        status: "7 xtc: disk failed",
+        now: None,
+        ..PUT
+    },
+    // `get` reads no input and commits nothing.
+    Case { read: 1, ..GET },
+    Case {
+        piece: 4,
+        write: 1,
+        status: "6 xtc: output failed",
+        text: "",
+        ..GET
+    },
+    Case {
+        piece: 4,
         write: 2,
         status: "6 xtc: output failed",
         written: 4,
-        found: Some(true),
+        ..GET
     },
-    Faulty {
-        words: "put x",
-        journal: NEW,
-        call: 1,
-        read: 0,
-        write: 0,
-        status: "7 xtc: disk failed",
-        written: 0,
-        found: Some(false),
+    Case {
+        later_call: 1,
+        ..GET
     },
-    Faulty {
-        words: "put x",
-        journal: NEW,
-        call: 2,
-        read: 0,
-        write: 0,
-        status: "7 xtc: disk failed",
-        written: 0,
-        found: Some(false),
-    },
-    Faulty {
-        words: "put x",
-        journal: NEW,
-        call: 3,
-        read: 0,
-        write: 0,
-        status: "7 xtc: disk failed",
-        written: 0,
-        found: None,
-    },
-    Faulty {
-        words: "put x",
-        journal: NEW,
-        call: 4,
-        read: 0,
-        write: 0,
-        status: "7 xtc: disk failed",
-        written: 0,
-        found: None,
-    },
-    Faulty {
-        words: "get x",
+    // A fault of the opening.
+    Case {
+        input: r#"["a"]"#,
         journal: SIXTY,
-        call: 0,
-        read: 1,
-        write: 0,
-        status: "0 ",
-        written: 6,
-        found: Some(true),
+        journal_call: 1,
+        status: "7 xtc: disk failed",
+        now: Some(SIXTY),
+        ..PUT
     },
-    Faulty {
-        words: "get x",
-        journal: SIXTY,
-        call: 0,
-        read: 0,
-        write: 1,
-        status: "6 xtc: output failed",
-        written: 0,
-        found: Some(true),
-    },
-    Faulty {
-        words: "get x",
-        journal: SIXTY,
-        call: 0,
-        read: 0,
-        write: 2,
-        status: "6 xtc: output failed",
-        written: 4,
-        found: Some(true),
-    },
-    Faulty {
-        words: "get x",
-        journal: SIXTY,
-        call: 1,
-        read: 0,
-        write: 0,
-        status: "0 ",
-        written: 6,
-        found: Some(true),
+    Case {
+        journal_call: 1,
+        status: "7 xtc: disk failed",
+        text: "",
+        ..GET
     },
 ];
 
-/// What a run behind it finds of the document x.
-fn finds(alloc: Global, journal: &[u8]) -> Result<bool, AllocError> {
-    let again = run_words(alloc, "get x", whole(b""), file_of(journal, 0), EMPTY)?;
-    Ok(again.status.number() == 0)
-}
-
 #[test]
 fn a_fault_ends_a_command_and_what_was_committed_stays(rt: HostRuntime) -> Result<(), Fail> {
-    let alloc = rt.alloc();
-    let opening = run_words(alloc, "get x", whole(b""), file_of(SIXTY, 0), EMPTY)?
-        .journal
-        .calls();
-    for row in FAULTY {
-        let input = Script {
-            bytes: b"[\"a\"]",
-            piece: 4,
-            read: row.read,
-            write: row.write,
-        };
-        let fails = if row.call == 0 {
-            0
-        } else {
-            opening.saturating_add(row.call)
-        };
-        let outcome = run_words(alloc, row.words, input, file_of(row.journal, fails), EMPTY)?;
-        assert_eq!(rt;
-            outcome.told(alloc)?.as_str(),
-            row.status,
-            "{} {}",
-            row.words,
-            row.call
-        );
-        assert_eq!(rt;
-            outcome.text.len(),
-            row.written,
-            "{} {}",
-            row.words,
-            row.call
-        );
-        let is_found = finds(alloc, outcome.journal.bytes())?;
-        assert_eq!(rt;
-            is_found,
-            row.found.unwrap_or(is_found),
-            "{} {}",
-            row.words,
-            row.call
-        );
-    }
-    Ok(())
-}
-
-#[test]
-fn a_fault_of_the_opening_ends_a_command(rt: HostRuntime) -> Result<(), Fail> {
-    let alloc = rt.alloc();
-    for words in ["put x", "get x"] {
-        let outcome = run_words(alloc, words, whole(b"[\"a\"]"), file_of(SIXTY, 1), EMPTY)?;
-        assert_eq!(rt; outcome.status.number(), 7, "{words}");
-        assert_eq!(rt; outcome.text.len(), 0, "{words}");
-    }
-    Ok(())
-}
-
-#[test]
-fn an_input_past_its_limit_is_line_0(rt: HostRuntime) -> Result<(), Fail> {
-    let alloc = rt.alloc();
-    // An input may have 16,777,216 bytes, blanks among them.
-    for (bytes, status, journal) in [
-        (16_777_216, "0 ", SIXTY),
-        (16_777_217, "3 xtc: line 0 is too long", NEW),
-    ] {
-        let mut input = Vec::from_slice(alloc, b"[\"a\"]")?;
-        input.resize(bytes, b' ')?;
-        let script = Script {
-            bytes: input.as_slice(),
-            piece: 65_536,
-            read: 0,
-            write: 0,
-        };
-        let outcome = run_words(alloc, "put x", script, EMPTY, EMPTY)?;
-        assert_eq!(rt; outcome.told(alloc)?.as_str(), status);
-        assert_eq!(rt; outcome.journal.bytes(), journal);
-    }
-    Ok(())
+    run_cases(&rt, rt.alloc(), FAULTS)
 }

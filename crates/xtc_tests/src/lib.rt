@@ -1,5 +1,5 @@
 //! Runs of the whole program over memory: what no clause of `xtc` says by itself, as its status, text and bytes for one script or store after the other.
-//! Each expected value is from docs/MANUAL.md, "Replies" and "Statuses", or docs/FILE_FORMAT.md.
+//! Each expected value is from docs/MANUAL.md, "Replies" and "Statuses", docs/PROFILE.md or docs/FILE_FORMAT.md.
 #![tactic(auto)]
 
 #[cfg(test)]

@@ -1,11 +1,11 @@
 //! Scripts of several sessions through the whole program: the replies to each line, and what the store that is left answers then.
-use crate::tests::{Outcome, file_of, run_on};
+use crate::tests::{Case, Outcome, PLAIN, run_case};
 use std::alloc::{AllocError, Global};
 use std::process::Abort;
 use std::test::Fail;
 
 /// The tree of the document x, a script on a store of it alone, and one on the store that this leaves.
-/// The replies to a line stand below it, set in. Session 1 has committed as number 1 and begun once.
+/// The replies to a line stand below it, set in, and all is as `written_out` has it. Session 1 has committed as number 1 and begun once.
 struct Row<'a> {
     tree: &'a str,
     script: &'a str,
@@ -220,35 +220,34 @@ const ROWS: &[Row<'static>] = &[
 /// A script, and the text that it is answered.
 #[derive(Drop)]
 struct Script {
-    lines: Vec<u8>,
-    text: Vec<u8>,
+    lines: String,
+    text: String,
 }
 
 impl Script {
     fn new(alloc: Global) -> Script {
         Script {
-            lines: Vec::new(alloc),
-            text: Vec::new(alloc),
+            lines: String::new(alloc),
+            text: String::new(alloc),
         }
     }
 
     /// Adds lines, with their replies below them.
     fn add(&mut self, rows: &str) -> Result<(), AllocError> {
         for row in rows.lines() {
-            let Some(reply) = row.strip_prefix(" ") else {
-                add_line(&mut self.lines, row)?;
-                continue;
-            };
-            add_line(&mut self.text, reply)?;
+            match row.strip_prefix(" ") {
+                Some(reply) => add_line(&mut self.text, reply)?,
+                None => add_line(&mut self.lines, row)?,
+            }
         }
         Ok(())
     }
 }
 
-fn add_line(out: &mut Vec<u8>, line: &str) -> Result<(), AllocError> {
+fn add_line(out: &mut String, line: &str) -> Result<(), AllocError> {
     if !line.is_empty() {
-        out.extend_from_slice(line.as_bytes())?;
-        out.push(b'\n')?;
+        out.push_str(line)?;
+        out.push('\n')?;
     }
     Ok(())
 }
@@ -259,7 +258,7 @@ const BEGUN: &str = r#"
 "#;
 
 /// A line as far as to its tree.
-const CREATE: &[u8] = br#"{"s":1,"call":"create","name":"x","tree":"#;
+const CREATE: &str = r#"{"s":1,"call":"create","name":"x","tree":"#;
 
 /// The rest of it, and what comes behind.
 const CREATED: &str = r#"}
@@ -272,35 +271,62 @@ const CREATED: &str = r#"}
 fn with_document(alloc: Global, tree: &str) -> Result<Script, AllocError> {
     let mut script = Script::new(alloc);
     script.add(BEGUN)?;
-    script.lines.extend_from_slice(CREATE)?;
-    script.lines.extend_from_slice(tree.as_bytes())?;
+    script.lines.push_str(CREATE)?;
+    script.lines.push_str(tree)?;
     script.add(CREATED)?;
     Ok(script)
 }
 
 /// Runs a script over a journal of these bytes: it has the replies that stand below its lines.
-fn run_answered(
+fn run_answered<'x>(
     rt: &impl Abort,
     alloc: Global,
-    script: &Script,
-    journal: &[u8],
+    script: &'x Script,
+    journal: &'x [u8],
 ) -> Result<Outcome, Fail> {
-    let outcome = run_on(alloc, &script.lines, file_of(journal, 0))?;
-    assert_eq!(rt; outcome.status.number(), 0);
-    assert_eq!(rt; outcome.text.as_slice(), script.text.as_slice());
-    Ok(outcome)
+    let case = Case {
+        input: &script.lines,
+        text: &script.text,
+        journal,
+        ..PLAIN
+    };
+    run_case(rt, alloc, &case)
+}
+
+/// Runs a script on a store with a document of the tree alone.
+fn run_first(rt: &impl Abort, alloc: Global, tree: &str, script: &str) -> Result<Outcome, Fail> {
+    let mut first = with_document(alloc, tree)?;
+    first.add(script)?;
+    run_answered(rt, alloc, &first, b"")
+}
+
+/// Runs a script on the store that a run has left.
+fn run_then(rt: &impl Abort, alloc: Global, left: &Outcome, script: &str) -> Result<(), Fail> {
+    let mut then = Script::new(alloc);
+    then.add(script)?;
+    let _found = run_answered(rt, alloc, &then, left.journal.bytes())?;
+    Ok(())
+}
+
+fn run_both(
+    rt: &impl Abort,
+    alloc: Global,
+    tree: &str,
+    script: &str,
+    then: &str,
+) -> Result<(), Fail> {
+    let left = run_first(rt, alloc, tree, script)?;
+    run_then(rt, alloc, &left, then)
+}
+
+fn run_rows(rt: &impl Abort, alloc: Global) -> Result<(), Fail> {
+    for row in ROWS {
+        run_both(rt, alloc, row.tree, row.script, row.then)?;
+    }
+    Ok(())
 }
 
 #[test]
 fn each_line_of_several_sessions_is_answered(rt: HostRuntime) -> Result<(), Fail> {
-    let alloc = rt.alloc();
-    for row in ROWS {
-        let mut script = with_document(alloc, row.tree)?;
-        script.add(row.script)?;
-        let left = run_answered(&rt, alloc, &script, b"")?;
-        let mut then = Script::new(alloc);
-        then.add(row.then)?;
-        let _found = run_answered(&rt, alloc, &then, left.journal.bytes())?;
-    }
-    Ok(())
+    run_rows(&rt, rt.alloc())
 }

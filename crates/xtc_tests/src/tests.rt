@@ -2,9 +2,58 @@ use crate::in_pieces::InPieces;
 use dewey_labels::List;
 use outside_kinds::{MemDisk, MemSink, MemSource};
 use std::alloc::{AllocError, Global};
+use std::process::Abort;
 use std::test::Fail;
-use tree_model::Refusal;
-use xtc::{Finish, Reason, Status, xtc};
+use xtc::{Finish, Status, xtc};
+
+/// A run of the program: its words, its input and files, what fails of them, and what comes of it. Its texts are as `written_out` has them.
+#[derive(Clone, Copy)]
+pub struct Case<'a> {
+    pub words: &'a str,
+    pub input: &'a str,
+    /// How many bytes the input has with the blanks behind it, 0 where there are none.
+    pub bytes: usize,
+    /// The most bytes that come and go at a time.
+    pub piece: usize,
+    pub journal: &'a [u8],
+    pub pages: &'a [u8],
+    /// The read, the write and the call of each file that fail, 0 where none does.
+    pub read: u64,
+    pub write: u64,
+    pub journal_call: u64,
+    pub pages_call: u64,
+    /// The same of the journal, counted behind the calls of its opening.
+    pub later_call: u64,
+    /// The status by its number, with all that it tells.
+    pub status: &'a str,
+    pub text: &'a str,
+    /// How many bytes of the text are written at most.
+    pub written: usize,
+    /// What the journal has then, where that is sure.
+    pub now: Option<&'a [u8]>,
+    /// The status and the text of `get x` on the store that is left, where it is asked.
+    pub then: &'a str,
+}
+
+/// An empty script on an empty store.
+pub const PLAIN: Case<'static> = Case {
+    words: "run",
+    input: "",
+    bytes: 0,
+    piece: 65_536,
+    journal: b"",
+    pages: b"",
+    read: 0,
+    write: 0,
+    journal_call: 0,
+    pages_call: 0,
+    later_call: 0,
+    status: "0 ",
+    text: "",
+    written: 1_000_000_000,
+    now: None,
+    then: "",
+};
 
 /// What a run of the program gives.
 #[derive(Drop)]
@@ -16,169 +65,185 @@ pub struct Outcome {
 }
 
 impl Outcome {
-    /// The status by its number, with all that it tells.
-    pub fn told(&self, alloc: Global) -> Result<String, AllocError> {
+    fn ended(&self, alloc: Global) -> Result<String, AllocError> {
         match &self.status {
             Status::NotJsonMl(why) => format!(in alloc; "9 {} at {}", why.name(), why.path()),
-            Status::DocumentRefused(Reason::Call(Refusal::Dom(code))) => {
-                format!(in alloc; "10 code {code}")
-            }
-            Status::DocumentRefused(Reason::Call(why)) => format!(in alloc; "10 {why:?}"),
-            Status::DocumentRefused(Reason::Limit) => format!(in alloc; "10 limit"),
+            Status::DocumentRefused(why) => format!(in alloc; "10 {why:?}"),
             other => format!(in alloc; "{} {other}", other.number()),
         }
     }
+
+    /// How the run ended, and then what it has written.
+    fn told(&self, alloc: Global) -> Result<Vec<u8>, AllocError> {
+        let mut told = Vec::from_slice(alloc, self.ended(alloc)?.as_bytes())?;
+        told.extend_from_slice(&self.text)?;
+        Ok(told)
+    }
 }
 
-/// A file and the one call of its disk that fails, 0 where none does.
-#[derive(Clone, Copy)]
-pub struct Stored<'a> {
-    bytes: &'a [u8],
-    fails: u64,
-}
-
-/// An input: the most bytes that come and go at a time, and the one read and the one write that fail, 0 where none does.
-#[derive(Clone, Copy)]
-pub struct Script<'a> {
-    pub bytes: &'a [u8],
-    pub piece: usize,
-    pub read: u64,
-    pub write: u64,
+/// A text as it is meant: `@COUNT PIECE@` stands for so many of the piece.
+pub fn written_out(alloc: Global, text: &str) -> Result<String, AllocError> {
+    let mut out = String::new(alloc);
+    for (place, part) in text.split('@').enumerate() {
+        if place % 2 == 0 {
+            out.push_str(part)?;
+            continue;
+        }
+        let Some((count, piece)) = part.split_once(' ') else {
+            continue;
+        };
+        for _time in 0..count.parse::<u32>().unwrap_or(0) {
+            out.push_str(piece)?;
+        }
+    }
+    Ok(out)
 }
 
 fn listed<T: Copy>(alloc: Global, items: &[T]) -> Result<List<T>, AllocError> {
     Ok(List::from_vec(Vec::from_slice(alloc, items)?))
 }
 
-fn disk(alloc: Global, stored: Stored<'_>) -> Result<MemDisk, AllocError> {
-    Ok(MemDisk::new(
-        listed(alloc, stored.bytes)?,
-        listed(alloc, &[stored.fails])?,
-    ))
+fn disk(alloc: Global, bytes: &[u8], fails: u64) -> Result<MemDisk, AllocError> {
+    Ok(MemDisk::new(listed(alloc, bytes)?, listed(alloc, &[fails])?))
 }
 
-/// Runs the program with these words.
-pub fn run_words(
-    alloc: Global,
-    words: &str,
-    script: Script<'_>,
-    journal: Stored<'_>,
-    pages: Stored<'_>,
-) -> Result<Outcome, AllocError> {
-    let mut list = Vec::new(alloc);
-    for word in words.split(' ') {
-        list.push(String::from_str(alloc, word)?)?;
+fn source_of(alloc: Global, case: &Case<'_>) -> Result<MemSource, AllocError> {
+    let text = written_out(alloc, case.input)?;
+    let mut bytes = Vec::from_slice(alloc, text.as_bytes())?;
+    if case.bytes > 0 {
+        bytes.resize(case.bytes, b' ')?;
     }
-    let mut source = InPieces {
-        inner: MemSource::new(listed(alloc, script.bytes)?, listed(alloc, &[script.read])?),
-        piece: script.piece,
-    };
-    let mut sink = InPieces {
-        inner: MemSink::new(alloc, listed(alloc, &[script.write])?),
-        piece: script.piece,
-    };
-    let Finish {
-        status,
-        journal,
-        pages,
-    } = xtc(
-        alloc,
-        &list,
-        &mut source,
-        &mut sink,
-        disk(alloc, journal)?,
-        disk(alloc, pages)?,
-    );
+    Ok(MemSource::new(List::from_vec(bytes), listed(alloc, &[case.read])?))
+}
+
+fn words_of(alloc: Global, text: &str) -> Result<Vec<String>, AllocError> {
+    let mut words = Vec::new(alloc);
+    for word in text.split(' ') {
+        words.push(String::from_str(alloc, word)?)?;
+    }
+    Ok(words)
+}
+
+/// Runs the program, where this call of the journal's file fails.
+fn run(alloc: Global, case: &Case<'_>, call: u64) -> Result<Outcome, AllocError> {
+    let words = words_of(alloc, case.words)?;
+    let journal = disk(alloc, case.journal, call)?;
+    let pages = disk(alloc, case.pages, case.pages_call)?;
+    let inner = source_of(alloc, case)?;
+    let piece = case.piece;
+    let mut source = InPieces { inner, piece };
+    let inner = MemSink::new(alloc, listed(alloc, &[case.write])?);
+    let mut sink = InPieces { inner, piece };
+    let finish = xtc(alloc, &words, &mut source, &mut sink, journal, pages);
+    outcome_of(alloc, finish, &sink.inner)
+}
+
+fn outcome_of(
+    alloc: Global,
+    finish: Finish<MemDisk, MemDisk>,
+    sink: &MemSink,
+) -> Result<Outcome, AllocError> {
+    let text = Vec::from_slice(alloc, sink.bytes())?;
     Ok(Outcome {
-        status,
-        text: Vec::from_slice(alloc, sink.inner.bytes())?,
-        journal,
-        pages,
+        status: finish.status,
+        text,
+        journal: finish.journal,
+        pages: finish.pages,
     })
 }
 
-/// Runs a script over a journal and an empty page file.
-pub fn run_on(alloc: Global, bytes: &[u8], journal: Stored<'_>) -> Result<Outcome, AllocError> {
-    let script = Script {
-        bytes,
-        piece: 65_536,
-        read: 0,
-        write: 0,
+/// Runs the script on a journal, one call of which fails, 0 where none does.
+fn run_on<'x>(
+    alloc: Global,
+    input: &'x str,
+    journal: &'x [u8],
+    call: u64,
+) -> Result<Outcome, AllocError> {
+    let case = Case {
+        input,
+        journal,
+        ..PLAIN
     };
-    run_words(alloc, "run", script, journal, EMPTY)
+    run(alloc, &case, call)
 }
 
-pub const EMPTY: Stored<'static> = Stored {
-    bytes: b"",
-    fails: 0,
-};
+/// The number of a call behind those of the journal's opening, 0 where none is meant.
+fn behind_opening(alloc: Global, journal: &[u8], call: u64) -> Result<u64, AllocError> {
+    if call == 0 {
+        return Ok(0);
+    }
+    let opened = run_on(alloc, "", journal, 0)?;
+    Ok(opened.journal.calls().saturating_add(call))
+}
 
-/// Six lines that end and one that ends with the input.
-const SCRIPT: &[u8] =
-    b"{\"s\":1,\"call\":\"begin\"}\n \t\r\n{\"call\":\"begin\",\"s\":1}\r\n{\"s\":1,\"call\":\"commit\"}\n{\"s\":1,\"call\":\"commit\"}\n{\"s\":2,\"call\":\"begin\"}\nnope";
+fn agree(rt: &impl Abort, case: &Case<'_>, found: &[u8], wanted: &[u8]) {
+    assert_eq!(rt; found, wanted, "{}: {}", case.words, case.status);
+}
 
-const TEXT: &[u8] =
-    b"{\"ok\":1,\"s\":1}\n{\"err\":{\"name\":\"InTransaction\"},\"s\":1}\n{\"ok\":1,\"s\":1}\n{\"err\":{\"name\":\"NoTransaction\"},\"s\":1}\n{\"ok\":1,\"s\":2}\n{\"bad\":\"json\",\"line\":7}\n";
+/// How the run ends, and then what it writes.
+fn wanted(alloc: Global, case: &Case<'_>) -> Result<Vec<u8>, AllocError> {
+    let mut wanted = written_out(alloc, case.status)?.into_bytes();
+    let text = written_out(alloc, case.text)?;
+    let written = case.written.min(text.len());
+    wanted.extend_from_slice(&text.as_bytes()[..written])?;
+    Ok(wanted)
+}
 
-#[test]
-fn each_piece_fault_and_write_leaves_its_prefix_of_the_text(rt: HostRuntime) -> Result<(), Fail> {
-    // Lines end after 23, 27, 51, 75, 99 and 122 bytes.
-    // The bytes of a piece, the read and the write that fail, the status, how many bytes are written.
-    for (piece, read, write, status, written) in [
-        (1, 0, 0, "0 ", 147),
-        (24, 0, 0, "0 ", 147),
-        (4096, 0, 0, "0 ", 147),
-        (30, 1, 0, "5 xtc: input failed", 0),
-        (30, 2, 0, "5 xtc: input failed", 15),
-        (30, 3, 0, "5 xtc: input failed", 54),
-        (30, 4, 0, "5 xtc: input failed", 69),
-        (30, 6, 0, "5 xtc: input failed", 123),
-        (30, 0, 1, "6 xtc: output failed", 0),
-        (30, 0, 2, "6 xtc: output failed", 15),
-        (30, 0, 3, "6 xtc: output failed", 45),
-        (30, 0, 8, "6 xtc: output failed", 123),
-    ] {
-        let script = Script {
-            bytes: SCRIPT,
-            piece,
-            read,
-            write,
-        };
-        let outcome = run_words(rt.alloc(), "run", script, EMPTY, EMPTY)?;
-        assert_eq!(rt;
-            outcome.told(rt.alloc())?.as_str(),
-            status,
-            "read {read}, write {write}"
-        );
-        assert_eq!(rt;
-            Some(outcome.text.as_slice()),
-            TEXT.get(..written),
-            "read {read}, write {write}"
-        );
+/// Runs the program: it ends, writes and leaves what the case says.
+pub fn run_case(rt: &impl Abort, alloc: Global, case: &Case<'_>) -> Result<Outcome, Fail> {
+    let later = behind_opening(alloc, case.journal, case.later_call)?;
+    let outcome = run(alloc, case, case.journal_call.max(later))?;
+    agree_on_end(rt, alloc, case, &outcome)?;
+    Ok(outcome)
+}
+
+fn agree_on_end(
+    rt: &impl Abort,
+    alloc: Global,
+    case: &Case<'_>,
+    outcome: &Outcome,
+) -> Result<(), AllocError> {
+    agree(rt, case, &outcome.told(alloc)?, &wanted(alloc, case)?);
+    agree(rt, case, outcome.pages.bytes(), case.pages);
+    if let Some(now) = case.now {
+        agree(rt, case, outcome.journal.bytes(), now);
     }
     Ok(())
 }
 
-#[test]
-fn other_words_are_no_command_and_touch_no_disk(rt: HostRuntime) -> Result<(), Fail> {
-    let script = Script {
-        bytes: SCRIPT,
-        piece: 100,
-        read: 0,
-        write: 0,
+/// What `get x` tells of a store.
+fn got(alloc: Global, journal: &[u8]) -> Result<Vec<u8>, AllocError> {
+    let case = Case {
+        words: "get x",
+        journal,
+        ..PLAIN
     };
-    for words in [
-        "", "Run", "run x", "--help", "run ", " run", "put", "get", "Put x", "put x y", "get x y",
-        "put -", "put -x", "get --", "x put", "-- run",
-    ] {
-        let outcome = run_words(rt.alloc(), words, script, EMPTY, EMPTY)?;
-        assert_eq!(rt; outcome.status.number(), 2, "{words}");
-        assert_eq!(rt; outcome.text.len(), 0, "{words}");
-        assert_eq!(rt;
-            (outcome.journal.calls(), outcome.pages.calls()),
-            (0, 0),
-            "{words}"
-        );
+    run(alloc, &case, 0)?.told(alloc)
+}
+
+fn run_and_get(rt: &impl Abort, alloc: Global, case: &Case<'_>) -> Result<(), Fail> {
+    let outcome = run_case(rt, alloc, case)?;
+    if !case.then.is_empty() {
+        agree_then(rt, alloc, case, outcome.journal.bytes())?;
+    }
+    Ok(())
+}
+
+fn agree_then(
+    rt: &impl Abort,
+    alloc: Global,
+    case: &Case<'_>,
+    journal: &[u8],
+) -> Result<(), AllocError> {
+    let told = got(alloc, journal)?;
+    let then = written_out(alloc, case.then)?;
+    agree(rt, case, &told, then.as_bytes());
+    Ok(())
+}
+
+pub fn run_cases(rt: &impl Abort, alloc: Global, cases: &[Case<'_>]) -> Result<(), Fail> {
+    for case in cases {
+        run_and_get(rt, alloc, case)?;
     }
     Ok(())
 }
@@ -195,7 +260,7 @@ const CLOSED: &[u8] =
     b"\x01XTCJRN1\x4d\0\0\0\0\x01\0\0\0\x29\x01\x01\0x\0\0\0\0\x07\x041.1001\x01\x01\x83\x69\0\0\0\0\0\x01\x01\x01\x01\x83\x69\x83\x69\0\0\0\0\0\x02\x02a\0";
 
 /// The sixty bytes, and behind them a commit without changes, with number 2.
-pub const MORE: &[u8] =
+const MORE: &[u8] =
     b"\x01XTCJRN1\x01\0\0\0\0\x01\0\0\0\x29\x01\x01\0x\0\0\0\0\x07\x041.1001\x01\x01\x83\x69\0\0\0\0\0\x01\x01\x01\x01\x83\x69\x83\x69\0\0\0\0\0\x02\x02a\x01\0\0\0\0\x02\0\0\0\0\0";
 
 /// The sixty bytes without the last twenty.
@@ -207,169 +272,260 @@ pub const NO_DOCUMENT: &[u8] =
     b"\x01XTCJRN1\x01\0\0\0\0\x01\0\0\0\x10\x01\x01\0x\0\0\0\0\x07\x041.1001\0";
 
 /// Creates the document x and commits.
-const CREATE: &[u8] =
-    b"{\"s\":1,\"call\":\"begin\"}\n{\"s\":1,\"call\":\"create\",\"name\":\"x\",\"tree\":[\"a\"]}\n{\"s\":1,\"call\":\"commit\"}\n";
+const CREATE: &str = r#"{"s":1,"call":"begin"}
+{"s":1,"call":"create","name":"x","tree":["a"]}
+{"s":1,"call":"commit"}
+"#;
 
 /// What it is answered in an empty store.
-const CREATED: &[u8] = b"{\"ok\":1,\"s\":1}\n{\"ok\":\"1.1001\",\"s\":1}\n{\"ok\":1,\"s\":1}\n";
+const CREATED: &str = r#"{"ok":1,"s":1}
+{"ok":"1.1001","s":1}
+{"ok":1,"s":1}
+"#;
 
 /// What it is answered where commit 1 has created x.
-const IS_THERE: &[u8] =
-    b"{\"ok\":1,\"s\":1}\n{\"err\":{\"name\":\"DocumentExists\"},\"s\":1}\n{\"ok\":2,\"s\":1}\n";
+const IS_THERE: &str = r#"{"ok":1,"s":1}
+{"err":{"name":"DocumentExists"},"s":1}
+{"ok":2,"s":1}
+"#;
 
 /// The same, and then a transaction that is live at the end of the input.
-const CREATE_LIVE: &[u8] =
-    b"{\"s\":1,\"call\":\"begin\"}\n{\"s\":1,\"call\":\"create\",\"name\":\"x\",\"tree\":[\"a\"]}\n{\"s\":1,\"call\":\"commit\"}\n{\"s\":1,\"call\":\"begin\"}\n{\"s\":1,\"call\":\"create\",\"name\":\"y\",\"tree\":[\"a\"]}\n";
+const CREATE_LIVE: &str = r#"{"s":1,"call":"begin"}
+{"s":1,"call":"create","name":"x","tree":["a"]}
+{"s":1,"call":"commit"}
+{"s":1,"call":"begin"}
+{"s":1,"call":"create","name":"y","tree":["a"]}
+"#;
 
-const CREATED_LIVE: &[u8] =
-    b"{\"ok\":1,\"s\":1}\n{\"ok\":\"1.1001\",\"s\":1}\n{\"ok\":1,\"s\":1}\n{\"ok\":2,\"s\":1}\n{\"ok\":\"1.1003\",\"s\":1}\n";
+const CREATED_LIVE: &str = r#"{"ok":1,"s":1}
+{"ok":"1.1001","s":1}
+{"ok":1,"s":1}
+{"ok":2,"s":1}
+{"ok":"1.1003","s":1}
+"#;
 
-pub fn file_of(bytes: &[u8], fails: u64) -> Stored<'_> {
-    Stored { bytes, fails }
-}
-
-/// The script, the files with the call of each that fails; the status, the text and the journal then.
-struct Row<'a> {
-    script: &'a [u8],
-    journal: Stored<'a>,
-    pages: Stored<'a>,
-    status: &'a str,
-    text: &'a [u8],
-    now: &'a [u8],
-}
-
-const ROWS: &[Row<'static>] = &[
-    Row {
-        script: b"",
-        journal: EMPTY,
-        pages: EMPTY,
-        status: "0 ",
-        text: b"",
-        now: NEW,
+const STORES: &[Case<'static>] = &[
+    Case {
+        now: Some(NEW),
+        ..PLAIN
     },
-    Row {
-        script: CREATE,
-        journal: EMPTY,
-        pages: EMPTY,
-        status: "0 ",
+    Case {
+        input: CREATE,
         text: CREATED,
-        now: SIXTY,
+        now: Some(SIXTY),
+        ..PLAIN
     },
-    Row {
-        script: CREATE,
-        journal: Stored {
-            bytes: CLOSED,
-            fails: 0,
-        },
-        pages: EMPTY,
-        status: "0 ",
+    Case {
+        input: CREATE,
+        journal: CLOSED,
         text: CREATED,
-        now: SIXTY,
+        now: Some(SIXTY),
+        ..PLAIN
     },
-    Row {
-        script: CREATE,
-        journal: Stored {
-            bytes: SIXTY,
-            fails: 0,
-        },
-        pages: EMPTY,
-        status: "0 ",
+    Case {
+        input: CREATE,
+        journal: SIXTY,
         text: IS_THERE,
-        now: MORE,
+        now: Some(MORE),
+        ..PLAIN
     },
-    Row {
-        script: CREATE_LIVE,
-        journal: EMPTY,
-        pages: EMPTY,
-        status: "0 ",
+    Case {
+        input: CREATE_LIVE,
         text: CREATED_LIVE,
-        now: SIXTY,
+        now: Some(SIXTY),
+        ..PLAIN
     },
-    Row {
-        script: CREATE,
-        journal: Stored {
-            bytes: CUT,
-            fails: 0,
-        },
-        pages: EMPTY,
+    Case {
+        input: CREATE,
+        journal: CUT,
         status: "4 xtc: damaged journal at 8",
-        text: b"",
-        now: CUT,
+        now: Some(CUT),
+        ..PLAIN
     },
-    Row {
-        script: CREATE,
-        journal: EMPTY,
-        pages: Stored {
-            bytes: &[0; 100],
-            fails: 0,
-        },
+    Case {
+        input: CREATE,
+        pages: &[0; 100],
         status: "4 xtc: damaged pages at 0",
-        text: b"",
-        now: b"",
+        now: Some(b""),
+        ..PLAIN
     },
-    Row {
-        script: CREATE,
-        journal: Stored {
-            bytes: NO_DOCUMENT,
-            fails: 0,
-        },
-        pages: EMPTY,
+    Case {
+        input: CREATE,
+        journal: NO_DOCUMENT,
         status: "4 xtc: damaged tree at 1",
-        text: b"",
-        now: NO_DOCUMENT,
+        now: Some(NO_DOCUMENT),
+        ..PLAIN
     },
-    Row {
-        script: CREATE,
-        journal: Stored {
-            bytes: SIXTY,
-            fails: 1,
-        },
-        pages: EMPTY,
+    Case {
+        input: CREATE,
+        journal: SIXTY,
+        journal_call: 1,
         status: "7 xtc: disk failed",
-        text: b"",
-        now: SIXTY,
+        now: Some(SIXTY),
+        ..PLAIN
     },
-    Row {
-        script: CREATE,
-        journal: Stored {
-            bytes: SIXTY,
-            fails: 0,
-        },
-        pages: Stored {
-            bytes: b"",
-            fails: 1,
-        },
+    Case {
+        input: CREATE,
+        journal: SIXTY,
+        pages_call: 1,
         status: "7 xtc: disk failed",
-        text: b"",
-        now: SIXTY,
+        now: Some(SIXTY),
+        ..PLAIN
     },
 ];
 
 #[test]
 fn each_store_answers_its_script_and_has_its_bytes(rt: HostRuntime) -> Result<(), Fail> {
-    for row in ROWS {
-        let script = Script {
-            bytes: row.script,
-            piece: 65_536,
-            read: 0,
-            write: 0,
-        };
-        let outcome = run_words(rt.alloc(), "run", script, row.journal, row.pages)?;
-        assert_eq!(rt; outcome.told(rt.alloc())?.as_str(), row.status);
-        assert_eq!(rt; outcome.text.as_slice(), row.text, "{}", row.status);
-        assert_eq!(rt; outcome.journal.bytes(), row.now, "{}", row.status);
-        assert_eq!(rt; outcome.pages.bytes(), row.pages.bytes, "{}", row.status);
+    run_cases(&rt, rt.alloc(), STORES)
+}
+
+/// Seven lines, the last of which ends with the input. The others end after 23, 27, 51, 75, 99 and 122 bytes, and the one at 75 commits.
+const IN_PART: Case<'static> = Case {
+    input: "{\"s\":1,\"call\":\"begin\"}\n \t\r\n{\"call\":\"begin\",\"s\":1}\r\n{\"s\":1,\"call\":\"commit\"}\n{\"s\":1,\"call\":\"commit\"}\n{\"s\":2,\"call\":\"begin\"}\nnope",
+    text: "{\"ok\":1,\"s\":1}\n{\"err\":{\"name\":\"InTransaction\"},\"s\":1}\n{\"ok\":1,\"s\":1}\n{\"err\":{\"name\":\"NoTransaction\"},\"s\":1}\n{\"ok\":1,\"s\":2}\n{\"bad\":\"json\",\"line\":7}\n",
+    piece: 30,
+    ..PLAIN
+};
+
+const PARTS: &[Case<'static>] = &[
+    Case {
+        piece: 1,
+        ..IN_PART
+    },
+    Case {
+        piece: 24,
+        ..IN_PART
+    },
+    Case {
+        piece: 4096,
+        ..IN_PART
+    },
+    Case {
+        read: 1,
+        status: "5 xtc: input failed",
+        written: 0,
+        ..IN_PART
+    },
+    Case {
+        read: 2,
+        status: "5 xtc: input failed",
+        written: 15,
+        ..IN_PART
+    },
+    Case {
+        read: 3,
+        status: "5 xtc: input failed",
+        written: 54,
+        ..IN_PART
+    },
+    Case {
+        read: 4,
+        status: "5 xtc: input failed",
+        written: 69,
+        ..IN_PART
+    },
+    Case {
+        read: 6,
+        status: "5 xtc: input failed",
+        written: 123,
+        ..IN_PART
+    },
+    Case {
+        write: 1,
+        status: "6 xtc: output failed",
+        written: 0,
+        ..IN_PART
+    },
+    Case {
+        write: 2,
+        status: "6 xtc: output failed",
+        written: 15,
+        ..IN_PART
+    },
+    Case {
+        write: 3,
+        status: "6 xtc: output failed",
+        written: 45,
+        ..IN_PART
+    },
+    Case {
+        write: 8,
+        status: "6 xtc: output failed",
+        written: 123,
+        ..IN_PART
+    },
+    Case {
+        later_call: 1,
+        status: "7 xtc: disk failed",
+        written: 54,
+        ..IN_PART
+    },
+    Case {
+        later_call: 4,
+        status: "7 xtc: disk failed",
+        written: 54,
+        ..IN_PART
+    },
+];
+
+#[test]
+fn each_piece_and_fault_leaves_its_prefix_of_the_text(rt: HostRuntime) -> Result<(), Fail> {
+    run_cases(&rt, rt.alloc(), PARTS)
+}
+
+/// Words that are no command.
+const OTHERS: &[&str] = &[
+    "", "Run", "run x", "--help", "run ", " run", "put", "get", "Put x", "put x y", "get x y",
+    "put -", "put -x", "get --", "x put", "-- run",
+];
+
+fn is_usage(rt: &impl Abort, alloc: Global, words: &str) -> Result<(), Fail> {
+    let case = Case {
+        words,
+        input: CREATE,
+        status: "2 xtc: usage",
+        ..PLAIN
+    };
+    let outcome = run_case(rt, alloc, &case)?;
+    assert_eq!(rt;
+        outcome.journal.calls().max(outcome.pages.calls()),
+        0,
+        "{words}"
+    );
+    Ok(())
+}
+
+fn run_others(rt: &impl Abort, alloc: Global) -> Result<(), Fail> {
+    for words in OTHERS {
+        is_usage(rt, alloc, words)?;
     }
     Ok(())
 }
 
+#[test]
+fn other_words_are_no_command_and_touch_no_disk(rt: HostRuntime) -> Result<(), Fail> {
+    run_others(&rt, rt.alloc())
+}
+
 /// Three transactions that create the documents p, q and r.
-const THREE: &[u8] =
-    b"{\"s\":1,\"call\":\"begin\"}\n{\"s\":1,\"call\":\"create\",\"name\":\"p\",\"tree\":[\"a\"]}\n{\"s\":1,\"call\":\"commit\"}\n{\"s\":1,\"call\":\"begin\"}\n{\"s\":1,\"call\":\"create\",\"name\":\"q\",\"tree\":[\"a\"]}\n{\"s\":1,\"call\":\"commit\"}\n{\"s\":1,\"call\":\"begin\"}\n{\"s\":1,\"call\":\"create\",\"name\":\"r\",\"tree\":[\"a\"]}\n{\"s\":1,\"call\":\"commit\"}\n";
+const THREE: &str = r#"{"s":1,"call":"begin"}
+{"s":1,"call":"create","name":"p","tree":["a"]}
+{"s":1,"call":"commit"}
+{"s":1,"call":"begin"}
+{"s":1,"call":"create","name":"q","tree":["a"]}
+{"s":1,"call":"commit"}
+{"s":1,"call":"begin"}
+{"s":1,"call":"create","name":"r","tree":["a"]}
+{"s":1,"call":"commit"}
+"#;
 
 /// One transaction that creates the three documents.
-const WHICH: &[u8] =
-    b"{\"s\":1,\"call\":\"begin\"}\n{\"s\":1,\"call\":\"create\",\"name\":\"p\",\"tree\":[\"a\"]}\n{\"s\":1,\"call\":\"create\",\"name\":\"q\",\"tree\":[\"a\"]}\n{\"s\":1,\"call\":\"create\",\"name\":\"r\",\"tree\":[\"a\"]}\n{\"s\":1,\"call\":\"commit\"}\n";
+const WHICH: &str = r#"{"s":1,"call":"begin"}
+{"s":1,"call":"create","name":"p","tree":["a"]}
+{"s":1,"call":"create","name":"q","tree":["a"]}
+{"s":1,"call":"create","name":"r","tree":["a"]}
+{"s":1,"call":"commit"}
+"#;
 
 /// What it is answered behind none, one, two and three of the commits.
 const FOUND: &[&[u8]] = &[
@@ -379,53 +535,104 @@ const FOUND: &[&[u8]] = &[
     b"{\"ok\":1,\"s\":1}\n{\"err\":{\"name\":\"DocumentExists\"},\"s\":1}\n{\"err\":{\"name\":\"DocumentExists\"},\"s\":1}\n{\"err\":{\"name\":\"DocumentExists\"},\"s\":1}\n{\"ok\":4,\"s\":1}\n",
 ];
 
+/// How many of the commits a journal holds.
+fn commits_in(alloc: Global, journal: &[u8]) -> Result<usize, Fail> {
+    let outcome = run_on(alloc, WHICH, journal, 0)?;
+    let text = outcome.text.as_slice();
+    match FOUND.iter().position(|found| *found == text) {
+        Some(count) => Ok(count),
+        None => Err(Fail::from("the files hold no prefix of the commits")),
+    }
+}
+
 /// The fewest and the most commits that a crash in a call of the journal's disk leaves.
 fn commits_after_stop(alloc: Global, journal: &MemDisk, call: u64) -> Result<(usize, usize), Fail> {
     let mut least = usize::MAX;
     let mut most = 0;
     for image in journal.stop_images(alloc, call)?.as_slice() {
-        let outcome = run_on(alloc, WHICH, file_of(image.as_slice(), 0))?;
-        let text = outcome.text.as_slice();
-        let Some(count) = FOUND.iter().position(|found| *found == text) else {
-            return Err(Fail::from("the files hold no prefix of the commits"));
-        };
+        let count = commits_in(alloc, image.as_slice())?;
         least = least.min(count);
         most = most.max(count);
     }
     Ok((least, most))
 }
 
+/// A call behind those of the opening, four a commit, and how few and many commits are found where it doesn't come to its end.
+struct Stop {
+    call: u64,
+    least: usize,
+    most: usize,
+}
+
+const STOPS: &[Stop] = &[
+    Stop {
+        call: 1,
+        least: 0,
+        most: 0,
+    },
+    Stop {
+        call: 3,
+        least: 0,
+        most: 1,
+    },
+    Stop {
+        call: 4,
+        least: 0,
+        most: 1,
+    },
+    Stop {
+        call: 5,
+        least: 1,
+        most: 1,
+    },
+    Stop {
+        call: 8,
+        least: 1,
+        most: 2,
+    },
+    Stop {
+        call: 12,
+        least: 2,
+        most: 3,
+    },
+];
+
+/// A crash in the call, or behind it where it fails, leaves as many commits as the row says.
+fn crash_leaves(
+    rt: &impl Abort,
+    alloc: Global,
+    journal: &MemDisk,
+    call: u64,
+    stop: &Stop,
+) -> Result<(), Fail> {
+    let found = commits_after_stop(alloc, journal, call)?;
+    assert_eq!(rt; found, (stop.least, stop.most), "at call {}", stop.call);
+    Ok(())
+}
+
+fn fault_leaves(rt: &impl Abort, alloc: Global, call: u64, stop: &Stop) -> Result<(), Fail> {
+    let failed = run_on(alloc, THREE, NEW, call)?;
+    assert_eq!(rt; failed.status.number(), 7);
+    let after = failed.journal.calls().saturating_add(1);
+    crash_leaves(rt, alloc, &failed.journal, after, stop)
+}
+
+/// A crash in the call, or behind it where it fails, leaves as many commits as the row says.
+fn run_stops(rt: &impl Abort, alloc: Global, whole: &MemDisk) -> Result<(), Fail> {
+    for stop in STOPS {
+        let call = behind_opening(alloc, NEW, stop.call)?;
+        crash_leaves(rt, alloc, whole, call, stop)?;
+        fault_leaves(rt, alloc, call, stop)?;
+    }
+    Ok(())
+}
+
 #[test]
 fn a_stop_or_a_fault_in_a_commit_leaves_it_whole_or_not_at_all(
     rt: HostRuntime,
 ) -> Result<(), Fail> {
-    let alloc = rt.alloc();
-    let opening = run_on(alloc, b"", file_of(NEW, 0))?.journal.calls();
-    let whole = run_on(alloc, THREE, file_of(NEW, 0))?;
-    assert_eq!(rt; whole.journal.calls(), opening.saturating_add(12));
-    // A call behind those of the opening, four a commit, and how many commits are found where it doesn't come to its end.
-    for (call, want) in [
-        (1, (0, 0)),
-        (3, (0, 1)),
-        (4, (0, 1)),
-        (5, (1, 1)),
-        (8, (1, 2)),
-        (12, (2, 3)),
-    ] {
-        let call = opening.saturating_add(call);
-        assert_eq!(rt;
-            commits_after_stop(alloc, &whole.journal, call)?,
-            want,
-            "at call {call}"
-        );
-        let failed = run_on(alloc, THREE, file_of(NEW, call))?;
-        assert_eq!(rt; failed.status.number(), 7, "at call {call}");
-        let after = failed.journal.calls().saturating_add(1);
-        assert_eq!(rt;
-            commits_after_stop(alloc, &failed.journal, after)?,
-            want,
-            "at call {call}"
-        );
-    }
-    Ok(())
+    let whole = run_on(rt.alloc(), THREE, NEW, 0)?;
+    let calls = behind_opening(rt.alloc(), NEW, 12)?;
+    assert_eq!(rt; whole.journal.calls(), calls);
+    run_stops(&rt, rt.alloc(), &whole.journal)
 }
