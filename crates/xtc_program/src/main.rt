@@ -1,4 +1,4 @@
-//! The program `xtc`: what it does is `run_process`. Its stored run is a script of several sessions on a store with one commit: refusals, bad lines, waits for another's end, and a deadlock.
+//! The program `xtc`: what it does is `run_process`. Its stored run is a script of several sessions on a store with one commit: refusals, bad lines, waits for another's end, a deadlock, new labels between neighbours, texts of characters with one to four bytes, and a document down to the deepest level.
 #![tactic(auto)]
 
 use std::process::ExitCode;
