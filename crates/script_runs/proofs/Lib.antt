@@ -1,4 +1,3 @@
-pub mod EchoLaws
 pub mod FeedingLaws
 pub mod InputLaws
 pub mod LineEnds

@@ -14,6 +14,3 @@ pub use halt::Halt;
 pub use machine::LineMachine;
 pub use running::{End, Finish, run};
 pub use whole::{GatherError, gather, say};
-
-#[cfg(test)]
-mod tests;
