@@ -10,6 +10,7 @@ pub mod Holders
 pub mod Holding
 pub mod Kept
 pub mod KeptAgain
+pub mod Merged
 pub mod Moves
 pub mod Reached
 pub mod Repeated

@@ -5,6 +5,7 @@ ghost use Rattle.std.specs.Ordering.{nat_cmp};
 ghost use Rattle.std.specs.BTreeMap.{get};
 ghost use Rattle.node_records.specs.Changes.{changes_bytes, changes_of as changes_read};
 ghost use Rattle.node_seq.specs.ChangeLists.{IsChangeList};
+ghost use Rattle.tree_model.specs.Entries.{changed};
 ghost use Rattle.tree_model.specs.Tree.{map_of};
 ghost use Rattle.call_contract.specs.States.{State, without};
 ghost use Rattle.call_contract.specs.Books.{entry as entry_of};
@@ -24,7 +25,7 @@ use crate::places::{seat_at, unseat};
 use call_contract::{Event, EventAnswer, Noted, TreeCall};
 use dewey_labels::List;
 use node_records::write_change;
-use node_seq::NodeRead;
+use node_seq::{NodeRead, SortedSeq};
 use overlays::Layers;
 use std::alloc::Global;
 use std::mem;
@@ -155,6 +156,18 @@ pub fn commit<C: TreeCall + Drop, B: NodeRead>(
         },
     );
     number
+}
+
+/// Merges what was committed into the base, where the layers keep so many deletions that it is due. For want of memory all stays as it is.
+pub fn merge<C: TreeCall + Drop>(alloc: Global, parts: &mut Parts<C, SortedSeq>)
+    ensures spare { parts.new.layers.spare ≡ parts.old.layers.spare }
+    ensures same { parts.new ≡ record parts.old { base = parts.new.base; layers = parts.new.layers } }
+    ensures contents { changed parts.new.layers.changes parts.new.base ≡ changed parts.old.layers.changes parts.old.base }
+{
+    if parts.layers.is_due(&parts.base) {
+        // An error changes nothing, and the next commit tries again.
+        let _merged = parts.layers.merge_into(alloc, &mut parts.base);
+    }
 }
 
 /// Goes on over another base that stands for the committed tree, with no layers, and answers the old one.

@@ -18,7 +18,7 @@ ghost use Rattle.tx_core.specs.Refusals.{begin_refused, call_refused, abort_refu
 ghost use Rattle.tx_core.specs.Retries.{HasRetried};
 
 use crate::attempts::attempt;
-use crate::commits::{Prepared, commit, prepare, rebase};
+use crate::commits::{Prepared, commit, merge, prepare, rebase};
 use crate::ends::{abort, begin};
 use crate::errors::{CallError, SessionError};
 use crate::parts::Parts;
@@ -26,7 +26,7 @@ use crate::retries::retry;
 use call_contract::{Answer, Noted, TreeCall};
 use dewey_labels::NoMemory;
 use lock_table::LockTable;
-use node_seq::NodeRead;
+use node_seq::{NodeRead, SortedSeq};
 use overlays::Layers;
 use std::alloc::Global;
 use std::collections::BTreeMap;
@@ -218,5 +218,15 @@ impl<C: TreeCall + Drop, B: NodeRead + Drop> Core<C, B> {
     {
         // The invariant is read off the parts.
         let _parts = &self.parts;
+    }
+}
+
+impl<C: TreeCall + Drop> Core<C, SortedSeq> {
+    /// Merges what was committed into the base, where it has so many deletions that this is due: then a read passes over few of them.
+    /// Called after each commit it costs a constant number of moves for each deleted entry, amortised. For want of memory all stays as it is.
+    pub fn merge(&mut self, alloc: Global)
+        ensures { self.new ≡ over self.old self.new.base }
+    {
+        merge(alloc, &mut self.parts);
     }
 }

@@ -11,7 +11,7 @@ use Rattle.journal.specs.Views.{JournalView}
 use Rattle.call_contract.specs.States.{State}
 use Rattle.command_lines.specs.declared.command.StoreCall.{StoreCall}
 use Rattle.command_lines.specs.declared.line_reply.LineReply.{LineReply}
-use Rattle.tx_core.specs.Cores.{CoreView, state_from, next_number}
+use Rattle.tx_core.specs.Cores.{CoreView, over, state_from, next_number}
 use Rattle.tx_core.specs.declared.commits.Prepared.{Prepared}
 use Rattle.session_driver.specs.Driving.{HasDone, IsDriven}
 use Rattle.session_driver.specs.Refusals.{refusal}
@@ -41,6 +41,16 @@ abbrev pub Finished : ℕ → CoreView StoreCall Entries → CoreView StoreCall 
 Finished session old new before said =
     (t : Tree) → StandsFor (Some old.opening) t → refusal store_meaning (state_from store_meaning t old) session Commit ≡ None
     → HasDone old new before said (asked_from (state_from store_meaning t old) session Commit)
+
+-- and so of the core over another base
+pub finished_over : (session : ℕ) (old mid now : CoreView StoreCall Entries) (before said : List LineReply) → now ≡ over mid now.base → Finished session old mid before said → Finished session old now before said
+finished_over session old mid now before said same finished t opened allowed =
+    let done = finished t opened allowed in
+    let book = (asked_from (state_from store_meaning t old) session Commit).book in
+    record {
+      core = same ∙ ap (λ (v : CoreView StoreCall Entries). over v now.base) done.core ∙ ap (λ (n : Option ℕ). record old { book = old.book ++ book; base = now.base; prepared = n }) (sym (ap (λ (v : CoreView StoreCall Entries). v.prepared) same));
+      lines = done.lines;
+    }
 
 -- ---- a journal that is left alone
 

@@ -179,6 +179,7 @@ fn commit<J: Disk>(
     journal.append_group(prepared.number, prepared.body.as_slice())?;
     match finish_commit(alloc, core, session, prepared, replies) {
         Ok(()) => {
+            core.merge(alloc);
             core.is_legal();
             Ok(())
         }

@@ -1,6 +1,6 @@
 use Rattle.std.proofs.Common.{ap}
 use Rattle.journal.specs.Views.{JournalView}
-use Rattle.xtc.proofs.LineLaws.{commit_follows, commit_leaves, commit_leads_to, commit_takes}
+use Rattle.xtc.proofs.LineLaws.{commit_follows, commit_leaves, commit_leads_to, commit_takes, finished_over}
 use Rattle.xtc.proofs.store.commit.Goals as goal
 
 pub append_group-requires-clause-commit : goal.append_group-requires-clause-commit
@@ -14,14 +14,16 @@ returns-in_err-append_group-clause-any_moment g c =
 
 pub returns-in-Ok-clause-state : goal.returns-in-Ok-clause-state
 returns-in-Ok-clause-state g c =
-    commit_leads_to g.J.Disk.is_known c.args.core.now c.finish_commit.new.core c.args.session c.args.prepared c.args.journal.now.history c.make_room.new.self.history c.append_group.new.self.history _ _
+    commit_leads_to g.J.Disk.is_known c.args.core.now c.merge.new.self c.args.session c.args.prepared c.args.journal.now.history c.make_room.new.self.history c.append_group.new.self.history _ _
     c.args.replies.now.items c.finish_commit.new.out.items c.requires.due c.is_legal.ensures.book
-    (ap (λ (j : JournalView). j.history) c.in_ok-make_room.ensures.ok) c.as_slice.ensures c.in_ok-append_group.ensures.durable c.in-Ok.ensures.line
+    (ap (λ (j : JournalView). j.history) c.in_ok-make_room.ensures.ok) c.as_slice.ensures c.in_ok-append_group.ensures.durable
+    (finished_over c.args.session c.args.core.now c.finish_commit.new.core c.merge.new.self c.args.replies.now.items c.finish_commit.new.out.items c.merge.ensures c.in-Ok.ensures.line)
 
 pub returns-in-Ok-clause-takes : goal.returns-in-Ok-clause-takes
 returns-in-Ok-clause-takes g c =
-    commit_takes c.args.core.now c.finish_commit.new.core c.args.session c.args.prepared c.args.journal.now c.make_room.new.self c.append_group.new.self _ c.args.replies.now.items c.finish_commit.new.out.items
-    c.requires.due c.requires.may c.is_legal.ensures.book c.is_legal-in-Ok.ensures.book c.in_ok-append_group.ensures.ok c.in-Ok.ensures.line
+    commit_takes c.args.core.now c.merge.new.self c.args.session c.args.prepared c.args.journal.now c.make_room.new.self c.append_group.new.self _ c.args.replies.now.items c.finish_commit.new.out.items
+    c.requires.due c.requires.may c.is_legal.ensures.book c.is_legal-in-Ok.ensures.book c.in_ok-append_group.ensures.ok
+    (finished_over c.args.session c.args.core.now c.finish_commit.new.core c.merge.new.self c.args.replies.now.items c.finish_commit.new.out.items c.merge.ensures c.in-Ok.ensures.line)
 
 pub returns-in-Ok-clause-any_moment : goal.returns-in-Ok-clause-any_moment
 returns-in-Ok-clause-any_moment g c =
