@@ -251,9 +251,10 @@ module _ (t : Tree) (n limit : ℕ) where
         go true spent place is = (ap (λ (p : Progress StoreCall). p.state.tree) (got_nothing spent), ap (λ (p : Progress StoreCall). p.state.number) (got_nothing spent))
         go false some_left None is = (ap (λ (p : Progress StoreCall). p.state.tree) (got_by some_left None is), ap (λ (p : Progress StoreCall). p.state.number) (got_by some_left None is))
         go false some_left (Some at) is =
-            let all = got_by some_left (Some at) is in
-            (ap (λ (p : Progress StoreCall). p.state.tree) all ∙ ap (λ (p : Progress StoreCall). p.state.tree) (shown_is at),
-             ap (λ (p : Progress StoreCall). p.state.number) all ∙ ap (λ (p : Progress StoreCall). p.state.number) (shown_is at))
+            let all = got_by some_left (Some at) is in (
+              ap (λ (p : Progress StoreCall). p.state.tree) all ∙ ap (λ (p : Progress StoreCall). p.state.tree) (shown_is at),
+              ap (λ (p : Progress StoreCall). p.state.number) all ∙ ap (λ (p : Progress StoreCall). p.state.number) (shown_is at),
+            )
 
     pub get_on_tree : GetOnTree t n limit name got
     get_on_tree = record {

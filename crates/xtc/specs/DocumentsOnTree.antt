@@ -33,8 +33,8 @@ pub record GetOnTree (t : Tree) (n limit : ℕ) (name : Name) (get : Progress St
   pub limited : n ≡ limit → reason_in get.lines ≡ Some Limit
   pub missing : (why : Refusal) → n ≢ limit → (dom (Doc name) t).0 ≡ reply.Refused why → reason_in get.lines ≡ Some (Call why)
   pub refused : (at : Label) (why : Refusal) → n ≢ limit → (dom (Doc name) t).0 ≡ reply.Place (Some at) → (dom (Dump at) t).0 ≡ reply.Refused why
-    → reason_in get.lines ≡ Some (Call why)
+      → reason_in get.lines ≡ Some (Call why)
   pub dumped : (at : Label) (document : Option Fragment) → n ≢ limit → (dom (Doc name) t).0 ≡ reply.Place (Some at) → (dom (Dump at) t).0 ≡ reply.Tree document
-    → (reason_in get.lines ≡ None) × (tree_in get.lines ≡ document)
+      → (reason_in get.lines ≡ None) × (tree_in get.lines ≡ document)
   pub tree : get.state.tree ≡ t
   pub number : get.state.number ≡ n
