@@ -125,7 +125,8 @@ fn child_labels<S: NodeRead>(
     at: &Label,
     seq: &mut S,
 ) -> Result<List<Label>, SeqError>
-    ensures labels { OnTree (S.contents seq.old) result (λ t labels. IsTrue (found (node_at at.now t.documents)) → labels ≡ children_of (node_at at.now t.documents)) }
+    ensures labels { OnTree (S.contents seq.old) result (λ t labels. IsTrue (found (node_at at.now t.documents))
+        → labels ≡ children_of (node_at at.now t.documents)) }
     ensures unchanged { S.unchanged seq.old seq.new }
     ensures cause { HasCause SeqError.DiskFault (S.count seq.old) (S.count seq.new) result }
 {

@@ -129,7 +129,8 @@ pub fn previous_sibling<S: NodeRead>(
     at: &Label,
     seq: &mut S,
 ) -> Result<Option<Label>, SeqError>
-    ensures found { OnTree (S.contents seq.old) result (λ t previous. IsTrue (found (node_at at.now t.documents)) → previous ≡ prev_of None at.now t.documents) }
+    ensures found { OnTree (S.contents seq.old) result (λ t previous. IsTrue (found (node_at at.now t.documents))
+        → previous ≡ prev_of None at.now t.documents) }
     ensures sibling { IfOk result (λ previous. IfSome previous (λ p. IsTrue (is_child (parent_of at.now) p))) }
     ensures label { IfOk result (λ previous. IfSome previous IsLabel) }
     ensures ahead { IfOk result (λ previous. IfSome previous (λ p. slice_cmp nat_cmp p at.now ≡ Less)) }

@@ -43,7 +43,8 @@ impl SubtreeWalk {
         at: &Label,
         seq: &mut S,
     ) -> Result<SubtreeWalk, SeqError>
-        ensures rest { IfOk result (λ walk. (es : Entries) → S.contents seq.old ≡ Some es → still_to_come walk es ≡ as_long (lies_in at.now) (entries_above (node_key at.now) es)) }
+        ensures rest { IfOk result (λ walk. (es : Entries) → S.contents seq.old ≡ Some es
+            → still_to_come walk es ≡ as_long (lies_in at.now) (entries_above (node_key at.now) es)) }
         ensures above { IfOk result (λ walk. LiesAbove (node_key at.now) walk.next) }
         ensures valid { S.contents seq.old ≡ None → IfOk result (λ walk. IsEntryOfTrees walk.next) }
         ensures unchanged { S.unchanged seq.old seq.new }

@@ -154,7 +154,8 @@ fn add_rest<S: NodeRead>(
     seq: &mut S,
 ) -> Result<(), SeqError>
     requires valid { S.contents seq.old ≡ None → IsEntryOfTrees walk.old.next }
-    ensures added { OnOk result ((es : Entries) → S.contents seq.old ≡ Some es → making_of builder.new ≡ add_all (still_to_come walk.old es) (making_of builder.old)) }
+    ensures added { OnOk result ((es : Entries) → S.contents seq.old ≡ Some es
+        → making_of builder.new ≡ add_all (still_to_come walk.old es) (making_of builder.old)) }
     ensures unchanged { S.unchanged seq.old seq.new }
     ensures cause { HasCause SeqError.DiskFault (S.count seq.old) (S.count seq.new) result }
 {

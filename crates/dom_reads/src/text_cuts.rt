@@ -7,7 +7,8 @@ use std::str;
 
 /// A text cut behind its first characters: what stands before the cut, and behind it. None where it has fewer. It looks at no character behind the cut.
 pub fn cut(text: &str, characters: u32) -> Option<(&str, &str)>
-    ensures { MatchOption result (IsTrue (is_past characters text.now)) (λ parts. (is_past characters text.now ≡ false) × (parts.0.now ≡ data_before characters text.now) × (parts.1.now ≡ data_from characters text.now)) }
+    ensures { MatchOption result (IsTrue (is_past characters text.now)) (λ parts. (is_past characters text.now ≡ false)
+        × (parts.0.now ≡ data_before characters text.now) × (parts.1.now ≡ data_from characters text.now)) }
 {
     let mut rest = text.chars();
     let mut taken = 0;

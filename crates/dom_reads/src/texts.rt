@@ -69,7 +69,8 @@ pub fn substring<S: NodeRead>(
 
 /// The characters of a text from an offset on, at most a count of them.
 fn part(alloc: Global, text: &str, offset: u32, count: u32) -> Result<Reply, NoMemory>
-    ensures { IfOk result (λ reply. reply ≡ (if texts.is_past offset text.now then Refused (Dom index_size_err) else Chars (encode_utf8_all (take count (drop offset (chars text.now)))))) }
+    ensures { IfOk result (λ reply. reply ≡ (if texts.is_past offset text.now then Refused (Dom index_size_err) else
+        Chars (encode_utf8_all (take count (drop offset (chars text.now)))))) }
 {
     match cut(text, offset) {
         Some((_, rest)) => {

@@ -26,7 +26,8 @@ pub fn set_attr<S: NodeRead>(
 ) -> Result<Reply, SeqError>
     requires empty { out.old ≡ [] }
     ensures reply { OnTree (S.contents seq.old) result (λ t reply. reply ≡ (attributes.set_attr at.now name.now value.now t).0) }
-    ensures changes { OnTree (S.contents seq.old) result (λ t _. out.new ≡ differences (map_of t) (map_of (attributes.set_attr at.now name.now value.now t).1)) }
+    ensures changes { OnTree (S.contents seq.old) result (λ t _.
+        out.new ≡ differences (map_of t) (map_of (attributes.set_attr at.now name.now value.now t).1)) }
     ensures rise { IsChangeList out.new }
     ensures err { OnErr result (out.new ≡ out.old) }
     ensures unchanged { S.unchanged seq.old seq.new }

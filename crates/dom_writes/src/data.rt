@@ -122,7 +122,8 @@ pub fn insert_data<S: NodeRead>(
 ) -> Result<Reply, SeqError>
     requires empty { out.old ≡ [] }
     ensures reply { OnTree (S.contents seq.old) result (λ t reply. reply ≡ (texts.replace_data at.now offset 0 «data».now t).0) }
-    ensures changes { OnTree (S.contents seq.old) result (λ t _. out.new ≡ differences (map_of t) (map_of (texts.replace_data at.now offset 0 «data».now t).1)) }
+    ensures changes { OnTree (S.contents seq.old) result (λ t _.
+        out.new ≡ differences (map_of t) (map_of (texts.replace_data at.now offset 0 «data».now t).1)) }
     ensures rise { IsChangeList out.new }
     ensures err { OnErr result (out.new ≡ out.old) }
     ensures unchanged { S.unchanged seq.old seq.new }
@@ -164,7 +165,8 @@ pub fn replace_data<S: NodeRead>(
 ) -> Result<Reply, SeqError>
     requires empty { out.old ≡ [] }
     ensures reply { OnTree (S.contents seq.old) result (λ t reply. reply ≡ (texts.replace_data at.now offset count «data».now t).0) }
-    ensures changes { OnTree (S.contents seq.old) result (λ t _. out.new ≡ differences (map_of t) (map_of (texts.replace_data at.now offset count «data».now t).1)) }
+    ensures changes { OnTree (S.contents seq.old) result (λ t _.
+        out.new ≡ differences (map_of t) (map_of (texts.replace_data at.now offset count «data».now t).1)) }
     ensures rise { IsChangeList out.new }
     ensures err { OnErr result (out.new ≡ out.old) }
     ensures unchanged { S.unchanged seq.old seq.new }

@@ -68,7 +68,8 @@ fn label_behind<S: NodeRead>(
     at: &Label,
     seq: &mut S,
 ) -> Result<Option<Label>, SeqError>
-    ensures label { OnTree (S.contents seq.old) result (λ t new. IsTrue (found (node_at at.now t.documents)) → new ≡ new_label (parent_of at.now) (Some at.now) (next_of (node_at at.now t.documents))) }
+    ensures label { OnTree (S.contents seq.old) result (λ t new. IsTrue (found (node_at at.now t.documents))
+        → new ≡ new_label (parent_of at.now) (Some at.now) (next_of (node_at at.now t.documents))) }
     ensures level { IfOk result (λ new. IfSome new (λ n. IsLabel n × (level n ≡ level at.now))) }
     ensures behind { IfOk result (λ new. IfSome new (λ n. slice_cmp nat_cmp at.now n ≡ Less)) }
     ensures unchanged { S.unchanged seq.old seq.new }
@@ -122,7 +123,8 @@ fn put_parts(
     requires left { IsValidEntry (node_key at.now, TextRecord before) }
     requires right { IsValidEntry (node_key new.now, TextRecord behind) }
     requires order { slice_cmp nat_cmp at.now new.now ≡ Less }
-    ensures ok { OnOk result (out.new ≡ change_at (node_key at.now) (Some (TextRecord «data»)) (Some (TextRecord before)) ++ (put_change (node_key new.now, TextRecord behind) ∷ [])) }
+    ensures ok { OnOk result (out.new ≡ change_at (node_key at.now) (Some (TextRecord «data»)) (Some (TextRecord before))
+        ++ (put_change (node_key new.now, TextRecord behind) ∷ [])) }
     ensures rise { IsChangeList out.new }
     ensures err { OnErr result (out.new ≡ out.old) }
 {

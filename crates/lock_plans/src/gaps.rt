@@ -62,7 +62,8 @@ pub fn place_fragment(
     requires left_child { IfSome left.now (λ l. IsTrue (is_child parent.now l)) }
     requires right_child { IfSome right.now (λ r. IsTrue (is_child parent.now r)) }
     requires order { IfSome left.now (λ l. IfSome right.now (λ r. slice_cmp nat_cmp l r ≡ Less)) }
-    ensures { IfOk result (λ _. (t : Tree) (end : Outcome) → plan.new ≡ plan.old ++ asked_by (place (grafted (plain fragment.now)) (new_label parent.now left.now right.now) t ∷ []) end) }
+    ensures { IfOk result (λ _. (t : Tree) (end : Outcome) → plan.new
+        ≡ plan.old ++ asked_by (place (grafted (plain fragment.now)) (new_label parent.now left.now right.now) t ∷ []) end) }
 {
     let Some(new) = new_label(alloc, parent, left, right)? else {
         return Ok(());

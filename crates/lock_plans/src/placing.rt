@@ -62,7 +62,8 @@ fn append_last<S: NodeRead>(
     seq: &mut S,
     mut plan: Plan,
 ) -> Result<Plan, SeqError>
-    ensures value { OnTree (S.contents seq.old) result (λ t whole. IsTrue (is_found (node_at at.now t.documents)) → (end : Outcome) → whole ≡ plan ++ asked_by (append_end at.now (plain fragment.now) t) end) }
+    ensures value { OnTree (S.contents seq.old) result (λ t whole. IsTrue (is_found (node_at at.now t.documents)) → (end : Outcome)
+        → whole ≡ plan ++ asked_by (append_end at.now (plain fragment.now) t) end) }
     ensures unchanged { S.unchanged seq.old seq.new }
     ensures cause { HasCause SeqError.DiskFault (S.count seq.old) (S.count seq.new) result }
 {
@@ -114,7 +115,8 @@ fn insert_before<S: NodeRead>(
 ) -> Result<Plan, SeqError>
     requires child { IsTrue (is_child at.now child.now) }
     requires parent { parent_of child.now ≡ at.now }
-    ensures value { OnTree (S.contents seq.old) result (λ t whole. IsTrue (is_found (node_at child.now t.documents)) → (end : Outcome) → whole ≡ plan ++ asked_by (insert_end at.now child.now (plain fragment.now) t) end) }
+    ensures value { OnTree (S.contents seq.old) result (λ t whole. IsTrue (is_found (node_at child.now t.documents)) → (end : Outcome)
+        → whole ≡ plan ++ asked_by (insert_end at.now child.now (plain fragment.now) t) end) }
     ensures unchanged { S.unchanged seq.old seq.new }
     ensures cause { HasCause SeqError.DiskFault (S.count seq.old) (S.count seq.new) result }
 {
@@ -171,7 +173,8 @@ fn replace_child<S: NodeRead>(
 ) -> Result<Plan, SeqError>
     requires child { IsTrue (is_child at.now old.now) }
     requires parent { parent_of old.now ≡ at.now }
-    ensures value { OnTree (S.contents seq.old) result (λ t whole. IsTrue (is_found (node_at old.now t.documents)) → (end : Outcome) → whole ≡ plan ++ asked_by (replace_end at.now old.now (plain fragment.now) t) end) }
+    ensures value { OnTree (S.contents seq.old) result (λ t whole. IsTrue (is_found (node_at old.now t.documents)) → (end : Outcome)
+        → whole ≡ plan ++ asked_by (replace_end at.now old.now (plain fragment.now) t) end) }
     ensures unchanged { S.unchanged seq.old seq.new }
     ensures cause { HasCause SeqError.DiskFault (S.count seq.old) (S.count seq.new) result }
 {
@@ -214,7 +217,8 @@ pub fn take_out_child<S: NodeRead>(
     seq: &mut S,
     mut plan: Plan,
 ) -> Result<Plan, SeqError>
-    ensures value { OnTree (S.contents seq.old) result (λ t whole. IsTrue (is_found (node_at old.now t.documents)) → (end : Outcome) → whole ≡ plan ++ asked_by (remove_end at.now old.now t) end) }
+    ensures value { OnTree (S.contents seq.old) result (λ t whole. IsTrue (is_found (node_at old.now t.documents)) → (end : Outcome)
+        → whole ≡ plan ++ asked_by (remove_end at.now old.now t) end) }
     ensures unchanged { S.unchanged seq.old seq.new }
     ensures cause { HasCause SeqError.DiskFault (S.count seq.old) (S.count seq.new) result }
 {

@@ -138,7 +138,8 @@ fn split<S: NodeRead>(
     seq: &mut S,
     mut plan: Plan,
 ) -> Result<Plan, SeqError>
-    ensures value { OnTree (S.contents seq.old) result (λ t whole. IsTrue (found (node_at at.now t.documents)) → (end : Outcome) → whole ≡ plan ++ asked_by (split_end at.now t) end) }
+    ensures value { OnTree (S.contents seq.old) result (λ t whole. IsTrue (found (node_at at.now t.documents)) → (end : Outcome)
+        → whole ≡ plan ++ asked_by (split_end at.now t) end) }
     ensures unchanged { S.unchanged seq.old seq.new }
     ensures cause { HasCause SeqError.DiskFault (S.count seq.old) (S.count seq.new) result }
 {

@@ -51,7 +51,8 @@ pub fn asked<C: TreeCall, B: NodeRead>(
     own: &Overlay,
     call: &C,
 ) -> Result<List<Request>, SeqError>
-    ensures value { OnTree (contents_after own.now (contents_after layers.now.changes (B.contents base.old))) result (λ t asks. asks ≡ C.meaning.requests call.now t) }
+    ensures value { OnTree (contents_after own.now (contents_after layers.now.changes (B.contents base.old))) result (λ t asks.
+        asks ≡ C.meaning.requests call.now t) }
     ensures valid { C.is_valid call.now }
     ensures unchanged { B.unchanged base.old base.new }
     ensures cause { HasCause DiskFault (B.count base.old) (B.count base.new) result }
@@ -77,8 +78,10 @@ pub fn made<C: TreeCall, B: NodeRead>(
     own: &Overlay,
     call: &C,
 ) -> Result<Outcome, SeqError>
-    ensures reply { OnTree (contents_after own.now (contents_after layers.now.changes (B.contents base.old))) result (λ t made. made.reply ≡ C.meaning.reply call.now t) }
-    ensures changes { OnTree (contents_after own.now (contents_after layers.now.changes (B.contents base.old))) result (λ t made. made.changes ≡ changes_of C.meaning call.now t) }
+    ensures reply { OnTree (contents_after own.now (contents_after layers.now.changes (B.contents base.old))) result (λ t made.
+        made.reply ≡ C.meaning.reply call.now t) }
+    ensures changes { OnTree (contents_after own.now (contents_after layers.now.changes (B.contents base.old))) result (λ t made.
+        made.changes ≡ changes_of C.meaning call.now t) }
     ensures rise { IfOk result (λ made. IsChangeList made.changes) }
     ensures valid { C.is_valid call.now }
     ensures unchanged { B.unchanged base.old base.new }

@@ -69,7 +69,8 @@ pub fn outcome_of<C: TreeCall + Drop, B: NodeRead>(
     call: &C,
 ) -> Result<Outcome, SeqError>
     requires seated { IsSome (seat_in (get nat_cmp parts.old.places session)) }
-    ensures value { IfOk result (λ outcome. (st : State C) → Stands C.is_valid C.meaning B.contents parts.old st → IsMade C.meaning st session call.now outcome) }
+    ensures value { IfOk result (λ outcome. (st : State C) → Stands C.is_valid C.meaning B.contents parts.old st
+        → IsMade C.meaning st session call.now outcome) }
     ensures rise { IfOk result (λ outcome. IsChangeList outcome.changes) }
     ensures valid { C.is_valid call.now }
     ensures stays { Stays C.is_valid C.meaning B.contents parts.old parts.new }
@@ -90,10 +91,12 @@ pub fn ask_in_turn<C: TreeCall + Drop, B: NodeRead>(
     session: u32,
     requests: &[Request],
 ) -> Got
-    ensures got { (st : State C) (t : Live C) → Stands C.is_valid C.meaning B.contents parts.old st → of_session session st.live ≡ Some t → Reaches C.is_valid C.meaning B.contents st t requests.now parts.new result }
+    ensures got { (st : State C) (t : Live C) → Stands C.is_valid C.meaning B.contents parts.old st → of_session session st.live ≡ Some t
+        → Reaches C.is_valid C.meaning B.contents st t requests.now parts.new result }
     ensures within { granted_in requests.now result ≤ length requests.now }
     ensures inside { IsInside requests.now result }
-    ensures untouched { granted_in requests.now result ≡ 0 → (st : State C) → Stands C.is_valid C.meaning B.contents parts.old st → Stands C.is_valid C.meaning B.contents parts.new st }
+    ensures untouched { granted_in requests.now result ≡ 0 → (st : State C) → Stands C.is_valid C.meaning B.contents parts.old st
+        → Stands C.is_valid C.meaning B.contents parts.new st }
     ensures same { parts.new ≡ record parts.old { table = parts.new.table } }
 {
     ask_all(alloc, &mut parts.table, session, requests)
@@ -111,7 +114,8 @@ pub fn accept<C: TreeCall + Drop, B: NodeRead>(
     ensures reply { IfOk result (λ reply. reply ≡ outcome.reply) }
     ensures ok { OnOk result (IsAccepted C.is_valid C.meaning B.contents parts.old session outcome parts.new) }
     ensures err { OnErr result (Stays C.is_valid C.meaning B.contents parts.old parts.new) }
-    ensures waits { OnOk result ((o : ℕ) → wait_in (get nat_cmp parts.new.places o) ≡ cond (session == o) (Some None) (wait_in (get nat_cmp parts.old.places o))) }
+    ensures waits { OnOk result ((o : ℕ) → wait_in (get nat_cmp parts.new.places o)
+        ≡ cond (session == o) (Some None) (wait_in (get nat_cmp parts.old.places o))) }
     ensures still { OnErr result ((o : ℕ) → wait_in (get nat_cmp parts.new.places o) ≡ wait_in (get nat_cmp parts.old.places o)) }
     ensures ordinals { (o : ℕ) → ordinal_in (get nat_cmp parts.new.places o) ≡ ordinal_in (get nat_cmp parts.old.places o) }
     ensures same { parts.new ≡ record parts.old { places = parts.new.places; graph = parts.new.graph } }
@@ -238,7 +242,8 @@ pub fn cycle_of<C: TreeCall + Drop, B: NodeRead>(
     session: u32,
     request: &Request,
 ) -> Result<Option<List<u32>>, NoMemory>
-    ensures cycle { IfOk result (λ cycle. (st : State C) (t : Live C) (c : C) → Stands C.is_valid C.meaning B.contents parts.new st → of_session session st.live ≡ Some t → cycle_through (with_wait st t c request.now).live session ≡ cycle) }
+    ensures cycle { IfOk result (λ cycle. (st : State C) (t : Live C) (c : C) → Stands C.is_valid C.meaning B.contents parts.new st
+        → of_session session st.live ≡ Some t → cycle_through (with_wait st t c request.now).live session ≡ cycle) }
     ensures graph { IfOk result (IsClosedCycle parts.new.graph session request.now parts.new.table) }
     ensures place { OnOk result (IsSome (place_by parts.new.graph session)) }
     ensures room { OnOk result (length parts.new.waiting.items + 1 ≤ vec_capacity parts.new.waiting) }
@@ -268,7 +273,8 @@ fn set_waiting<C: TreeCall + Drop, B: NodeRead>(
     requires noted { (hs : List ℕ) × (noted ≡ shown_wait request hs) }
     requires place { IsSome (place_by parts.old.graph session) }
     requires no_cycle { ClosesNone parts.old.graph session request parts.old.table }
-    ensures state { (st : State C) (t : Live C) → Stands C.is_valid C.meaning B.contents parts.old st → of_session session st.live ≡ Some t → Stands C.is_valid C.meaning B.contents parts.new (record (with_wait st t call request) { waiting = st.waiting ++ session ∷ [] }) }
+    ensures state { (st : State C) (t : Live C) → Stands C.is_valid C.meaning B.contents parts.old st → of_session session st.live ≡ Some t
+        → Stands C.is_valid C.meaning B.contents parts.new (record (with_wait st t call request) { waiting = st.waiting ++ session ∷ [] }) }
     ensures book { parts.new.book.items ≡ parts.old.book.items ++ call_entry session call noted ∷ [] }
     ensures faults { parts.new.faults ≡ parts.old.faults }
     ensures prepared { parts.new.prepared ≡ None }
@@ -357,7 +363,8 @@ fn wait_for<C: TreeCall + Drop, B: NodeRead>(
     requires book_room { HasRoom 2 parts.old }
     requires place { IsSome (place_by parts.old.graph session) }
     requires no_cycle { ClosesNone parts.old.graph session request.now parts.old.table }
-    requires alone { (st : State C) (t : Live C) → Stands C.is_valid C.meaning B.contents parts.old st → of_session session st.live ≡ Some t → cycle_through (with_wait st t call request.now).live session ≡ None }
+    requires alone { (st : State C) (t : Live C) → Stands C.is_valid C.meaning B.contents parts.old st → of_session session st.live ≡ Some t
+        → cycle_through (with_wait st t call request.now).live session ≡ None }
     ensures ok { IfOk result (λ a. IsPut C.is_valid C.meaning B.contents parts.old session call request.now holders a parts.new) }
     ensures err { OnErr result (Stays C.is_valid C.meaning B.contents parts.old parts.new) }
     ensures call { IfErr result (λ e. e ≡ call) }
@@ -418,7 +425,8 @@ fn end_by_cycle<C: TreeCall + Drop, B: NodeRead>(
     requires seated { IsSeated parts.old }
     requires ready { wait_in (get nat_cmp parts.old.places session) ≡ Some None }
     requires room { HasRoom 2 parts.old }
-    requires closes { (st : State C) (t : Live C) → Stands C.is_valid C.meaning B.contents parts.old st → of_session session st.live ≡ Some t → cycle_through (with_wait st t call request.now).live session ≡ Some cycle }
+    requires closes { (st : State C) (t : Live C) → Stands C.is_valid C.meaning B.contents parts.old st → of_session session st.live ≡ Some t
+        → cycle_through (with_wait st t call request.now).live session ≡ Some cycle }
     ensures ok { IfOk result (λ a. IsClosed C.is_valid C.meaning B.contents parts.old session call request.now a parts.new) }
     ensures err { OnErr result (Stays C.is_valid C.meaning B.contents parts.old parts.new) }
     ensures call { IfErr result (λ e. e ≡ call) }

@@ -92,7 +92,8 @@ pub fn prepare<C: TreeCall + Drop, B: NodeRead>(
 ) -> Result<Prepared, SessionError>
     requires { IsReady (seat_in (get nat_cmp parts.old.places session)) → parts.old.number < 4294967295 }
     ensures commit { IfOk result (IsCommit (parts.old.number + 1)) }
-    ensures changes { IfOk result (λ prepared. (st : State C) → Stands C.is_valid C.meaning B.contents parts.old st → HasChangesOf C.meaning st session prepared) }
+    ensures changes { IfOk result (λ prepared. (st : State C) → Stands C.is_valid C.meaning B.contents parts.old st
+        → HasChangesOf C.meaning st session prepared) }
     ensures prepared { OnOk result (parts.new.prepared ≡ Some session) }
     ensures spare { OnOk result (1 ≤ parts.new.layers.spare) }
     ensures ready { OnOk result (IsReady (seat_in (get nat_cmp parts.new.places session))) }
@@ -175,7 +176,8 @@ pub fn rebase<C: TreeCall + Drop, B: NodeRead>(alloc: Global, parts: &mut Parts<
     ensures old { result ≡ parts.old.base }
     ensures layers { parts.new.layers ≡ record { changes = []; deletions = 0; spare = 1 } }
     ensures same { parts.new ≡ record parts.old { base = base; layers = parts.new.layers } }
-    ensures state { (st : State C) → Stands C.is_valid C.meaning B.contents parts.old st → B.contents base ≡ Some (map_of st.tree) → Stands C.is_valid C.meaning B.contents parts.new st }
+    ensures state { (st : State C) → Stands C.is_valid C.meaning B.contents parts.old st → B.contents base ≡ Some (map_of st.tree)
+        → Stands C.is_valid C.meaning B.contents parts.new st }
 {
     parts.layers = Layers::new(alloc);
     mem::replace(&mut parts.base, base)

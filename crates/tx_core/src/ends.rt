@@ -61,7 +61,8 @@ pub fn begin<C: TreeCall + Drop, B: NodeRead>(
     ensures ok { IfOk result (λ ordinal. Goes C.is_valid C.meaning B.contents parts.old (entry_of session event.Begin (said.Number ordinal)) parts.new) }
     ensures err { OnErr result (Stays C.is_valid C.meaning B.contents parts.old parts.new) }
     ensures ordinal { IfOk result (λ ordinal. ordinal ≡ begins_of parts.old.book.items session + 1) }
-    ensures refused { shown_refusal result ≡ refused_begin (parts.old.opened + begins parts.old.book.items) parts.old.limit (live_in parts.old.book.items session) }
+    ensures refused { shown_refusal result ≡ refused_begin (parts.old.opened + begins parts.old.book.items) parts.old.limit
+        (live_in parts.old.book.items session) }
     ensures seated { IsSeatedAs parts.old parts.new }
     ensures base { parts.new.base ≡ parts.old.base }
 {

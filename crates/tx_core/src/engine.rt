@@ -141,7 +141,8 @@ impl<C: TreeCall + Drop, B: NodeRead + Drop> Core<C, B> {
     pub fn retry(&mut self, alloc: Global, session: u32) -> Result<Answer, CallError>
         requires { IsTrue (waits_in (live_in self.old.book session)) }
         ensures ok { IfOk result (λ a. HasRetried C.meaning B.contents self.old session a self.new) }
-        ensures err { OnErr result ((k : ℕ) × (f : Option ℕ) × (self.new ≡ over (with_entry self.old (entry_of session (event.Fail None k f) said.Nothing)) self.new.base)) }
+        ensures err { OnErr result ((k : ℕ) × (f : Option ℕ)
+            × (self.new ≡ over (with_entry self.old (entry_of session (event.Fail None k f) said.Nothing)) self.new.base)) }
         ensures refused { shown_call_refusal result ≡ None }
         ensures unchanged { B.unchanged self.old.base self.new.base }
         ensures cause { HasCause CallError.DiskFault (B.count self.old.base) (B.count self.new.base) result }
@@ -153,10 +154,12 @@ impl<C: TreeCall + Drop, B: NodeRead + Drop> Core<C, B> {
     pub fn prepare(&mut self, alloc: Global, session: u32) -> Result<Prepared, SessionError>
         ensures ok { IfOk result (λ _. self.new ≡ record self.old { prepared = Some session }) }
         ensures commit { IfOk result (λ prepared. IsPrepared self.old prepared) }
-        ensures changes { IfOk result (λ prepared. (t : Tree) → StandsFor (B.contents self.old.opening) t → HasChangesOf C.meaning (state_from C.meaning t self.old) session prepared) }
+        ensures changes { IfOk result (λ prepared. (t : Tree) → StandsFor (B.contents self.old.opening) t
+            → HasChangesOf C.meaning (state_from C.meaning t self.old) session prepared) }
         ensures err { OnErr result (self.new ≡ record self.old { prepared = self.new.prepared }) }
         ensures refused { shown_prepare_refusal result ≡ call_refused self.old session }
-        ensures limit { result ≡ Err SessionError.CommitLimit → (t : Tree) → StandsFor (B.contents self.old.opening) t → IsPastLimitIn C.meaning (state_from C.meaning t self.old) session }
+        ensures limit { result ≡ Err SessionError.CommitLimit → (t : Tree) → StandsFor (B.contents self.old.opening) t
+            → IsPastLimitIn C.meaning (state_from C.meaning t self.old) session }
     {
         prepare(alloc, &mut self.parts, session)
     }

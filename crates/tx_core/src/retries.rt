@@ -71,7 +71,8 @@ fn requests_again<C: TreeCall + Drop, B: NodeRead>(
     session: u32,
 ) -> Result<List<Request>, SeqError>
     requires waits { IsSome (waiting_call parts.old session) }
-    ensures value { IfOk result (λ asks. (c : C) → waiting_call parts.old session ≡ Some c → (st : State C) (t : Live C) → Stands C.is_valid C.meaning B.contents parts.old st → of_session session st.live ≡ Some t → asks ≡ asked_of C.meaning st t c) }
+    ensures value { IfOk result (λ asks. (c : C) → waiting_call parts.old session ≡ Some c → (st : State C) (t : Live C)
+        → Stands C.is_valid C.meaning B.contents parts.old st → of_session session st.live ≡ Some t → asks ≡ asked_of C.meaning st t c) }
     ensures stays { Stays C.is_valid C.meaning B.contents parts.old parts.new }
     ensures same { parts.new ≡ record parts.old { base = parts.new.base } }
     ensures unchanged { B.unchanged parts.old.base parts.new.base }
@@ -93,7 +94,8 @@ fn outcome_again<C: TreeCall + Drop, B: NodeRead>(
     session: u32,
 ) -> Result<Outcome, SeqError>
     requires waits { IsSome (waiting_call parts.old session) }
-    ensures value { IfOk result (λ outcome. (c : C) → waiting_call parts.old session ≡ Some c → (st : State C) → Stands C.is_valid C.meaning B.contents parts.old st → IsMade C.meaning st session c outcome) }
+    ensures value { IfOk result (λ outcome. (c : C) → waiting_call parts.old session ≡ Some c → (st : State C)
+        → Stands C.is_valid C.meaning B.contents parts.old st → IsMade C.meaning st session c outcome) }
     ensures rise { IfOk result (λ outcome. IsChangeList outcome.changes) }
     ensures valid { (c : C) → waiting_call parts.old session ≡ Some c → C.is_valid c }
     ensures stays { Stays C.is_valid C.meaning B.contents parts.old parts.new }
@@ -170,7 +172,8 @@ fn ask_again<C: TreeCall + Drop, B: NodeRead>(
     session: u32,
     requests: &[Request],
 ) -> Asked
-    ensures got { (st : State C) (t : Live C) → Stands C.is_valid C.meaning B.contents parts.old st → of_session session st.live ≡ Some t → Reaches C.is_valid C.meaning B.contents st t requests.now parts.new result.got }
+    ensures got { (st : State C) (t : Live C) → Stands C.is_valid C.meaning B.contents parts.old st → of_session session st.live ≡ Some t
+        → Reaches C.is_valid C.meaning B.contents st t requests.now parts.new result.got }
     ensures asked { AreAsked C.is_valid C.meaning B.contents parts.old session requests.now result.got result.more parts.new }
     ensures within { granted_in requests.now result.got ≤ length requests.now }
     ensures inside { IsInside requests.now result.got }
@@ -212,7 +215,8 @@ fn answer_again<C: TreeCall + Drop, B: NodeRead>(
 ) -> Result<Answer, SeqError>
     requires seated { IsSeated parts.old }
     requires waits { IsSome (waiting_call parts.old session) }
-    ensures ok { IfOk result (λ a. (c : C) → waiting_call parts.old session ≡ Some c → IsAnsweredAgain C.is_valid C.meaning B.contents parts.old session c a parts.new) }
+    ensures ok { IfOk result (λ a. (c : C) → waiting_call parts.old session ≡ Some c
+        → IsAnsweredAgain C.is_valid C.meaning B.contents parts.old session c a parts.new) }
     ensures err { OnErr result (Stays C.is_valid C.meaning B.contents parts.old parts.new) }
     ensures seated { IsSeatedAs parts.old parts.new }
     ensures still { OnErr result (IsSome (waiting_call parts.new session)) }
@@ -258,7 +262,8 @@ fn wait_on<C: TreeCall + Drop, B: NodeRead>(
     requires room { HasRoom 1 parts.old }
     requires place { IsSome (place_by parts.old.graph session) }
     requires no_cycle { ClosesNone parts.old.graph session request.now parts.old.table }
-    requires alone { (st : State C) (t : Live C) (c : C) → Stands C.is_valid C.meaning B.contents parts.old st → of_session session st.live ≡ Some t → cycle_through (with_wait st t c request.now).live session ≡ None }
+    requires alone { (st : State C) (t : Live C) (c : C) → Stands C.is_valid C.meaning B.contents parts.old st → of_session session st.live ≡ Some t
+        → cycle_through (with_wait st t c request.now).live session ≡ None }
     ensures ok { IfOk result (λ a. WaitsAgain C.is_valid C.meaning B.contents parts.old session request.now holders more a parts.new) }
     ensures err { OnErr result (parts.new ≡ parts.old) }
     ensures seated { IsSeatedAs parts.old parts.new }
@@ -289,7 +294,8 @@ fn end_again<C: TreeCall + Drop, B: NodeRead>(
 ) -> Result<Answer, NoMemory>
     requires seated { IsSeated parts.old }
     requires waits { IsSome (waiting_call parts.old session) }
-    requires closes { (st : State C) (t : Live C) (c : C) → Stands C.is_valid C.meaning B.contents parts.old st → of_session session st.live ≡ Some t → cycle_through (with_wait st t c request.now).live session ≡ Some cycle }
+    requires closes { (st : State C) (t : Live C) (c : C) → Stands C.is_valid C.meaning B.contents parts.old st → of_session session st.live ≡ Some t
+        → cycle_through (with_wait st t c request.now).live session ≡ Some cycle }
     ensures ok { IfOk result (λ a. IsClosedAgain C.is_valid C.meaning B.contents parts.old session request.now a parts.new) }
     ensures err { OnErr result (parts.new ≡ parts.old) }
     ensures seated { IsSeatedAs parts.old parts.new }
@@ -335,7 +341,8 @@ fn wait_again<C: TreeCall + Drop, B: NodeRead>(
 /// A transaction's call waits no more.
 fn cease<C: TreeCall + Drop, B: NodeRead>(parts: &mut Parts<C, B>, session: u32)
     requires seated { IsSome (seat_in (get nat_cmp parts.old.places session)) }
-    ensures state { (st : State C) (t : Live C) → Stands C.is_valid C.meaning B.contents parts.old st → of_session session st.live ≡ Some t → Stands C.is_valid C.meaning B.contents parts.new (unqueued (at_rest st t) session) }
+    ensures state { (st : State C) (t : Live C) → Stands C.is_valid C.meaning B.contents parts.old st → of_session session st.live ≡ Some t
+        → Stands C.is_valid C.meaning B.contents parts.new (unqueued (at_rest st t) session) }
     ensures waits { (o : ℕ) → wait_in (get nat_cmp parts.new.places o) ≡ cond (session == o) (Some None) (wait_in (get nat_cmp parts.old.places o)) }
     ensures ordinals { (o : ℕ) → ordinal_in (get nat_cmp parts.new.places o) ≡ ordinal_in (get nat_cmp parts.old.places o) }
     ensures queue { parts.new.waiting.items ≡ without session parts.old.waiting.items }
@@ -420,7 +427,8 @@ fn settle_again<C: TreeCall + Drop, B: NodeRead>(
     requires inside { IsInside requests.now got }
     requires fits { length requests.now ≤ 4_294_967_295 }
     requires within { granted_in requests.now got ≤ length requests.now }
-    ensures ok { IfOk result (λ a. (c : C) → waiting_call parts.old session ≡ Some c → IsSettledAgain C.is_valid C.meaning B.contents parts.old session c requests.now got more a parts.new) }
+    ensures ok { IfOk result (λ a. (c : C) → waiting_call parts.old session ≡ Some c
+        → IsSettledAgain C.is_valid C.meaning B.contents parts.old session c requests.now got more a parts.new) }
     ensures err { OnErr result ((f : Option ℕ) × IsFailedAgain C.is_valid C.meaning B.contents parts.old session (granted_in requests.now got) f parts.new) }
     ensures refused { shown_call_refusal result ≡ None }
     ensures seated { IsSeatedAs parts.old parts.new }
@@ -456,8 +464,10 @@ fn retry_in_room<C: TreeCall + Drop, B: NodeRead>(
     requires seated { IsSeated parts.old }
     requires waits { IsSome (waiting_call parts.old session) }
     requires room { HasRoom 1 parts.old }
-    ensures ok { IfOk result (λ a. (c : C) → waiting_call parts.old session ≡ Some c → IsAgain C.is_valid C.meaning B.contents parts.old session c a parts.new) }
-    ensures err { OnErr result ((c : C) → waiting_call parts.old session ≡ Some c → (k : ℕ) × (f : Option ℕ) × GoesAgain C.is_valid C.meaning B.contents parts.old session c (failed_retry session k f) parts.new) }
+    ensures ok { IfOk result (λ a. (c : C) → waiting_call parts.old session ≡ Some c
+        → IsAgain C.is_valid C.meaning B.contents parts.old session c a parts.new) }
+    ensures err { OnErr result ((c : C) → waiting_call parts.old session ≡ Some c → (k : ℕ) × (f : Option ℕ)
+        × GoesAgain C.is_valid C.meaning B.contents parts.old session c (failed_retry session k f) parts.new) }
     ensures refused { shown_call_refusal result ≡ None }
     ensures seated { IsSeatedAs parts.old parts.new }
     ensures unchanged { B.unchanged parts.old.base parts.new.base }
@@ -483,8 +493,10 @@ pub fn retry<C: TreeCall + Drop, B: NodeRead>(
 ) -> Result<Answer, CallError>
     requires seated { IsSeated parts.old }
     requires waits { IsSome (waiting_call parts.old session) }
-    ensures ok { IfOk result (λ a. (c : C) → waiting_call parts.old session ≡ Some c → IsAgain C.is_valid C.meaning B.contents parts.old session c a parts.new) }
-    ensures err { OnErr result ((c : C) → waiting_call parts.old session ≡ Some c → (k : ℕ) × (f : Option ℕ) × GoesAgain C.is_valid C.meaning B.contents parts.old session c (failed_retry session k f) parts.new) }
+    ensures ok { IfOk result (λ a. (c : C) → waiting_call parts.old session ≡ Some c
+        → IsAgain C.is_valid C.meaning B.contents parts.old session c a parts.new) }
+    ensures err { OnErr result ((c : C) → waiting_call parts.old session ≡ Some c → (k : ℕ) × (f : Option ℕ)
+        × GoesAgain C.is_valid C.meaning B.contents parts.old session c (failed_retry session k f) parts.new) }
     ensures refused { shown_call_refusal result ≡ None }
     ensures seated { IsSeatedAs parts.old parts.new }
     ensures unchanged { B.unchanged parts.old.base parts.new.base }
