@@ -68,7 +68,8 @@ impl CallCounter {
 
     /// Counts a fault for running out of memory in the last call.
     pub fn refuse(&mut self)
-        ensures count { self.new ≡ record { calls = self.old.calls; fails = self.old.fails; faults = counted self.old.faults; refused = counted self.old.refused } }
+        ensures count { self.new
+            ≡ record { calls = self.old.calls; fails = self.old.fails; faults = counted self.old.faults; refused = counted self.old.refused } }
         ensures later { self.old.faults ≤ self.new.faults }
     {
         self.faults = self.faults.saturating_add(1);
