@@ -9,12 +9,8 @@ mod label_reader;
 mod label_text;
 mod laws;
 mod list;
-#[cfg(test)]
-mod new_label_tests;
 mod new_labels;
 mod no_memory;
-#[cfg(test)]
-mod tests;
 mod text;
 
 pub use copied::Copied;

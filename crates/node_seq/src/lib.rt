@@ -5,8 +5,6 @@
 
 mod node_read;
 mod sorted_seq;
-#[cfg(test)]
-mod tests;
 mod unknown_seq;
 mod walk;
 

@@ -15,8 +15,6 @@ mod rebase;
 mod run;
 mod runs;
 mod stacked;
-#[cfg(test)]
-mod tests;
 mod view;
 
 pub use layers::Layers;

@@ -14,8 +14,6 @@ mod record;
 mod refusal;
 mod reply;
 mod stored_tree;
-#[cfg(test)]
-mod tests;
 
 pub use change::{Change, Changes};
 pub use dom_call::DomCall;

@@ -1,9 +1,10 @@
+//! Views through changes laid over a small map, as tables worked by hand.
 ghost use Rattle.std.specs.Prelude.{◌≡◌, Some, IfOk};
 ghost use Rattle.node_seq.specs.ChangeLists.{IsChangeList};
 
-use crate::{Layers, Overlay, Stacked, View};
 use dewey_labels::{Label, List, Text};
 use node_seq::{Answer, NodeRead, SeqError, SortedSeq, UnknownSeq};
+use overlays::{Layers, Overlay, Stacked, View};
 use std::alloc::Global;
 use std::test::Fail;
 use tree_model::{Change, Changes, Key, Record};
@@ -119,21 +120,22 @@ fn seen(alloc: Global, last: u32) -> Result<String, Fail> {
     around(alloc, &at, &mut view)
 }
 
+/// What is seen at a last division, next above it and next below it: `b2` at 1009, `own` at 1013 and `d` at 1025 are left.
+const SEEN: [(u32, &str); 9] = [
+    (999, ",b2,"),
+    (1001, ",b2,"),
+    (1009, "b2,own,"),
+    (1011, ",own,b2"),
+    (1013, "own,d,b2"),
+    (1017, ",d,own"),
+    (1021, ",d,own"),
+    (1025, "d,,own"),
+    (1027, ",,d"),
+];
+
 #[test]
 fn a_view_answers_as_the_list_by_hand(rt: HostRuntime) -> Result<(), Fail> {
-    // b2 at 1009, own at 1013 and d at 1025 are left.
-    let rows = [
-        (999, ",b2,"),
-        (1001, ",b2,"),
-        (1009, "b2,own,"),
-        (1011, ",own,b2"),
-        (1013, "own,d,b2"),
-        (1017, ",d,own"),
-        (1021, ",d,own"),
-        (1025, "d,,own"),
-        (1027, ",,d"),
-    ];
-    for (last, want) in rows {
+    for (last, want) in SEEN {
         assert_eq!(rt; seen(rt.alloc(), last)?.as_str(), want, "at {last}");
     }
     Ok(())
@@ -168,9 +170,12 @@ fn stacked(alloc: Global, last: u32) -> Result<String, Fail> {
     Ok(format!(in alloc; "{row} {} {}", base.entries().len(), changes.len())?)
 }
 
+/// What is seen around a last division, the entries of the base and the changes of the layers.
+const STACKED: [(u32, &str); 2] = [(1009, "b2,n,a 4 3"), (1017, ",d,n 4 3")];
+
 #[test]
 fn a_stacked_base_answers_through_its_layers_and_comes_back(rt: HostRuntime) -> Result<(), Fail> {
-    for (last, want) in [(1009, "b2,n,a 4 3"), (1017, ",d,n 4 3")] {
+    for (last, want) in STACKED {
         assert_eq!(rt; stacked(rt.alloc(), last)?.as_str(), want, "at {last}");
     }
     Ok(())
@@ -200,17 +205,19 @@ fn unknown(alloc: Global, last: u32, rows: Rows) -> Result<String, Fail> {
     Ok(format!(in alloc; "{} {}", entry_data(&found), view.faults())?)
 }
 
+/// Above which division is asked, what the base answers, and what is seen, with the count of faults.
+const UNKNOWN: [(u32, Rows, &str); 4] = [
+    (1009, &[(1011, "x")], "x 0"),
+    // The change of 1013 comes before what the base has.
+    (1009, &[(1015, "x")], "n 0"),
+    (1013, &[], "fault 1"),
+    // What is behind the deleted 1017 is asked for.
+    (1013, &[(1017, "c")], "fault 1"),
+];
+
 #[test]
 fn a_view_of_a_map_that_isnt_known_answers_or_counts_a_fault(rt: HostRuntime) -> Result<(), Fail> {
-    let rows: [(u32, Rows, &str); 4] = [
-        (1009, &[(1011, "x")], "x 0"),
-        // The change of 1013 comes before what the base has.
-        (1009, &[(1015, "x")], "n 0"),
-        (1013, &[], "fault 1"),
-        // What is behind the deleted 1017 is asked for.
-        (1013, &[(1017, "c")], "fault 1"),
-    ];
-    for (last, answers, want) in rows {
+    for (last, answers, want) in UNKNOWN {
         assert_eq!(rt;
             unknown(rt.alloc(), last, answers)?.as_str(),
             want,
@@ -240,9 +247,12 @@ fn merged(alloc: Global, deleted: u32) -> Result<String, Fail> {
     Ok(format!(in alloc; "{due} {left} {}", layers.is_due(&base))?)
 }
 
+/// How many entries are deleted; whether the layers are due, the entries left, and whether they still are.
+const MERGED: [(u32, &str); 2] = [(64, "false 36 false"), (65, "true 35 false")];
+
 #[test]
 fn layers_merged_into_their_base_keep_no_deletions(rt: HostRuntime) -> Result<(), Fail> {
-    for (deleted, want) in [(64, "false 36 false"), (65, "true 35 false")] {
+    for (deleted, want) in MERGED {
         assert_eq!(rt;
             merged(rt.alloc(), deleted)?.as_str(),
             want,

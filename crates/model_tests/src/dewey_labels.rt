@@ -1,7 +1,7 @@
 //! Lists, texts, labels and their texts, as tables.
 ghost use Rattle.std.specs.Prelude.{◌≡◌, IfOk};
 
-use crate::{Copied, Label, LabelTextError, List, NoMemory, Text};
+use dewey_labels::{Copied, Label, LabelTextError, List, NoMemory, Text};
 use std::alloc::Global;
 use std::test::Fail;
 

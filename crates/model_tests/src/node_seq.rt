@@ -1,6 +1,6 @@
 //! Maps and walks over them, as tables worked by hand.
-use crate::{Answer, NodeRead, SeqError, SortedSeq, UnknownSeq, entries_above, entries_below};
 use dewey_labels::{Label, List, Text};
+use node_seq::{Answer, NodeRead, SeqError, SortedSeq, UnknownSeq, entries_above, entries_below};
 use std::alloc::Global;
 use std::test::Fail;
 use tree_model::{Key, Record};
@@ -38,20 +38,21 @@ fn text(record: Option<Record>, alloc: Global) -> Result<String, Fail> {
     Ok(format!(in alloc; "{record:?}")?)
 }
 
+/// At each key: the record there, the next key's and the last key's before it.
+const AROUND: [(&[u32], &str, &str, &str, &str); 6] = [
+    (&[1], "", "None", "Document", "none"),
+    (&[1, 1001], "", "Document", "Element", "none"),
+    (&[1, 1001, 1001], "", "Element", "Attr", "Document"),
+    (&[1, 1001, 1001], "m", "None", "Attr", "Element"),
+    (&[1, 1001, 1001], "n", "Attr", "Text", "Element"),
+    (&[1, 1001, 1001, 1003], "", "None", "none", "Text"),
+];
+
 #[test]
 fn a_map_answers_as_its_list_by_hand(rt: HostRuntime) -> Result<(), Fail> {
     let alloc = rt.alloc();
     let mut seq = small_map(alloc)?;
-    // At each key: the record there, the next key's and the last key's before it.
-    let rows: [(&[u32], &str, &str, &str, &str); 6] = [
-        (&[1], "", "None", "Document", "none"),
-        (&[1, 1001], "", "Document", "Element", "none"),
-        (&[1, 1001, 1001], "", "Element", "Attr", "Document"),
-        (&[1, 1001, 1001], "m", "None", "Attr", "Element"),
-        (&[1, 1001, 1001], "n", "Attr", "Text", "Element"),
-        (&[1, 1001, 1001, 1003], "", "None", "none", "Text"),
-    ];
-    for (divisions, name, here, above, below) in rows {
+    for (divisions, name, here, above, below) in AROUND {
         let key = key(alloc, divisions, name)?;
         let got = seq.get(alloc, &key)?;
         assert!(rt; text(got, alloc)?.contains(here), "at {key:?}");
@@ -221,19 +222,21 @@ fn a_walk_over_a_map_that_isnt_known_ends_or_answers_the_fault(
     Ok(())
 }
 
+/// Answers that contradict one another.
+const OTHERWISE: [AnswerRow; 4] = [
+    AnswerRow::Element(&[1, 1001, 1001], "", "a"),
+    AnswerRow::Nothing,
+    AnswerRow::Element(&[1, 1001, 1001], "", "b"),
+    AnswerRow::Element(&[1, 1001, 1001], "", "b"),
+];
+
 #[test]
 fn a_map_that_isnt_known_may_answer_otherwise_each_time(rt: HostRuntime) -> Result<(), Fail> {
     let alloc = rt.alloc();
-    let rows = [
-        AnswerRow::Element(&[1, 1001, 1001], "", "a"),
-        AnswerRow::Nothing,
-        AnswerRow::Element(&[1, 1001, 1001], "", "b"),
-        AnswerRow::Element(&[1, 1001, 1001], "", "b"),
-    ];
     let at = key(alloc, &[1, 1001, 1001], "")?;
     let end = key(alloc, &[1, 1003], "")?;
     let mut seq = UnknownSeq {
-        answers: answers(alloc, &rows)?,
+        answers: answers(alloc, &OTHERWISE)?,
         faults: 0,
     };
     assert!(rt; seq.get(alloc, &at)?.is_some());
