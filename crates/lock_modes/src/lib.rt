@@ -7,8 +7,6 @@ mod ask;
 mod edge_mode;
 mod mode;
 mod part;
-#[cfg(test)]
-mod tests;
 
 pub use ask::Ask;
 pub use edge_mode::EdgeMode;

@@ -6,8 +6,6 @@
 mod intentions;
 mod request;
 mod resource;
-#[cfg(test)]
-mod tests;
 
 pub use intentions::with_intentions;
 pub use request::Request;

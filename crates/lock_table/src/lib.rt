@@ -8,8 +8,6 @@ mod laws;
 mod owned;
 mod rows;
 mod table;
-#[cfg(test)]
-mod tests;
 
 pub use laws::{
     joins_bar_as_their_parts, same_resources_are_equal, tables_hold_the_joins_of_grants,

@@ -8,8 +8,6 @@ mod graph;
 mod laws;
 mod places;
 mod search;
-#[cfg(test)]
-mod tests;
 
 pub use graph::WaitGraph;
 pub use laws::{after_ask, after_release, nobody_waits_for_itself};

@@ -2,9 +2,9 @@
 ghost use Rattle.std.specs.Prelude.{IsTrue};
 ghost use Rattle.lock_resources.specs.Intentions.{has_row};
 
-use crate::{Request, Resource, Side, with_intentions};
 use dewey_labels::{Label, List, NoMemory, Text};
 use lock_modes::{Ask, EdgeMode, Mode};
+use lock_resources::{Request, Resource, Side, with_intentions};
 use std::alloc::Global;
 use std::test::Fail;
 
@@ -129,15 +129,18 @@ fn edge_is_shown(alloc: Global, side: Side, want: &str) -> Result<bool, Fail> {
     Ok(text.as_slice() == want.as_bytes() && copies[0] == request)
 }
 
+/// A side, and how a request at it is shown.
+const SIDES: [(Side, &str); 4] = [
+    (Side::First, "first 1.1001.1001 ER,"),
+    (Side::Last, "last 1.1001.1001 ER,"),
+    (Side::Next, "next 1.1001.1001 ER,"),
+    (Side::Prev, "prev 1.1001.1001 ER,"),
+];
+
 #[test]
 fn each_side_has_its_word(rt: HostRuntime) -> Result<(), Fail> {
     let alloc = rt.alloc();
-    for (side, want) in [
-        (Side::First, "first 1.1001.1001 ER,"),
-        (Side::Last, "last 1.1001.1001 ER,"),
-        (Side::Next, "next 1.1001.1001 ER,"),
-        (Side::Prev, "prev 1.1001.1001 ER,"),
-    ] {
+    for (side, want) in SIDES {
         assert!(rt; edge_is_shown(alloc, side, want)?);
     }
     Ok(())

@@ -1,0 +1,240 @@
+//! Owners who wait for one another at resources, and the cycles that they would close.
+use dewey_labels::{Label, List};
+use lock_modes::{Ask, EdgeMode, Mode};
+use lock_resources::{Request, Resource, Side};
+use lock_table::{Asked, LockTable};
+use std::alloc::Global;
+use std::test::Fail;
+use wait_graph::WaitGraph;
+
+/// A table and a graph beside it, as sessions use them.
+#[derive(Drop)]
+struct Sessions {
+    table: LockTable,
+    graph: WaitGraph,
+}
+
+/// How an ask ends: granted, waiting for these, or a deadlock with this cycle.
+#[derive(Debug, Drop, PartialEq)]
+enum End {
+    Granted,
+    Waits(Vec<u32>),
+    Deadlock(Vec<u32>),
+}
+
+impl Sessions {
+    fn new(alloc: Global) -> Result<Sessions, Fail> {
+        Ok(Sessions {
+            table: LockTable::new(alloc)?,
+            graph: WaitGraph::new(alloc)?,
+        })
+    }
+
+    /// Asks for a mode, and waits where that closes no cycle.
+    fn ask(&mut self, alloc: Global, owner: u32, request: Request) -> Result<End, Fail> {
+        let holders = match self.table.ask(alloc, owner, &request)? {
+            Asked::Granted => return Ok(End::Granted),
+            Asked::Conflict { holders } => holders,
+        };
+        self.graph.reserve(alloc, owner)?;
+        match self
+            .graph
+            .cycle_through(alloc, owner, &request, &self.table)?
+        {
+            Some(cycle) => Ok(End::Deadlock(cycle.into_vec())),
+            None => {
+                self.graph.wait(owner, request, &self.table);
+                Ok(End::Waits(holders.into_vec()))
+            }
+        }
+    }
+
+    /// Ends an owner's transaction.
+    fn end(&mut self, owner: u32) {
+        self.table.release_all(owner);
+        self.graph.stop(owner);
+    }
+}
+
+/// How an ask is to end.
+#[derive(Drop)]
+enum Want {
+    Granted,
+    Waits(&'static [u32]),
+    Deadlock(&'static [u32]),
+}
+
+fn is_wanted(end: &End, want: &Want) -> bool {
+    match (end, want) {
+        (End::Granted, Want::Granted) => true,
+        (End::Waits(by), Want::Waits(want)) => by.as_slice() == *want,
+        (End::Deadlock(cycle), Want::Deadlock(want)) => cycle.as_slice() == *want,
+        _ => false,
+    }
+}
+
+/// An owner asks for a mode at a label, or at an edge of it, or its transaction ends.
+#[derive(Drop)]
+enum Step {
+    Asks(u32, &'static str, Option<Side>, Ask, Want),
+    Ends(u32),
+}
+
+fn request(alloc: Global, label: &str, side: Option<Side>, ask: Ask) -> Result<Request, Fail> {
+    let label = Label::read_text(alloc, label.as_bytes())?;
+    let resource = match side {
+        Some(side) => Resource::Edge(label, side),
+        None => Resource::Node(label),
+    };
+    Ok(Request { resource, ask })
+}
+
+/// Whether each ask in turn ends as it is to end.
+fn are_met(alloc: Global, steps: &[Step]) -> Result<bool, Fail> {
+    let mut all = Sessions::new(alloc)?;
+    for step in steps {
+        match step {
+            Step::Asks(owner, label, side, ask, want) => {
+                let request = request(alloc, label, *side, *ask)?;
+                if !is_wanted(&all.ask(alloc, *owner, request)?, want) {
+                    return Ok(false);
+                }
+            }
+            Step::Ends(owner) => all.end(*owner),
+        }
+    }
+    Ok(true)
+}
+
+/// A request at the n-th child of the document.
+fn child(alloc: Global, n: u32, mode: Mode) -> Result<Request, Fail> {
+    let mut divisions = List::new(alloc);
+    for division in [1, 1001, n.wrapping_mul(2).wrapping_add(1001)] {
+        divisions.push(division)?;
+    }
+    match Label::of_divisions(divisions) {
+        Some(label) => Ok(Request {
+            resource: Resource::Node(label),
+            ask: Ask::Node(mode),
+        }),
+        None => Err(Fail::from("no label")),
+    }
+}
+
+const E: &str = "1.1001.1001";
+
+const LR: Ask = Ask::Node(Mode::LR);
+
+const SR: Ask = Ask::Node(Mode::SR);
+
+const CX: Ask = Ask::Node(Mode::CX);
+
+const SX: Ask = Ask::Node(Mode::SX);
+
+/// Two read the children of an element, and each would append one.
+const APPENDS: [Step; 6] = [
+    Step::Asks(1, E, None, LR, Want::Granted),
+    Step::Asks(2, E, None, LR, Want::Granted),
+    Step::Asks(1, E, None, CX, Want::Waits(&[2])),
+    Step::Asks(2, E, None, CX, Want::Deadlock(&[2, 1])),
+    Step::Ends(2),
+    Step::Asks(1, E, None, CX, Want::Granted),
+];
+
+#[test]
+fn two_who_read_the_children_and_append_are_a_deadlock(rt: HostRuntime) -> Result<(), Fail> {
+    assert!(rt; are_met(rt.alloc(), &APPENDS)?);
+    Ok(())
+}
+
+const FIRST: Option<Side> = Some(Side::First);
+
+/// One reads an edge, and another would change it.
+const AT_AN_EDGE: [Step; 3] = [
+    Step::Asks(1, E, FIRST, Ask::Edge(EdgeMode::ER), Want::Granted),
+    Step::Asks(2, E, FIRST, Ask::Edge(EdgeMode::EX), Want::Waits(&[1])),
+    Step::Asks(1, E, FIRST, Ask::Edge(EdgeMode::ER), Want::Granted),
+];
+
+#[test]
+fn who_waits_at_an_edge_is_no_deadlock(rt: HostRuntime) -> Result<(), Fail> {
+    assert!(rt; are_met(rt.alloc(), &AT_AN_EDGE)?);
+    Ok(())
+}
+
+/// Owners from 1 to `count`, each of whom has changed its child and waits to read that of the next; the last asks for the first's.
+fn round(alloc: Global, count: u32) -> Result<End, Fail> {
+    let mut all = Sessions::new(alloc)?;
+    for owner in 1..count.wrapping_add(1) {
+        let _granted = all.ask(alloc, owner, child(alloc, owner, Mode::SX)?)?;
+    }
+    for owner in 1..count {
+        let _waits = all.ask(alloc, owner, child(alloc, owner.wrapping_add(1), Mode::SR)?)?;
+    }
+    all.ask(alloc, count, child(alloc, 1, Mode::SR)?)
+}
+
+/// Whether the last of so many closes a cycle of itself, 1, 2 and so on up to the one before it.
+fn closes(alloc: Global, count: u32) -> Result<bool, Fail> {
+    let mut cycle = Vec::new(alloc);
+    cycle.push(count)?;
+    for owner in 1..count {
+        cycle.push(owner)?;
+    }
+    Ok(round(alloc, count)? == End::Deadlock(cycle))
+}
+
+#[test]
+fn a_cycle_begins_with_who_closes_it(rt: HostRuntime) -> Result<(), Fail> {
+    for count in [2, 3, 64] {
+        assert!(rt; closes(rt.alloc(), count)?, "{count} owners");
+    }
+    Ok(())
+}
+
+const A: &str = "1.1001.1003";
+
+const B: &str = "1.1001.1005";
+
+const C: &str = "1.1001.1007";
+
+/// 2 and 4 read what 9 asks to change, and wait for 9; 1 reads it too and waits for 4 alone, which waits for 9.
+const CYCLES: [Step; 13] = [
+    Step::Asks(4, A, None, SR, Want::Granted),
+    Step::Asks(2, A, None, SR, Want::Granted),
+    Step::Asks(1, A, None, SR, Want::Granted),
+    Step::Asks(4, B, None, SX, Want::Granted),
+    Step::Asks(9, C, None, SX, Want::Granted),
+    Step::Asks(4, C, None, SR, Want::Waits(&[9])),
+    Step::Asks(1, B, None, SR, Want::Waits(&[4])),
+    Step::Asks(2, C, None, SR, Want::Waits(&[9])),
+    Step::Asks(9, A, None, SX, Want::Deadlock(&[9, 2])),
+    Step::Ends(2),
+    Step::Asks(9, A, None, SX, Want::Deadlock(&[9, 4])),
+    Step::Ends(4),
+    Step::Asks(9, A, None, SX, Want::Waits(&[1])),
+];
+
+#[test]
+fn the_least_of_the_shortest_cycles_is_shown(rt: HostRuntime) -> Result<(), Fail> {
+    assert!(rt; are_met(rt.alloc(), &CYCLES)?);
+    Ok(())
+}
+
+/// Three read an element, and 5 would change it: it holds SR there itself, and so waits for the two others alone.
+const OTHERS: [Step; 8] = [
+    Step::Asks(3, E, None, SR, Want::Granted),
+    Step::Asks(5, E, None, SR, Want::Granted),
+    Step::Asks(8, E, None, SR, Want::Granted),
+    Step::Asks(5, E, None, SX, Want::Waits(&[3, 8])),
+    Step::Ends(3),
+    Step::Asks(5, E, None, SX, Want::Waits(&[8])),
+    Step::Ends(8),
+    Step::Asks(5, E, None, SX, Want::Granted),
+];
+
+#[test]
+fn an_owner_may_wait_for_several_and_not_for_itself(rt: HostRuntime) -> Result<(), Fail> {
+    assert!(rt; are_met(rt.alloc(), &OTHERS)?);
+    Ok(())
+}
