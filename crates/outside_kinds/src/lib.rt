@@ -13,8 +13,6 @@ mod noted_call;
 mod stop_images;
 mod streams;
 mod sure_source;
-#[cfg(test)]
-mod tests;
 
 pub use bounded::{Bounded, INPUT_LIMIT};
 pub use file_disk::FileDisk;

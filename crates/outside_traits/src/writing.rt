@@ -1,5 +1,5 @@
 //! Writing a whole text, by as many calls as a sink asks for.
-ghost use Rattle.std.specs.Prelude.{◌≤◌, None, OnOk, OnErr};
+ghost use Rattle.std.specs.Prelude.{OnOk, OnErr};
 ghost use Rattle.outside_traits.specs.Bytes.{Took, TookPrefix};
 ghost use Rattle.outside_traits.specs.Faults.{HasCause, failed};
 
@@ -19,56 +19,4 @@ pub fn write_all<K: Sink>(sink: &mut K, text: &[u8]) -> Result<(), Failed>
         written += sink.write(rest)?;
     }
     Ok(())
-}
-
-#[cfg(test)]
-mod tests {
-    use super::*;
-
-    /// A sink of eight bytes that takes at most three of them a call.
-    #[derive(Drop)]
-    struct Small {
-        held: [u8; 8],
-        used: usize,
-        faults: u64,
-        ghost within: { used ≤ 8 },
-    }
-
-    impl Sink for Small {
-        ghost held = { λ _. None };
-
-        ghost faults = { λ s. s.faults };
-
-        fn write(&mut self, piece: &[u8]) -> Result<usize, Failed> {
-            let count = piece.len().min(3).min(8 - self.used);
-            if count > 0 {
-                self.held[self.used..self.used + count].copy_from_slice(&piece[..count]);
-                self.used += count;
-                return Ok(count);
-            }
-            self.faults = self.faults.saturating_add(1);
-            Err(Failed)
-        }
-
-        fn faults(&self) -> u64 {
-            self.faults
-        }
-    }
-
-    #[test]
-    fn a_text_is_written_in_as_many_calls_as_the_sink_asks_for(rt: HostRuntime) {
-        for (text, wrote, held) in [
-            (b"".as_slice(), Ok(()), b"--------"),
-            (b"abcdefg".as_slice(), Ok(()), b"abcdefg-"),
-            (b"abcdefghi".as_slice(), Err(Failed), b"abcdefgh"),
-        ] {
-            let mut sink = Small {
-                held: [b'-'; 8],
-                used: 0,
-                faults: 0,
-            };
-            assert_eq!(rt; write_all(&mut sink, text), wrote);
-            assert_eq!(rt; &sink.held, held);
-        }
-    }
 }

@@ -1,6 +1,6 @@
 //! Each kind, as tables of calls, one or the other failing.
-use crate::{Bounded, FileDisk, INPUT_LIMIT, MemDisk, MemSink, MemSource, SureSource};
 use dewey_labels::List;
+use outside_kinds::{Bounded, FileDisk, INPUT_LIMIT, MemDisk, MemSink, MemSource, SureSource};
 use outside_traits::{Disk, Failed, Sink, Source};
 use std::alloc::{AllocError, Global};
 use std::fs::File;
@@ -11,16 +11,18 @@ fn list_of<T: Copy>(alloc: Global, items: &[T]) -> Result<List<T>, AllocError> {
     Ok(List::from_vec(Vec::from_slice(alloc, items)?))
 }
 
+/// The calls that fail, what four reads of three bytes answer, and the count of faults.
+const READS: [([u64; 2], [Result<usize, Failed>; 4], u64); 3] = [
+    ([9, 9], [Ok(3), Ok(2), Ok(0), Ok(0)], 0),
+    ([1, 1], [Err(Failed), Ok(3), Ok(2), Ok(0)], 1),
+    ([2, 3], [Ok(3), Err(Failed), Err(Failed), Ok(2)], 2),
+];
+
 #[test]
 fn a_source_gives_its_bytes_in_order_and_fails_at_the_listed_calls(
     rt: HostRuntime,
 ) -> Result<(), Fail> {
-    let rows = [
-        ([9, 9], [Ok(3), Ok(2), Ok(0), Ok(0)], 0),
-        ([1, 1], [Err(Failed), Ok(3), Ok(2), Ok(0)], 1),
-        ([2, 3], [Ok(3), Err(Failed), Err(Failed), Ok(2)], 2),
-    ];
-    for (fails, answers, faults) in rows {
+    for (fails, answers, faults) in READS {
         let bytes = list_of(rt.alloc(), b"abcde")?;
         let mut source = MemSource::new(bytes, list_of(rt.alloc(), &fails)?);
         let mut buf = [0; 3];
@@ -61,14 +63,16 @@ fn a_bounded_source_gives_what_its_source_gives_and_counts_its_failures(
     Ok(())
 }
 
+/// The call that fails, what two writes answer, and what the sink holds then.
+const WRITES: [(u64, [Result<usize, Failed>; 2], &[u8]); 3] = [
+    (9, [Ok(2), Ok(3)], b"abcde"),
+    (1, [Err(Failed), Ok(3)], b"cde"),
+    (2, [Ok(2), Err(Failed)], b"ab"),
+];
+
 #[test]
 fn a_sink_takes_each_piece_and_fails_at_the_listed_calls(rt: HostRuntime) -> Result<(), Fail> {
-    let rows = [
-        (9, [Ok(2), Ok(3)], b"abcde".as_slice()),
-        (1, [Err(Failed), Ok(3)], b"cde".as_slice()),
-        (2, [Ok(2), Err(Failed)], b"ab".as_slice()),
-    ];
-    for (fails, answers, held) in rows {
+    for (fails, answers, held) in WRITES {
         let mut sink = MemSink::new(rt.alloc(), list_of(rt.alloc(), &[fails])?);
         assert_eq!(rt; sink.write(b"ab"), answers[0]);
         assert_eq!(rt; sink.write(b"cde"), answers[1]);
@@ -109,17 +113,19 @@ fn answers(disk: &mut MemDisk) -> [u8; 5] {
     letters
 }
 
+/// The call that fails, the letters of the answers, and the disk's bytes then.
+const CALLS: [(u64, &[u8; 5], &[u8]); 6] = [
+    (9, b"DDDDD", b"aXYZ!"),
+    (1, b"FDDDD", b"abcZ!"),
+    (2, b"DFDDD", b"aXYZ!"),
+    (3, b"DDFDD", b"aXYZ!"),
+    (4, b"DDDFD", b"aXYd"),
+    (5, b"DDDDF", b"aXYZ!"),
+];
+
 #[test]
 fn a_disk_fails_at_the_listed_call_and_keeps_its_bytes(rt: HostRuntime) -> Result<(), Fail> {
-    let rows = [
-        (9, b"DDDDD", b"aXYZ!".as_slice()),
-        (1, b"FDDDD", b"abcZ!".as_slice()),
-        (2, b"DFDDD", b"aXYZ!".as_slice()),
-        (3, b"DDFDD", b"aXYZ!".as_slice()),
-        (4, b"DDDFD", b"aXYd".as_slice()),
-        (5, b"DDDDF", b"aXYZ!".as_slice()),
-    ];
-    for (fails, letters, bytes) in rows {
+    for (fails, letters, bytes) in CALLS {
         let first = list_of(rt.alloc(), b"abcd")?;
         let mut disk = MemDisk::new(first, list_of(rt.alloc(), &[fails])?);
         assert_eq!(rt; &answers(&mut disk), letters, "call {fails}");
@@ -143,6 +149,17 @@ fn images_of(alloc: Global, disk: &MemDisk, call: u64) -> Result<Vec<u8>, Fail> 
     Ok(text)
 }
 
+/// A call, and the images of a stop in it.
+const IMAGES: [(u64, &[u8]); 5] = [
+    (0, b"|abcd"),
+    (1, b"|abcd|aXYd|a..d"),
+    // The sync that the crash comes in has made sure of nothing yet.
+    (2, b"|abcd|aXYd|a..d"),
+    // A write that failed may have reached the file.
+    (3, b"|aXYd|aXZd|aX.d"),
+    (4, b"|aXYd|aXYd!|aXYd.|aXZd|aXZd!|aXZd.|aX.d|aX.d!|aX.d."),
+];
+
 #[test]
 fn each_write_behind_the_last_sync_is_not_there_or_there_or_zeros(
     rt: HostRuntime,
@@ -154,19 +171,7 @@ fn each_write_behind_the_last_sync_is_not_there_or_there_or_zeros(
     assert!(rt; write(&mut disk, 2, b"Z").is_err());
     assert!(rt; write(&mut disk, 4, b"!").is_ok());
     assert!(rt; write(&mut disk, 5, b"?").is_ok());
-    let rows = [
-        (0, b"|abcd".as_slice()),
-        (1, b"|abcd|aXYd|a..d".as_slice()),
-        // The sync that the crash comes in has made sure of nothing yet.
-        (2, b"|abcd|aXYd|a..d".as_slice()),
-        // A write that failed may have reached the file.
-        (3, b"|aXYd|aXZd|aX.d".as_slice()),
-        (
-            4,
-            b"|aXYd|aXYd!|aXYd.|aXZd|aXZd!|aXZd.|aX.d|aX.d!|aX.d.".as_slice(),
-        ),
-    ];
-    for (call, images) in rows {
+    for (call, images) in IMAGES {
         assert_eq!(rt;
             images_of(rt.alloc(), &disk, call)?.as_slice(),
             images,

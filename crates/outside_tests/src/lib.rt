@@ -1,0 +1,9 @@
+//! Sources, sinks and disks, in memory and real: which calls fail, what they give and keep, and what a crash leaves of a disk in memory.
+#![tactic(auto)]
+
+#[cfg(test)]
+mod outside_kinds;
+#[cfg(test)]
+mod streams;
+#[cfg(test)]
+mod writing;
