@@ -16,8 +16,6 @@ mod laws;
 mod new_journal;
 mod opening;
 mod reading;
-#[cfg(test)]
-mod tests;
 
 pub use disk_fault::DiskFault;
 pub use group::{Group, Groups};

@@ -10,8 +10,6 @@ mod labels;
 mod laws;
 mod open_error;
 mod records;
-#[cfg(test)]
-mod tests;
 mod texts;
 
 pub use changes::{read_change, write_change};

@@ -15,8 +15,6 @@ mod records;
 mod recovered;
 mod rules;
 mod syncing;
-#[cfg(test)]
-mod tests;
 
 pub use laws::{
     a_commit_more_is_opened, empty_files_stand_for_the_empty_tree, opened_files_are_trees,

@@ -1,59 +1,9 @@
 //! The bytes of each form at its edges, and bytes that are of no form.
-use crate::divisions::{read_division, write_division};
-use crate::{read_change, read_key, read_record, write_change, write_key, write_record};
 use dewey_labels::{Label, List};
+use node_records::{read_change, read_key, read_record, write_change, write_key, write_record};
 use std::alloc::Global;
 use std::test::Fail;
 use tree_model::{Change, Key, Record};
-
-/// The edges of the forms of a division.
-const EDGES: [(u32, &[u8]); 8] = [
-    (1, &[0x01]),
-    (127, &[0x7F]),
-    (128, &[0x80, 0x00]),
-    (16_511, &[0xBF, 0xFF]),
-    (16_512, &[0xC0, 0x00, 0x00]),
-    (2_113_663, &[0xDF, 0xFF, 0xFF]),
-    (2_113_664, &[0xE0, 0x00, 0x20, 0x40, 0x80]),
-    (4_294_967_291, &[0xE0, 0xFF, 0xFF, 0xFF, 0xFB]),
-];
-
-#[test]
-fn a_division_has_the_bytes_of_its_form_at_each_edge(rt: HostRuntime) -> Result<(), Fail> {
-    for (division, bytes) in EDGES {
-        let mut out = List::new(rt.alloc());
-        write_division(rt.alloc(), division, &mut out)?;
-        assert_eq!(rt; out.as_slice(), bytes, "at {division}");
-        out.push(7)?;
-        assert_eq!(rt;
-            read_division(out.as_slice()),
-            Some((division, bytes.len())),
-            "at {division}"
-        );
-    }
-    Ok(())
-}
-
-#[test]
-fn a_division_cut_short_or_in_a_longer_form_is_none(rt: HostRuntime) {
-    let rows: [&[u8]; 10] = [
-        &[],
-        &[0x80],
-        &[0xC0, 0x00],
-        &[0xE0, 0x00, 0x20, 0x40],
-        // The greatest division of three bytes, and 127, in five.
-        &[0xE0, 0x00, 0x20, 0x40, 0x7F],
-        &[0xE0, 0x00, 0x00, 0x00, 0x7F],
-        // First bytes of no form.
-        &[0xE1, 0x00, 0x20, 0x40, 0x80],
-        &[0xE8, 0x00, 0x20, 0x40, 0x80],
-        &[0xF0, 0x00, 0x20, 0x40, 0x80],
-        &[0xFF, 0xFF, 0xFF, 0xFF, 0xFF],
-    ];
-    for bytes in rows {
-        assert_eq!(rt; read_division(bytes), None, "at {bytes:?}");
-    }
-}
 
 fn key(alloc: Global, divisions: &[u32], name: &str) -> Result<Key, Fail> {
     let divisions = List::from_vec(Vec::from_slice(alloc, divisions)?);
@@ -73,6 +23,56 @@ fn has_bytes(alloc: Global, key: &Key, bytes: &[u8]) -> Result<bool, Fail> {
         Some((again, length)) => Ok(written && again == *key && length == bytes.len()),
         None => Ok(false),
     }
+}
+
+/// Labels with the divisions at the edges of the forms, and the bytes of their keys without a name.
+const EDGES: [(&[u32], &[u8]); 8] = [
+    (&[1], &[0x01, 0x00, 0x00]),
+    (&[1, 127], &[0x01, 0x7F, 0x00, 0x00]),
+    (&[1, 128, 3], &[0x01, 0x80, 0x00, 0x03, 0x00, 0x00]),
+    (&[1, 16_511], &[0x01, 0xBF, 0xFF, 0x00, 0x00]),
+    (&[1, 16_512, 3], &[0x01, 0xC0, 0x00, 0x00, 0x03, 0x00, 0x00]),
+    (&[1, 2_113_663], &[0x01, 0xDF, 0xFF, 0xFF, 0x00, 0x00]),
+    (
+        &[1, 2_113_664, 3],
+        &[0x01, 0xE0, 0x00, 0x20, 0x40, 0x80, 0x03, 0x00, 0x00],
+    ),
+    (
+        &[1, 4_294_967_291],
+        &[0x01, 0xE0, 0xFF, 0xFF, 0xFF, 0xFB, 0x00, 0x00],
+    ),
+];
+
+#[test]
+fn a_division_has_the_bytes_of_its_form_at_each_edge(rt: HostRuntime) -> Result<(), Fail> {
+    for (divisions, bytes) in EDGES {
+        let key = key(rt.alloc(), divisions, "")?;
+        assert!(rt; has_bytes(rt.alloc(), &key, bytes)?, "of {key:?}");
+    }
+    Ok(())
+}
+
+/// Labels whose second division is cut short or in no form of its own, before the division 3 and both ends of a key.
+const NO_DIVISIONS: [&[u8]; 9] = [
+    &[0x01, 0x80],
+    &[0x01, 0xC0, 0x00],
+    &[0x01, 0xE0, 0x00, 0x20, 0x40],
+    // The greatest division of three bytes, and 127, in five.
+    &[0x01, 0xE0, 0x00, 0x20, 0x40, 0x7F, 0x03, 0x00, 0x00],
+    &[0x01, 0xE0, 0x00, 0x00, 0x00, 0x7F, 0x03, 0x00, 0x00],
+    // First bytes of no form.
+    &[0x01, 0xE1, 0x00, 0x20, 0x40, 0x80, 0x03, 0x00, 0x00],
+    &[0x01, 0xE8, 0x00, 0x20, 0x40, 0x80, 0x03, 0x00, 0x00],
+    &[0x01, 0xF0, 0x00, 0x20, 0x40, 0x80, 0x03, 0x00, 0x00],
+    &[0x01, 0xFF, 0xFF, 0xFF, 0xFF, 0xFF, 0x03, 0x00, 0x00],
+];
+
+#[test]
+fn a_division_cut_short_or_in_a_longer_form_is_none(rt: HostRuntime) -> Result<(), Fail> {
+    for bytes in NO_DIVISIONS {
+        assert!(rt; read_key(rt.alloc(), bytes)?.is_none(), "at {bytes:?}");
+    }
+    Ok(())
 }
 
 #[test]

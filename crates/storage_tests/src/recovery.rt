@@ -1,8 +1,9 @@
-use crate::open_store;
+//! Stores as their two files have them, damaged at each rule's place, and failing and stopped at each call of their disks.
 use dewey_labels::{List, NoMemory};
 use node_records::{File, OpenError, Place};
 use outside_kinds::MemDisk;
 use outside_traits::Disk;
+use recovery::open_store;
 use std::alloc::Global;
 use std::test::Fail;
 use tree_model::{Key, Record};
@@ -36,6 +37,16 @@ fn opens(alloc: Global, journal: &[u8], pages: &[u8]) -> Result<(u32, usize), Op
 
 fn damaged(file: File, at: u64) -> Result<(u32, usize), OpenError> {
     Err(OpenError::Damaged(Place { file, at }))
+}
+
+/// The number and the count of records that two files open with, or the place of their damage.
+type Stands = Result<(u32, usize), (File, u64)>;
+
+fn told(stands: Stands) -> Result<(u32, usize), OpenError> {
+    match stands {
+        Ok(store) => Ok(store),
+        Err((file, at)) => damaged(file, at),
+    }
 }
 
 /// Puts a commit with this number and body in the place of the last gate, and the next gate behind it.
@@ -108,98 +119,117 @@ fn sixty_bytes_are_a_document_with_number_1(rt: HostRuntime) -> Result<(), Fail>
     Ok(())
 }
 
+/// How many of the sixty bytes there are, the place that is changed, the byte there, and what the files stand for.
+const CHANGED: [(usize, usize, u8, Stands); 11] = [
+    (60, 0, 1, Ok((1, 3))),
+    (60, 9, 2, Err((File::Journal, 8))),
+    (60, 10, 2, Err((File::Journal, 8))),
+    (60, 13, 2, Err((File::Journal, 8))),
+    (60, 59, 1, Err((File::Journal, 59))),
+    (60, 3, 0x44, Err((File::Journal, 0))),
+    (60, 0, 0, Err((File::Journal, 0))),
+    (5, 0, 1, Err((File::Journal, 0))),
+    (9, 0, 0, Ok((0, 0))),
+    (1, 0, 1, Ok((0, 0))),
+    (0, 0, 0, Ok((0, 0))),
+];
+
 #[test]
 fn a_changed_journal_opens_or_is_damaged_at_its_place(rt: HostRuntime) -> Result<(), Fail> {
-    // How many of the sixty bytes there are, the place that is changed, the byte there, and what the files stand for.
-    for (keep, at, byte, want) in [
-        (60, 0, 1, Ok((1, 3))),
-        (60, 9, 2, damaged(File::Journal, 8)),
-        (60, 10, 2, damaged(File::Journal, 8)),
-        (60, 13, 2, damaged(File::Journal, 8)),
-        (60, 59, 1, damaged(File::Journal, 59)),
-        (60, 3, 0x44, damaged(File::Journal, 0)),
-        (60, 0, 0, damaged(File::Journal, 0)),
-        (5, 0, 1, damaged(File::Journal, 0)),
-        (9, 0, 0, Ok((0, 0))),
-        (1, 0, 1, Ok((0, 0))),
-        (0, 0, 0, Ok((0, 0))),
-    ] {
+    for (keep, at, byte, want) in CHANGED {
         let bytes = changed(rt.alloc(), keep, at, byte)?;
         let found = opens(rt.alloc(), &bytes, b"");
-        assert_eq!(rt; found, want, "{keep} bytes with {byte} at {at}");
+        assert_eq!(rt; found, told(want), "{keep} bytes with {byte} at {at}");
     }
     Ok(())
 }
+
+/// The byte of the number, the bytes from the last gate on, and the place of the damage.
+const NUMBERS: [(u8, &[u8], u64); 4] = [
+    (2, b"\x01", 8),
+    (2, b"\x01\x00", 8),
+    (2, b"\x01\x01", 59),
+    (1, b"\x01\x00", 59),
+];
 
 #[test]
 fn a_wrong_first_number_comes_before_a_later_group_but_not_before_one_of_images(
     rt: HostRuntime,
 ) -> Result<(), Fail> {
-    // The byte of the number, the bytes from the last gate on, and the place.
-    for (number, rest, want) in [
-        (2, b"\x01".as_slice(), damaged(File::Journal, 8)),
-        (2, b"\x01\x00".as_slice(), damaged(File::Journal, 8)),
-        (2, b"\x01\x01".as_slice(), damaged(File::Journal, 59)),
-        (1, b"\x01\x00".as_slice(), damaged(File::Journal, 59)),
-    ] {
+    for (number, rest, want) in NUMBERS {
         let mut bytes = changed(rt.alloc(), 59, 13, number)?;
         bytes.extend_from_slice(rest)?;
         let found = opens(rt.alloc(), &bytes, b"");
-        assert_eq!(rt; found, want, "number {number} and {rest:?}");
+        assert_eq!(rt;
+            found,
+            damaged(File::Journal, want),
+            "number {number} and {rest:?}"
+        );
     }
     Ok(())
 }
+
+/// The same of a journal before pages.
+const BEFORE_PAGES: [(usize, usize, u8, Stands); 6] = [
+    (0, 0, 0, Err((File::Pages, 0))),
+    (9, 0, 0, Err((File::Pages, 0))),
+    (60, 0, 1, Err((File::Pages, 0))),
+    (60, 13, 2, Err((File::Pages, 0))),
+    (60, 59, 1, Err((File::Journal, 59))),
+    (5, 0, 1, Err((File::Journal, 0))),
+];
 
 #[test]
 fn pages_are_tested_behind_the_journal_and_before_the_tree(rt: HostRuntime) -> Result<(), Fail> {
     let pages = [0; 100];
-    for (keep, at, byte, want) in [
-        (0, 0, 0, damaged(File::Pages, 0)),
-        (9, 0, 0, damaged(File::Pages, 0)),
-        (60, 0, 1, damaged(File::Pages, 0)),
-        (60, 13, 2, damaged(File::Pages, 0)),
-        (60, 59, 1, damaged(File::Journal, 59)),
-        (5, 0, 1, damaged(File::Journal, 0)),
-    ] {
+    for (keep, at, byte, want) in BEFORE_PAGES {
         let bytes = changed(rt.alloc(), keep, at, byte)?;
         let found = opens(rt.alloc(), &bytes, &pages);
-        assert_eq!(rt; found, want, "{keep} bytes with {byte} at {at}");
+        assert_eq!(rt; found, told(want), "{keep} bytes with {byte} at {at}");
     }
     Ok(())
 }
 
+const TEXT: &[u8] = b"\x01\x01\x83\x69\x83\x69\0\0\0\0\0\x02\x03a";
+
+const NO_NAME: &[u8] = b"\x01\x01\x83\x69\x83\x69\0\0\0\0\0\x02\x021";
+
+const SECOND: &[u8] = b"\x01\x01\x83\x69\x83\x6B\0\0\0\0\0\x02\x02b";
+
+const ATTRIBUTE: &[u8] = b"\x01\x01\x83\x69\0n\0\0\0\0\x02\x045";
+
+const ROOT: &[u8] = b"\x01\x01\0\0\0\0\0\x01\x01";
+
+const AGAIN: &[u8] = b"\x01\x01\0y\0\0\0\0\x07\x041.1001";
+
+/// A rule that is broken, the entries of the tree, and the place.
+const RULES: [(&str, [&[u8]; 4], u64); 9] = [
+    ("an entry has no document", [ENTRY, b"", b"", b""], 1),
+    ("a parent isn't there", [b"", b"", ELEMENT, b""], 0),
+    ("no entry names a document", [DOCUMENT, b"", b"", b""], 0),
+    ("two entries do", [ENTRY, AGAIN, DOCUMENT, b""], 2),
+    (
+        "a text stands in a document",
+        [ENTRY, DOCUMENT, TEXT, b""],
+        2,
+    ),
+    ("a name is none", [ENTRY, DOCUMENT, NO_NAME, b""], 2),
+    (
+        "a document has two children",
+        [ENTRY, DOCUMENT, ELEMENT, SECOND],
+        3,
+    ),
+    (
+        "a document has an attribute",
+        [ENTRY, DOCUMENT, ATTRIBUTE, b""],
+        2,
+    ),
+    ("the root has a record", [ROOT, b"", b"", b""], 0),
+];
+
 #[test]
 fn each_rule_of_the_tree_has_its_place(rt: HostRuntime) -> Result<(), Fail> {
-    let text = b"\x01\x01\x83\x69\x83\x69\0\0\0\0\0\x02\x03a".as_slice();
-    let no_name = b"\x01\x01\x83\x69\x83\x69\0\0\0\0\0\x02\x021".as_slice();
-    let second = b"\x01\x01\x83\x69\x83\x6B\0\0\0\0\0\x02\x02b".as_slice();
-    let attribute = b"\x01\x01\x83\x69\0n\0\0\0\0\x02\x045".as_slice();
-    let root = b"\x01\x01\0\0\0\0\0\x01\x01".as_slice();
-    let again = b"\x01\x01\0y\0\0\0\0\x07\x041.1001".as_slice();
-    // The entries of the tree beside the three of the whole one, the rule that is broken, and its place.
-    for (rule, body, at) in [
-        ("an entry has no document", [ENTRY, b"", b"", b""], 1),
-        ("a parent isn't there", [b"", b"", ELEMENT, b""], 0),
-        ("no entry names a document", [DOCUMENT, b"", b"", b""], 0),
-        ("two entries do", [ENTRY, again, DOCUMENT, b""], 2),
-        (
-            "a text stands in a document",
-            [ENTRY, DOCUMENT, text, b""],
-            2,
-        ),
-        ("a name is none", [ENTRY, DOCUMENT, no_name, b""], 2),
-        (
-            "a document has two children",
-            [ENTRY, DOCUMENT, ELEMENT, second],
-            3,
-        ),
-        (
-            "a document has an attribute",
-            [ENTRY, DOCUMENT, attribute, b""],
-            2,
-        ),
-        ("the root has a record", [root, b"", b"", b""], 0),
-    ] {
+    for (rule, body, at) in RULES {
         let bytes = journal(rt.alloc(), &body)?;
         let found = opens(rt.alloc(), bytes.as_slice(), b"");
         assert_eq!(rt; found, damaged(File::Tree, at), "{rule}");
@@ -228,15 +258,20 @@ fn third_name(alloc: Global, journal: &[u8]) -> Result<(u32, u8), OpenError> {
     }
 }
 
+const NO_ELEMENT: &[u8] = b"\x02\x01\x83\x69\x83\x69\0\0";
+
+const RENAMED: &[u8] = b"\x01\x01\x83\x69\x83\x69\0\0\0\0\0\x02\x02b";
+
+/// What a second commit and a third do to the element, and its name then.
+const LATER: [(&[u8], &[u8], u8); 3] = [
+    (NO_ELEMENT, NO_ELEMENT, b'.'),
+    (NO_ELEMENT, RENAMED, b'b'),
+    (RENAMED, ELEMENT, b'a'),
+];
+
 #[test]
 fn commits_follow_one_another_and_what_is_deleted_stays_away(rt: HostRuntime) -> Result<(), Fail> {
-    let no_element = b"\x02\x01\x83\x69\x83\x69\0\0".as_slice();
-    let renamed = b"\x01\x01\x83\x69\x83\x69\0\0\0\0\0\x02\x02b".as_slice();
-    for (second, third, want) in [
-        (no_element, no_element, b'.'),
-        (no_element, renamed, b'b'),
-        (renamed, ELEMENT, b'a'),
-    ] {
+    for (second, third, want) in LATER {
         let mut bytes = journal(rt.alloc(), &[ENTRY, DOCUMENT, ELEMENT])?;
         commit(rt.alloc(), &mut bytes, 2, &[second])?;
         commit(rt.alloc(), &mut bytes, 3, &[third])?;

@@ -1,15 +1,19 @@
 //! Journals byte by byte, stopped and failing at each call of their disk.
-ghost use Rattle.std.specs.Prelude.{◌≡◌, false, None, Some, IsTrue, IfOk, OnOk};
+ghost use Rattle.std.specs.Prelude.{◌≡◌, ◌++◌, false, None, Some, IsSome, IsTrue, IfOk, OnOk};
+ghost use Rattle.std.specs.List.{AllByRecursion};
+ghost use Rattle.tree_model.specs.Changes.{keys_rise};
+ghost use Rattle.node_records.specs.Changes.{IsWritableChange, changes_bytes};
+ghost use Rattle.journal.specs.Bodies.{changes_in};
 ghost use Rattle.journal.specs.Groups.{is_next};
 
-use crate::body::read_body;
-use crate::{DiskFault, Journal};
 use dewey_labels::{List, NoMemory};
-use node_records::{File, OpenError, Place};
+use journal::{DiskFault, Journal, a_body_is_read_again};
+use node_records::{File, OpenError, Place, write_change};
 use outside_kinds::MemDisk;
 use outside_traits::Disk;
 use std::alloc::Global;
 use std::test::Fail;
+use tree_model::{Change, Changes};
 
 /// The lines of docs/FILE_FORMAT.md, "A journal byte by byte".
 const DUMP: &str = "
@@ -83,35 +87,67 @@ fn empty_journal(alloc: Global, file: &[u8], fails: &[u64]) -> Result<Journal<Me
     }
 }
 
-/// Adds a commit with this body.
+/// The changes of the dump's commit.
+fn dumped_changes(alloc: Global) -> Result<Changes, Fail> {
+    let bytes = bytes_of(alloc, DUMP)?;
+    match Journal::open(alloc, MemDisk::new(bytes, List::new(alloc))) {
+        Ok((_, mut groups)) => match groups.commits.pop() {
+            Some(group) => Ok(group.changes),
+            None => Err(Fail::from("no commit")),
+        },
+        Err(_) => Err(Fail::from("the dump isn't opened")),
+    }
+}
+
+/// Writes changes with rising keys, one behind the other.
+fn write_changes(alloc: Global, changes: &[Change], out: &mut List<u8>) -> Result<(), NoMemory>
+    ensures bytes { OnOk result (out.new ≡ out.old ++ changes_bytes changes.now) }
+    ensures writable { OnOk result (AllByRecursion IsWritableChange changes.now) }
+    ensures rise { OnOk result (IsTrue (keys_rise changes.now)) }
+{
+    if let [first, after @ ..] = changes {
+        if let [second, ..] = after {
+            if first.key.cmp(&second.key).is_ge() {
+                return Err(NoMemory);
+            }
+        }
+        write_change(alloc, first, out)?;
+        write_changes(alloc, after, out)?;
+    }
+    Ok(())
+}
+
+/// The body of a commit of these changes.
+fn body_of(alloc: Global, changes: &[Change]) -> Result<List<u8>, NoMemory>
+    ensures { IfOk result (λ body. IsSome (changes_in body)) }
+{
+    let mut body = List::new(alloc);
+    write_changes(alloc, changes, &mut body)?;
+    a_body_is_read_again();
+    Ok(body)
+}
+
+/// Adds a commit of these changes.
 fn commit(
     alloc: Global,
     journal: &mut Journal<MemDisk>,
     number: u32,
-    body: &[u8],
+    changes: &[Change],
 ) -> Result<(), OpenError>
     requires usable { journal.old.failed ≡ false }
     requires next { IsTrue (is_next journal.old.last number) }
     ensures usable { OnOk result (journal.new.failed ≡ false) }
     ensures last { OnOk result (journal.new.last ≡ Some number) }
 {
-    if body.len() > 4096 || read_body(alloc, body)?.is_none() {
+    let body = body_of(alloc, changes)?;
+    if body.len() > 4096 {
         return Err(OpenError::NoMemory);
     }
     journal.make_room(alloc, body.len())?;
-    match journal.append_group(number, body) {
+    match journal.append_group(number, body.as_slice()) {
         Ok(()) => Ok(()),
         Err(DiskFault) => Err(OpenError::DiskFault),
     }
-}
-
-/// The disk of a new journal to which a body was committed three times.
-fn three_commits(alloc: Global, body: &[u8]) -> Result<MemDisk, OpenError> {
-    let mut journal = empty_journal(alloc, NEW, &[])?;
-    commit(alloc, &mut journal, 1, body)?;
-    commit(alloc, &mut journal, 2, body)?;
-    commit(alloc, &mut journal, 3, body)?;
-    Ok(journal.into_disk())
 }
 
 /// How many commits a file has, or why it isn't opened.
@@ -166,85 +202,126 @@ fn the_dump_of_the_file_format_is_a_journal(rt: HostRuntime) -> Result<(), Fail>
     Ok(())
 }
 
-#[test]
-fn a_commit_writes_the_bytes_of_the_dump(rt: HostRuntime) -> Result<(), Fail> {
-    let bytes = bytes_of(rt.alloc(), DUMP)?;
-    assert_eq!(rt; bytes.len(), 60);
-    let Ok(mut journal) = empty_journal(rt.alloc(), NEW, &[]) else {
-        panic!(rt; "a new journal isn't opened");
-    };
-    let written = commit(rt.alloc(), &mut journal, 1, &bytes.as_slice()[18..59]);
-    assert_eq!(rt; written, Ok(()));
-    assert_eq!(rt; journal.faults(), 0);
-    assert!(rt; journal.into_disk().bytes() == bytes.as_slice());
-    Ok(())
+/// The disk of a journal without commits to which changes were committed.
+fn one_commit(
+    alloc: Global,
+    file: &[u8],
+    number: u32,
+    changes: &[Change],
+) -> Result<MemDisk, OpenError> {
+    let mut journal = empty_journal(alloc, file, &[])?;
+    commit(alloc, &mut journal, number, changes)?;
+    Ok(journal.into_disk())
+}
+
+/// The disk of a new journal to which the dump's changes were committed.
+fn dumped_commit(alloc: Global) -> Result<MemDisk, Fail> {
+    let changes = dumped_changes(alloc)?;
+    match one_commit(alloc, NEW, 1, changes.as_slice()) {
+        Ok(disk) => Ok(disk),
+        Err(_) => Err(Fail::from("the commit isn't made")),
+    }
 }
 
 #[test]
+fn a_commit_writes_the_bytes_of_the_dump(rt: HostRuntime) -> Result<(), Fail> {
+    let disk = dumped_commit(rt.alloc())?;
+    let bytes = bytes_of(rt.alloc(), DUMP)?;
+    assert_eq!(rt; bytes.len(), 60);
+    assert!(rt; disk.bytes() == bytes.as_slice());
+    assert_eq!(rt; disk.faults(), 0);
+    Ok(())
+}
+
+/// How many bytes of the dump there are, the place that is changed, the byte there, and how many commits the file has, or where it is damaged.
+const CHANGED: [(usize, usize, u8, Result<usize, u64>); 15] = [
+    (60, 8, 77, Ok(0)),
+    (60, 13, 2, Ok(1)),
+    (60, 3, 0x44, Err(0)),
+    (60, 0, 0, Err(0)),
+    (5, 0, 1, Err(0)),
+    (8, 0, 1, Err(0)),
+    (60, 9, 1, Err(8)),
+    (60, 9, 2, Err(8)),
+    (60, 18, 2, Err(8)),
+    (40, 0, 1, Err(8)),
+    (59, 0, 1, Err(8)),
+    (60, 59, 1, Err(59)),
+    (9, 0, 0, Ok(0)),
+    (1, 0, 1, Ok(0)),
+    (0, 0, 0, Ok(0)),
+];
+
+#[test]
 fn a_changed_file_is_read_or_damaged_at_its_place(rt: HostRuntime) -> Result<(), Fail> {
-    // How many bytes of the dump there are, the place that is changed, the byte there, and what the file stands for.
-    for (keep, at, byte, want) in [
-        (60, 8, 77, Ok(0)),
-        (60, 13, 2, Ok(1)),
-        (60, 3, 0x44, damaged(0)),
-        (60, 0, 0, damaged(0)),
-        (5, 0, 1, damaged(0)),
-        (8, 0, 1, damaged(0)),
-        (60, 9, 1, damaged(8)),
-        (60, 9, 2, damaged(8)),
-        (60, 18, 2, damaged(8)),
-        (40, 0, 1, damaged(8)),
-        (59, 0, 1, damaged(8)),
-        (60, 59, 1, damaged(59)),
-        (9, 0, 0, Ok(0)),
-        (1, 0, 1, Ok(0)),
-        (0, 0, 0, Ok(0)),
-    ] {
+    for (keep, at, byte, want) in CHANGED {
         let bytes = changed(rt.alloc(), keep, at, byte)?;
+        let want = match want {
+            Ok(count) => Ok(count),
+            Err(place) => damaged(place),
+        };
         let found = commits_in(rt.alloc(), bytes.as_slice());
         assert_eq!(rt; found, want, "{keep} bytes with {byte} at {at}");
     }
     Ok(())
 }
 
+/// The disk of a new journal to which changes were committed three times.
+fn committed_thrice(alloc: Global, changes: &[Change]) -> Result<MemDisk, OpenError> {
+    let mut journal = empty_journal(alloc, NEW, &[])?;
+    commit(alloc, &mut journal, 1, changes)?;
+    commit(alloc, &mut journal, 2, changes)?;
+    commit(alloc, &mut journal, 3, changes)?;
+    Ok(journal.into_disk())
+}
+
+/// The same with the dump's changes.
+fn three_commits(alloc: Global) -> Result<MemDisk, Fail> {
+    let changes = dumped_changes(alloc)?;
+    match committed_thrice(alloc, changes.as_slice()) {
+        Ok(disk) => Ok(disk),
+        Err(_) => Err(Fail::from("three commits aren't made")),
+    }
+}
+
+/// A call of the disk, and the fewest and the most commits that a stop in it leaves. The first two calls are the opening's, the length and a read; then a commit makes four.
+const STOPS: [(u64, (usize, usize)); 13] = [
+    (3, (0, 0)),
+    (4, (0, 0)),
+    (5, (0, 1)),
+    (6, (0, 1)),
+    (7, (1, 1)),
+    (8, (1, 1)),
+    (9, (1, 2)),
+    (10, (1, 2)),
+    (11, (2, 2)),
+    (12, (2, 2)),
+    (13, (2, 3)),
+    (14, (2, 3)),
+    (15, (3, 3)),
+];
+
 #[test]
 fn a_stop_in_a_commit_leaves_it_whole_or_not_at_all(rt: HostRuntime) -> Result<(), Fail> {
-    let bytes = bytes_of(rt.alloc(), DUMP)?;
-    assert_eq!(rt; bytes.len(), 60);
-    let Ok(disk) = three_commits(rt.alloc(), &bytes.as_slice()[18..59]) else {
-        panic!(rt; "three commits aren't made");
-    };
-    // The first two calls are the opening's, the length and a read; then a commit makes four.
-    for (call, want) in [
-        (3, (0, 0)),
-        (4, (0, 0)),
-        (5, (0, 1)),
-        (6, (0, 1)),
-        (7, (1, 1)),
-        (8, (1, 1)),
-        (9, (1, 2)),
-        (10, (1, 2)),
-        (11, (2, 2)),
-        (12, (2, 2)),
-        (13, (2, 3)),
-        (14, (2, 3)),
-        (15, (3, 3)),
-    ] {
+    let disk = three_commits(rt.alloc())?;
+    for (call, want) in STOPS {
         let found = commits_after_stop(rt.alloc(), &disk, call);
         assert_eq!(rt; found, Ok(want), "at call {call}");
     }
     Ok(())
 }
 
+/// Fresh files, and how many calls opening makes: the length, a read where there are bytes, two calls a step.
+const FRESH: [(&[u8], u64); 4] = [
+    (b"", 7),
+    (b"\x01", 8),
+    (b"\x00XTC", 6),
+    (b"\x4DXTCJRN1\x01", 6),
+];
+
 #[test]
 fn a_stop_while_a_journal_is_made_leaves_an_empty_store(rt: HostRuntime) -> Result<(), Fail> {
-    // Fresh files, and how many calls opening makes: the length, a read where there are bytes, two calls a step.
-    for (file, calls) in [
-        (b"".as_slice(), 7),
-        (b"\x01".as_slice(), 8),
-        (b"\x00XTC".as_slice(), 6),
-        (b"\x4DXTCJRN1\x01".as_slice(), 6),
-    ] {
+    for (file, calls) in FRESH {
         let Ok(journal) = empty_journal(rt.alloc(), file, &[]) else {
             panic!(rt; "a fresh file isn't opened");
         };
@@ -259,29 +336,44 @@ fn a_stop_while_a_journal_is_made_leaves_an_empty_store(rt: HostRuntime) -> Resu
     Ok(())
 }
 
+/// The same of one commit over an old group.
+const OVER_AN_OLD_GROUP: [(u64, (usize, usize)); 5] = [
+    (3, (0, 0)),
+    (4, (0, 0)),
+    (5, (0, 1)),
+    (6, (0, 1)),
+    (7, (1, 1)),
+];
+
+/// The disk of a journal with an old group, as a reset leaves it, over which the last of the dump's changes was committed.
+fn commit_over_an_old_group(alloc: Global) -> Result<MemDisk, Fail> {
+    let changes = dumped_changes(alloc)?;
+    let file = changed(alloc, 60, 8, 0)?;
+    if changes.len() != 3 {
+        return Err(Fail::from("the dump hasn't three changes"));
+    }
+    match one_commit(alloc, file.as_slice(), 7, &changes.as_slice()[2..]) {
+        Ok(disk) => Ok(disk),
+        Err(_) => Err(Fail::from("the commit isn't made")),
+    }
+}
+
 #[test]
 fn an_append_is_safe_over_what_stands_behind_a_closed_gate(rt: HostRuntime) -> Result<(), Fail> {
-    // An old group, as a reset leaves it.
-    let bytes = changed(rt.alloc(), 60, 8, 0)?;
-    assert_eq!(rt; bytes.len(), 60);
-    let Ok(mut journal) = empty_journal(rt.alloc(), bytes.as_slice(), &[]) else {
-        panic!(rt; "the journal isn't opened");
-    };
-    let written = commit(rt.alloc(), &mut journal, 7, &bytes.as_slice()[45..59]);
-    assert_eq!(rt; written, Ok(()));
-    let disk = journal.into_disk();
+    let disk = commit_over_an_old_group(rt.alloc())?;
     assert_eq!(rt; disk.bytes().len(), 60);
-    for (call, want) in [
-        (3, (0, 0)),
-        (4, (0, 0)),
-        (5, (0, 1)),
-        (6, (0, 1)),
-        (7, (1, 1)),
-    ] {
+    for (call, want) in OVER_AN_OLD_GROUP {
         let found = commits_after_stop(rt.alloc(), &disk, call);
         assert_eq!(rt; found, Ok(want), "at call {call}");
     }
     Ok(())
+}
+
+/// What a commit to a journal in an empty file is answered where a call fails, and the faults that are counted.
+fn failed_commit(alloc: Global, call: u64) -> Result<(Result<(), OpenError>, u64), OpenError> {
+    let mut journal = empty_journal(alloc, b"", &[call])?;
+    let answer = commit(alloc, &mut journal, 1, &[]);
+    Ok((answer, journal.faults()))
 }
 
 #[test]
@@ -295,12 +387,12 @@ fn a_failing_call_is_answered_as_a_fault(rt: HostRuntime) -> Result<(), Fail> {
         );
     }
     for call in 8..12 {
-        let Ok(mut journal) = empty_journal(rt.alloc(), b"", &[call]) else {
-            panic!(rt; "an empty file isn't opened");
-        };
-        let refused = commit(rt.alloc(), &mut journal, 1, b"");
-        assert_eq!(rt; refused, Err(OpenError::DiskFault), "at call {call}");
-        assert_eq!(rt; journal.faults(), 1);
+        let refused = failed_commit(rt.alloc(), call);
+        assert_eq!(rt;
+            refused,
+            Ok((Err(OpenError::DiskFault), 1)),
+            "at call {call}"
+        );
     }
     Ok(())
 }
@@ -323,7 +415,7 @@ fn a_failed_append_may_be_found_until_the_next_sync_is_done(rt: HostRuntime) -> 
     let Ok(mut journal) = empty_journal(rt.alloc(), NEW, &[5]) else {
         panic!(rt; "a new journal isn't opened");
     };
-    let refused = commit(rt.alloc(), &mut journal, 1, b"");
+    let refused = commit(rt.alloc(), &mut journal, 1, &[]);
     assert_eq!(rt; refused, Err(OpenError::DiskFault));
     let mut disk = journal.into_disk();
     assert_eq!(rt; disk.sync(), Ok(()));

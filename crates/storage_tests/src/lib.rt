@@ -1,0 +1,9 @@
+//! Files byte by byte, as docs/FILE_FORMAT.md has them, and journals and stores that are stopped, that fail and that are damaged.
+#![tactic(auto)]
+
+#[cfg(test)]
+mod journal;
+#[cfg(test)]
+mod node_records;
+#[cfg(test)]
+mod recovery;
