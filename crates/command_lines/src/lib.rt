@@ -14,8 +14,6 @@ mod reading;
 mod reply_values;
 mod resource_text;
 mod taking;
-#[cfg(test)]
-mod tests;
 mod words;
 mod writing;
 

@@ -8,8 +8,6 @@ mod attributes;
 mod fragment_error;
 mod pointer;
 mod reading;
-#[cfg(test)]
-mod tests;
 mod writing;
 
 pub use fragment_error::FragmentError;

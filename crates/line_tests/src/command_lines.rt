@@ -1,5 +1,7 @@
 //! Lines and replies, as the manual's tables have them.
-use crate::{BadLine, Command, LineAnswer, LineReply, SessionRefusal, read_line, write_reply};
+use command_lines::{
+    BadLine, Command, LineAnswer, LineReply, SessionRefusal, read_line, write_reply,
+};
 use dewey_labels::{Label, List, NoMemory, Text};
 use lock_modes::{Ask, EdgeMode};
 use lock_resources::{Resource, Side};
@@ -39,73 +41,76 @@ fn reason(alloc: Global, line: &[u8]) -> Result<Text, Fail> {
     }
 }
 
+/// A line, and the reason that it is bad; none of a command or a blank line.
+const REASONS: [(&str, &str); 32] = [
+    ("", ""),
+    (" \t\r", ""),
+    ("\u{c}", "json"),
+    ("nope", "json"),
+    ("{\"s\":1e999}", "json"),
+    ("[]", "object"),
+    ("{\"call\":\"begin\"}", "s"),
+    ("{\"s\":0,\"call\":\"begin\"}", "s"),
+    ("{\"s\":65,\"call\":\"begin\"}", "s"),
+    ("{\"s\":-0,\"call\":\"begin\"}", "s"),
+    ("{\"s\":1}", "call"),
+    ("{\"s\":1,\"call\":\"zap\"}", "call"),
+    ("{\"s\":64,\"call\":\"begin\"}", ""),
+    ("{\"s\":65,\"s\":1,\"call\":\"zap\",\"call\":\"begin\"}", ""),
+    ("{\"s\":1,\"call\":\"begin\",\"x\":0}", "extra"),
+    ("{\"s\":1,\"call\":\"first\"}", "at"),
+    ("{\"s\":1,\"call\":\"first\",\"at\":\"1\"}", "at"),
+    ("{\"s\":1,\"call\":\"first\",\"at\":\"01.3\"}", "at"),
+    ("{\"s\":1,\"call\":\"first\",\"at\":\"1.2\"}", "at"),
+    ("{\"s\":1,\"call\":\"first\",\"at\":7,\"x\":0}", "at"),
+    (
+        "{\"s\":1,\"call\":\"substring\",\"at\":\"1.1001\",\"offset\":-1,\"count\":1}",
+        "offset",
+    ),
+    (
+        "{\"s\":1,\"call\":\"substring\",\"at\":\"1.1001\",\"offset\":-0,\"count\":1}",
+        "offset",
+    ),
+    (
+        "{\"s\":1,\"call\":\"substring\",\"at\":\"1.1001\",\"offset\":0,\"count\":4294967296}",
+        "count",
+    ),
+    (
+        "{\"s\":1,\"call\":\"substring\",\"at\":\"1.1001\",\"offset\":0,\"count\":4294967295}",
+        "",
+    ),
+    ("{\"s\":1,\"call\":\"create\",\"name\":\"x\"}", ""),
+    (
+        "{\"s\":1,\"call\":\"create\",\"name\":\"x\",\"tree\":null}",
+        "",
+    ),
+    (
+        "{\"s\":1,\"call\":\"create\",\"name\":\"x\",\"tree\":[\"a\",{\"n\":1.5}]}",
+        "tree Fraction /1/n",
+    ),
+    (
+        "{\"s\":1,\"call\":\"create\",\"name\":\"x\",\"tree\":[\"1a\"]}",
+        "tree BadName /0",
+    ),
+    ("{\"s\":1,\"call\":\"append\",\"at\":\"1.1001\"}", "tree"),
+    (
+        "{\"s\":1,\"call\":\"append\",\"at\":\"1.1001\",\"tree\":null}",
+        "tree NotJsonMl ",
+    ),
+    (
+        "{\"s\":1,\"call\":\"insert\",\"at\":\"1.1001\",\"tree\":\"t\"}",
+        "before",
+    ),
+    (
+        "{\"s\":1,\"call\":\"insert\",\"at\":\"1.1001\",\"before\":null,\"tree\":\"t\"}",
+        "",
+    ),
+];
+
 #[test]
 fn the_first_reason_that_holds_is_given(rt: HostRuntime) -> Result<(), Fail> {
     let alloc = rt.alloc();
-    for (line, want) in [
-        ("", ""),
-        (" \t\r", ""),
-        ("\u{c}", "json"),
-        ("nope", "json"),
-        ("{\"s\":1e999}", "json"),
-        ("[]", "object"),
-        ("{\"call\":\"begin\"}", "s"),
-        ("{\"s\":0,\"call\":\"begin\"}", "s"),
-        ("{\"s\":65,\"call\":\"begin\"}", "s"),
-        ("{\"s\":-0,\"call\":\"begin\"}", "s"),
-        ("{\"s\":1}", "call"),
-        ("{\"s\":1,\"call\":\"zap\"}", "call"),
-        ("{\"s\":64,\"call\":\"begin\"}", ""),
-        ("{\"s\":65,\"s\":1,\"call\":\"zap\",\"call\":\"begin\"}", ""),
-        ("{\"s\":1,\"call\":\"begin\",\"x\":0}", "extra"),
-        ("{\"s\":1,\"call\":\"first\"}", "at"),
-        ("{\"s\":1,\"call\":\"first\",\"at\":\"1\"}", "at"),
-        ("{\"s\":1,\"call\":\"first\",\"at\":\"01.3\"}", "at"),
-        ("{\"s\":1,\"call\":\"first\",\"at\":\"1.2\"}", "at"),
-        ("{\"s\":1,\"call\":\"first\",\"at\":7,\"x\":0}", "at"),
-        (
-            "{\"s\":1,\"call\":\"substring\",\"at\":\"1.1001\",\"offset\":-1,\"count\":1}",
-            "offset",
-        ),
-        (
-            "{\"s\":1,\"call\":\"substring\",\"at\":\"1.1001\",\"offset\":-0,\"count\":1}",
-            "offset",
-        ),
-        (
-            "{\"s\":1,\"call\":\"substring\",\"at\":\"1.1001\",\"offset\":0,\"count\":4294967296}",
-            "count",
-        ),
-        (
-            "{\"s\":1,\"call\":\"substring\",\"at\":\"1.1001\",\"offset\":0,\"count\":4294967295}",
-            "",
-        ),
-        ("{\"s\":1,\"call\":\"create\",\"name\":\"x\"}", ""),
-        (
-            "{\"s\":1,\"call\":\"create\",\"name\":\"x\",\"tree\":null}",
-            "",
-        ),
-        (
-            "{\"s\":1,\"call\":\"create\",\"name\":\"x\",\"tree\":[\"a\",{\"n\":1.5}]}",
-            "tree Fraction /1/n",
-        ),
-        (
-            "{\"s\":1,\"call\":\"create\",\"name\":\"x\",\"tree\":[\"1a\"]}",
-            "tree BadName /0",
-        ),
-        ("{\"s\":1,\"call\":\"append\",\"at\":\"1.1001\"}", "tree"),
-        (
-            "{\"s\":1,\"call\":\"append\",\"at\":\"1.1001\",\"tree\":null}",
-            "tree NotJsonMl ",
-        ),
-        (
-            "{\"s\":1,\"call\":\"insert\",\"at\":\"1.1001\",\"tree\":\"t\"}",
-            "before",
-        ),
-        (
-            "{\"s\":1,\"call\":\"insert\",\"at\":\"1.1001\",\"before\":null,\"tree\":\"t\"}",
-            "",
-        ),
-    ] {
+    for (line, want) in REASONS {
         let why = reason(alloc, line.as_bytes())?;
         assert_eq!(rt; why.as_str(), want, "{line}");
     }
