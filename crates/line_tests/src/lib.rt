@@ -2,6 +2,6 @@
 #![tactic(auto)]
 
 #[cfg(test)]
-mod command_lines;
+mod fragments;
 #[cfg(test)]
-mod jsonml_io;
+mod lines;

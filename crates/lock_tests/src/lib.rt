@@ -2,10 +2,10 @@
 #![tactic(auto)]
 
 #[cfg(test)]
-mod lock_modes;
+mod modes;
 #[cfg(test)]
-mod lock_resources;
+mod resources;
 #[cfg(test)]
-mod lock_table;
+mod table;
 #[cfg(test)]
-mod wait_graph;
+mod waits;

@@ -2,12 +2,12 @@
 #![tactic(auto)]
 
 #[cfg(test)]
-mod dewey_labels;
+mod labels;
+#[cfg(test)]
+mod layers;
+#[cfg(test)]
+mod maps;
 #[cfg(test)]
 mod new_labels;
 #[cfg(test)]
-mod node_seq;
-#[cfg(test)]
-mod overlays;
-#[cfg(test)]
-mod tree_model;
+mod trees;

@@ -2,7 +2,7 @@
 #![tactic(auto)]
 
 #[cfg(test)]
-mod outside_kinds;
+mod kinds;
 #[cfg(test)]
 mod streams;
 #[cfg(test)]

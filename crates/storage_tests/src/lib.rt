@@ -2,8 +2,8 @@
 #![tactic(auto)]
 
 #[cfg(test)]
-mod journal;
+mod commits;
 #[cfg(test)]
-mod node_records;
+mod openings;
 #[cfg(test)]
-mod recovery;
+mod records;

@@ -1,5 +1,5 @@
 use Rattle.std.proofs.Common.{length}
-use Rattle.storage_tests.proofs.journal.+write_changes.Given as goal
+use Rattle.storage_tests.proofs.commits.+write_changes.Given as goal
 
 abbrev pub decreases-write_changes : goal.decreases-write_changes
 decreases-write_changes l = length l.changes.now
