@@ -25,9 +25,9 @@ use Rattle.tree_model.specs.Names.{Name, is_name}
 use Rattle.tree_model.specs.Navigation as navigation
 use Rattle.tree_model.specs.NodeKinds.{is_document, is_element}
 use Rattle.tree_model.specs.Outcomes.{see, not_found_err, not_supported_err}
-use Rattle.tree_model.specs.Places.{attributes_at, first_in, last_in}
+use Rattle.tree_model.specs.Places.{attributes_at}
 use Rattle.tree_model.specs.StoredTree.{is_document_record, is_element_record, with_label}
-use Rattle.tree_model.specs.Tree.{Attributes, Catalogue, Forest, none, node, Tree, at, found, record_of, attributes_of, root_attributes, head_label, last_label, first_of, last_child_of, beside}
+use Rattle.tree_model.specs.Tree.{Attributes, Catalogue, Forest, none, node, Tree, at, found, record_of, attributes_of, root_attributes, beside}
 use Rattle.tree_model.specs.ValidTrees.{LimitsKept, IsValidTree}
 use Rattle.tree_model.proofs.Found.{some_is}
 use Rattle.tree_model.proofs.FoundRecords.{at_limits}
@@ -37,7 +37,7 @@ use Rattle.tree_model.proofs.WholeTree.{beside_root}
 use Rattle.node_seq.specs.Trees.{StandsFor}
 use Rattle.dom_reads.specs.inside.Catalogues.{catalogue_of}
 use Rattle.dom_reads.specs.inside.Counts.{at_most}
-use Rattle.dom_reads.proofs.StepLaws.{row_of, attributes_there, root_not_found}
+use Rattle.dom_reads.proofs.StepLaws.{attributes_there, root_not_found}
 
 -- a map stands for the tree also after reads, which leave it as it was
 pub later : (before now : Option Entries) (t : Tree) → now ≡ before → StandsFor before t → StandsFor now t
@@ -67,12 +67,6 @@ seen answer none y = cc
 seen answer (node l r ats ch nx) y = refl
 
 -- ---- navigation
-
-pub first_reply : (l : Label) (t : Tree) → IsValidTree t → found (at l t.documents) ≡ true → Place (first_in l t) ≡ navigation.first l t
-first_reply l t w y = ap (λ f. Place (head_label f)) (row_of l t (not_root l t w y)) ∙ seen (λ g. Place (first_of g)) (at l t.documents) y
-
-pub last_reply : (l : Label) (t : Tree) → IsValidTree t → found (at l t.documents) ≡ true → Place (last_in l t) ≡ navigation.last l t
-last_reply l t w y = ap (λ f. Place (last_label f)) (row_of l t (not_root l t w y)) ∙ seen (λ g. Place (last_child_of g)) (at l t.documents) y
 
 -- the kind of the found node, by its record
 document_is : (g : Forest) (r : Record) → Some r ≡ record_of g → is_document g ≡ is_document_record (Some r)

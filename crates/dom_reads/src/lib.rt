@@ -4,6 +4,7 @@
 #![tactic(auto)]
 
 mod attributes;
+mod below;
 mod documents;
 mod fragment_builder;
 mod kinds;
@@ -17,6 +18,7 @@ mod text_cuts;
 mod texts;
 
 pub use attributes::{all_attributes, attr, attrs, has_attr};
+pub use below::{first_below, last_below};
 pub use documents::{doc, docs};
 pub use fragment_builder::fragment;
 pub use kinds::{is_document, is_element};

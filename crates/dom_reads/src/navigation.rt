@@ -7,7 +7,7 @@ ghost use Rattle.outside_traits.specs.Faults.{HasCause};
 
 use crate::kinds::is_document;
 use crate::refusals::not_found;
-use crate::{first_child, last_child, next_sibling, previous_sibling, record_at};
+use crate::{first_below, first_child, last_below, next_sibling, previous_sibling, record_at};
 use dewey_labels::{Label, List, NoMemory, Text};
 use node_seq::{NodeRead, SeqError};
 use std::alloc::Global;
@@ -53,28 +53,28 @@ pub fn parent<S: NodeRead>(alloc: Global, at: &Label, seq: &mut S) -> Result<Rep
     Ok(Reply::Place(at.parent(alloc)?))
 }
 
-/// `firstChild`. Two reads, whatever lies below.
+/// `firstChild`. One read where there is a child, and two where there is none, whatever lies below.
 pub fn first<S: NodeRead>(alloc: Global, at: &Label, seq: &mut S) -> Result<Reply, SeqError>
     ensures reply { OnTree (S.contents seq.old) result (λ t reply. reply ≡ navigation.first at.now t) }
     ensures unchanged { S.unchanged seq.old seq.new }
     ensures cause { HasCause SeqError.DiskFault (S.count seq.old) (S.count seq.new) result }
 {
-    if record_at(alloc, at, seq)?.is_none() {
-        return Ok(not_found());
+    match first_below(alloc, at, seq)? {
+        Some(child) => Ok(Reply::Place(child)),
+        None => Ok(not_found()),
     }
-    Ok(Reply::Place(first_child(alloc, at, seq)?))
 }
 
-/// `lastChild`. Two reads, whatever lies below.
+/// `lastChild`. One read where there is a child, and two where there is none, whatever lies below.
 pub fn last<S: NodeRead>(alloc: Global, at: &Label, seq: &mut S) -> Result<Reply, SeqError>
     ensures reply { OnTree (S.contents seq.old) result (λ t reply. reply ≡ navigation.last at.now t) }
     ensures unchanged { S.unchanged seq.old seq.new }
     ensures cause { HasCause SeqError.DiskFault (S.count seq.old) (S.count seq.new) result }
 {
-    if record_at(alloc, at, seq)?.is_none() {
-        return Ok(not_found());
+    match last_below(alloc, at, seq)? {
+        Some(child) => Ok(Reply::Place(child)),
+        None => Ok(not_found()),
     }
-    Ok(Reply::Place(last_child(alloc, at, seq)?))
 }
 
 /// `nextSibling`: none for a document. Two reads, whatever lies below.
