@@ -8,7 +8,7 @@ ghost use Rattle.lock_plans.specs.DomPlans.{requests};
 
 use crate::plan::Plan;
 use dewey_labels::{Label, NoMemory};
-use dom_reads::{first_child, is_document, last_child, next_sibling, previous_sibling};
+use dom_reads::{first_below, is_document, last_below, next_sibling, previous_sibling};
 use lock_resources::Side;
 use node_seq::{NodeRead, SeqError};
 use std::alloc::Global;
@@ -41,34 +41,34 @@ pub fn parent<S: NodeRead>(alloc: Global, at: &Label, seq: &mut S) -> Result<Pla
     Ok(plan)
 }
 
-/// The requests of `first`. Two reads.
+/// The requests of `first`. One read where there is a child, and two where there is none.
 pub fn first<S: NodeRead>(alloc: Global, at: &Label, seq: &mut S) -> Result<Plan, SeqError>
     ensures value { OnTree (S.contents seq.old) result (λ t plan. plan ≡ requests (call.First at.now) t) }
     ensures unchanged { S.unchanged seq.old seq.new }
     ensures cause { HasCause SeqError.DiskFault (S.count seq.old) (S.count seq.new) result }
 {
     let mut plan = Plan::new(alloc);
-    if !plan.see_node(alloc, at, seq)? {
+    plan.read_node(alloc, at)?;
+    let Some(child) = first_below(alloc, at, seq)? else {
         return Ok(plan);
-    }
+    };
     plan.read_edge(alloc, at, Side::First)?;
-    let child = first_child(alloc, at, seq)?;
     plan.read_found(alloc, &child)?;
     Ok(plan)
 }
 
-/// The requests of `last`. Two reads.
+/// The requests of `last`. One read where there is a child, and two where there is none.
 pub fn last<S: NodeRead>(alloc: Global, at: &Label, seq: &mut S) -> Result<Plan, SeqError>
     ensures value { OnTree (S.contents seq.old) result (λ t plan. plan ≡ requests (call.Last at.now) t) }
     ensures unchanged { S.unchanged seq.old seq.new }
     ensures cause { HasCause SeqError.DiskFault (S.count seq.old) (S.count seq.new) result }
 {
     let mut plan = Plan::new(alloc);
-    if !plan.see_node(alloc, at, seq)? {
+    plan.read_node(alloc, at)?;
+    let Some(child) = last_below(alloc, at, seq)? else {
         return Ok(plan);
-    }
+    };
     plan.read_edge(alloc, at, Side::Last)?;
-    let child = last_child(alloc, at, seq)?;
     plan.read_found(alloc, &child)?;
     Ok(plan)
 }
