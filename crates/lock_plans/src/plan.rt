@@ -200,6 +200,10 @@ impl Plan {
         ensures fits { AllByRecursion Fits self }
     {
         let Plan { requests } = self;
+        if out.is_empty() {
+            *out = requests;
+            return Ok(());
+        }
         let length = out.len();
         let pushed = push_all(requests, out);
         if pushed.is_err() {
