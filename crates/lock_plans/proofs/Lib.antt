@@ -1,4 +1,5 @@
 pub mod AppendOutcome
+pub mod Causes
 pub mod DocumentLimits
 pub mod DocumentOutcomes
 pub mod FragmentLaws
