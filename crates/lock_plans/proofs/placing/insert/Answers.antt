@@ -1,4 +1,5 @@
-use Rattle.std.proofs.Common.{◌≡◌, true, false, Some, [], ◌&&◌, if◌then◌else◌, not, sym, ap, ◌++◌, ◌∙◌}
+use Rattle.std.proofs.Common.{◌≡◌, true, false, Some, [], ◌&&◌, if◌then◌else◌, not, sym, ap, ◌++◌, ◌∙◌, refl}
+use Rattle.std.proofs.lemmas.Result.{IfOk-from_err}
 use Rattle.dewey_labels.specs.Labels.{parent}
 use Rattle.dewey_labels.proofs.Codes.{second_of_both}
 use Rattle.tree_model.specs.declared.dom_call.DomCall.TheVariants as call
@@ -11,82 +12,116 @@ use Rattle.tree_model.specs.ValidTrees.{same_label}
 use Rattle.dom_reads.proofs.ReplyLaws.{later}
 use Rattle.dom_reads.proofs.StepLaws.{root_not_found}
 use Rattle.lock_plans.specs.inside.PlanSteps.{asked_by, insert_end, is_text_record, remove_end, replace_end}
+use Rattle.lock_plans.proofs.Causes.{answer_cause, fault_cause, rest_cause}
 use Rattle.lock_plans.proofs.GapLaws.{onward, past_child, stopped_at_child}
 use Rattle.lock_plans.proofs.PlanLaws.{begun, document_is, grown, not_there, past, sees, stopped, text_is, there}
 use Rattle.lock_plans.proofs.placing.insert.Goals as goal
 
-pub returns-in_default-clause-value : goal.returns-in_default-clause-value
-returns-in_default-clause-value g c = λ t stands.
-    stopped _ (ap not (not_there (at c.args.at.now t.documents) (sym c.in_default.is ∙ c.in_ok-found.ensures.found t stands))) (begun _ c.new-plan.ensures c.in_ok-found.ensures.asks)
+pub returns-in_err-found : goal.returns-in_err-found
+returns-in_err-found g c = record {
+  value = IfOk-from_err _ _ c.from_residual.ensures.0;
+  unchanged = c.see.ensures.unchanged;
+  cause = fault_cause _ refl c.in_err-found.ensures.cause c.from_residual.ensures.1;
+}
 
-pub returns-then-is_text-clause-value : goal.returns-then-is_text-clause-value
-returns-then-is_text-clause-value g c = λ t stands.
-    let l = c.args.at.now in
-    let k = c.args.child.now in
-    let node = at l t.documents in
-    let e : Some c.in-Some.found ≡ record_of node = sym c.in-Some.is ∙ c.in_ok-found.ensures.found t stands in
-    let is_there = there node c.in-Some.found e in
-    let below_root = root_not_found l t stands.valid is_there in
-    let w = sees l in
-    let seen = begun _ c.new-plan.ensures c.in_ok-found.ensures.asks in
-    let text = sym (text_is node) ∙ ap is_text_record (sym e) ∙ sym c.is_text.ensures ∙ c.if-is_text.true in
-    past w _ (ap not is_there) (stopped _ text seen)
+pub returns-in_default : goal.returns-in_default
+returns-in_default g c = record {
+  value = λ t stands.
+      stopped _ (ap not (not_there (at c.args.at.now t.documents) (sym c.in_default.is ∙ c.in_ok-found.ensures.found t stands))) (begun _ c.new-plan.ensures c.in_ok-found.ensures.asks);
+  unchanged = c.see.ensures.unchanged;
+  cause = answer_cause _ c.in_ok-found.ensures.cause.exact;
+}
 
-pub returns-then-not-branch-clause-value : goal.returns-then-not-branch-clause-value
-returns-then-not-branch-clause-value g c = λ t stands.
-    let l = c.args.at.now in
-    let k = c.args.child.now in
-    let node = at l t.documents in
-    let e : Some c.in-Some.found ≡ record_of node = sym c.in-Some.is ∙ c.in_ok-found.ensures.found t stands in
-    let is_there = there node c.in-Some.found e in
-    let below_root = root_not_found l t stands.valid is_there in
-    let w = sees l in
-    let seen = begun _ c.new-plan.ensures c.in_ok-found.ensures.asks in
-    let text = sym (text_is node) ∙ ap is_text_record (sym e) ∙ sym c.is_text.ensures ∙ c.if-is_text.false in
-    let now = later _ _ t (g.met.S.NodeRead.unchanged_contents _ _ c.see.ensures.unchanged) stands in
-    let child : has_child l k t ≡ false = sym (c.in_ok-see_child.ensures.found t now below_root) ∙ c.if-not-branch.true in
-    let s = same_label (parent k) l in
-    let f = found (at k t.documents) in
-    let asked = grown _ seen (c.in_ok-see_child.ensures.asks below_root) in
-    past w _ (ap not is_there) (past w _ text (stopped_at_child s f w (sees k) _ child asked))
+pub returns-then-is_text : goal.returns-then-is_text
+returns-then-is_text g c = record {
+  value = λ t stands.
+      let l = c.args.at.now in
+      let k = c.args.child.now in
+      let node = at l t.documents in
+      let e : Some c.in-Some.found ≡ record_of node = sym c.in-Some.is ∙ c.in_ok-found.ensures.found t stands in
+      let is_there = there node c.in-Some.found e in
+      let below_root = root_not_found l t stands.valid is_there in
+      let w = sees l in
+      let seen = begun _ c.new-plan.ensures c.in_ok-found.ensures.asks in
+      let text = sym (text_is node) ∙ ap is_text_record (sym e) ∙ sym c.is_text.ensures ∙ c.if-is_text.true in
+      past w _ (ap not is_there) (stopped _ text seen);
+  unchanged = c.see.ensures.unchanged;
+  cause = answer_cause _ c.in_ok-found.ensures.cause.exact;
+}
 
-pub returns-then-is_document-clause-value : goal.returns-then-is_document-clause-value
-returns-then-is_document-clause-value g c = λ t stands.
-    let l = c.args.at.now in
-    let k = c.args.child.now in
-    let node = at l t.documents in
-    let e : Some c.in-Some.found ≡ record_of node = sym c.in-Some.is ∙ c.in_ok-found.ensures.found t stands in
-    let is_there = there node c.in-Some.found e in
-    let below_root = root_not_found l t stands.valid is_there in
-    let w = sees l in
-    let seen = begun _ c.new-plan.ensures c.in_ok-found.ensures.asks in
-    let text = sym (text_is node) ∙ ap is_text_record (sym e) ∙ sym c.is_text.ensures ∙ c.if-is_text.false in
-    let now = later _ _ t (g.met.S.NodeRead.unchanged_contents _ _ c.see.ensures.unchanged) stands in
-    let child : has_child l k t ≡ true = sym (c.in_ok-see_child.ensures.found t now below_root) ∙ c.if-not-branch.false in
-    let s = same_label (parent k) l in
-    let f = found (at k t.documents) in
-    let asked = grown _ seen (c.in_ok-see_child.ensures.asks below_root) in
-    let document = sym (document_is node) ∙ ap is_document_record (sym e) ∙ sym c.is_document.ensures ∙ c.if-is_document.true in
-    past w _ (ap not is_there) (past w _ text (past_child s f w (sees k) _ child (stopped _ document asked)))
+pub returns-in_err-see_child : goal.returns-in_err-see_child
+returns-in_err-see_child g c = record {
+  value = IfOk-from_err _ _ c.from_residual-in_err-see_child.ensures.0;
+  unchanged = g.met.S.NodeRead.unchanged_onward _ _ _ c.see.ensures.unchanged c.see_child.ensures.unchanged;
+  cause = fault_cause _ c.in_ok-found.ensures.cause.exact c.in_err-see_child.ensures.cause c.from_residual-in_err-see_child.ensures.1;
+}
 
-pub returns-clause-value : goal.returns-clause-value
-returns-clause-value g c =
-    onward _ _ c.insert_before.result _ _ (λ t stands. later _ _ t (g.met.S.NodeRead.unchanged_contents _ _ c.see_child.ensures.unchanged) (later _ _ t (g.met.S.NodeRead.unchanged_contents _ _ c.see.ensures.unchanged) stands)) (λ t whole stands h.
-    let l = c.args.at.now in
-    let k = c.args.child.now in
-    let node = at l t.documents in
-    let e : Some c.in-Some.found ≡ record_of node = sym c.in-Some.is ∙ c.in_ok-found.ensures.found t stands in
-    let is_there = there node c.in-Some.found e in
-    let below_root = root_not_found l t stands.valid is_there in
-    let w = sees l in
-    let seen = begun _ c.new-plan.ensures c.in_ok-found.ensures.asks in
-    let text = sym (text_is node) ∙ ap is_text_record (sym e) ∙ sym c.is_text.ensures ∙ c.if-is_text.false in
-    let now = later _ _ t (g.met.S.NodeRead.unchanged_contents _ _ c.see.ensures.unchanged) stands in
-    let child : has_child l k t ≡ true = sym (c.in_ok-see_child.ensures.found t now below_root) ∙ c.if-not-branch.false in
-    let s = same_label (parent k) l in
-    let f = found (at k t.documents) in
-    let asked = grown _ seen (c.in_ok-see_child.ensures.asks below_root) in
-    let document = sym (document_is node) ∙ ap is_document_record (sym e) ∙ sym c.is_document.ensures ∙ c.if-is_document.false in
-    let end = dom (call.Insert l (Some k) c.args.fragment.now) t in
-    let rest = asked_by (insert_end l k (plain c.args.fragment.now) t) end in
-    past w _ (ap not is_there) (past w _ text (past_child s f w (sees k) _ child (past (w ++ (if s then sees k else [])) _ document (h (second_of_both s f child) end ∙ ap (λ v. v ++ rest) asked))))) c.insert_before.ensures.value
+pub returns-then-not-branch : goal.returns-then-not-branch
+returns-then-not-branch g c = record {
+  value = λ t stands.
+      let l = c.args.at.now in
+      let k = c.args.child.now in
+      let node = at l t.documents in
+      let e : Some c.in-Some.found ≡ record_of node = sym c.in-Some.is ∙ c.in_ok-found.ensures.found t stands in
+      let is_there = there node c.in-Some.found e in
+      let below_root = root_not_found l t stands.valid is_there in
+      let w = sees l in
+      let seen = begun _ c.new-plan.ensures c.in_ok-found.ensures.asks in
+      let text = sym (text_is node) ∙ ap is_text_record (sym e) ∙ sym c.is_text.ensures ∙ c.if-is_text.false in
+      let now = later _ _ t (g.met.S.NodeRead.unchanged_contents _ _ c.see.ensures.unchanged) stands in
+      let child : has_child l k t ≡ false = sym (c.in_ok-see_child.ensures.found t now below_root) ∙ c.if-not-branch.true in
+      let s = same_label (parent k) l in
+      let f = found (at k t.documents) in
+      let asked = grown _ seen (c.in_ok-see_child.ensures.asks below_root) in
+      past w _ (ap not is_there) (past w _ text (stopped_at_child s f w (sees k) _ child asked));
+  unchanged = g.met.S.NodeRead.unchanged_onward _ _ _ c.see.ensures.unchanged c.see_child.ensures.unchanged;
+  cause = answer_cause _ (c.in_ok-see_child.ensures.cause.exact ∙ c.in_ok-found.ensures.cause.exact);
+}
+
+pub returns-then-is_document : goal.returns-then-is_document
+returns-then-is_document g c = record {
+  value = λ t stands.
+      let l = c.args.at.now in
+      let k = c.args.child.now in
+      let node = at l t.documents in
+      let e : Some c.in-Some.found ≡ record_of node = sym c.in-Some.is ∙ c.in_ok-found.ensures.found t stands in
+      let is_there = there node c.in-Some.found e in
+      let below_root = root_not_found l t stands.valid is_there in
+      let w = sees l in
+      let seen = begun _ c.new-plan.ensures c.in_ok-found.ensures.asks in
+      let text = sym (text_is node) ∙ ap is_text_record (sym e) ∙ sym c.is_text.ensures ∙ c.if-is_text.false in
+      let now = later _ _ t (g.met.S.NodeRead.unchanged_contents _ _ c.see.ensures.unchanged) stands in
+      let child : has_child l k t ≡ true = sym (c.in_ok-see_child.ensures.found t now below_root) ∙ c.if-not-branch.false in
+      let s = same_label (parent k) l in
+      let f = found (at k t.documents) in
+      let asked = grown _ seen (c.in_ok-see_child.ensures.asks below_root) in
+      let document = sym (document_is node) ∙ ap is_document_record (sym e) ∙ sym c.is_document.ensures ∙ c.if-is_document.true in
+      past w _ (ap not is_there) (past w _ text (past_child s f w (sees k) _ child (stopped _ document asked)));
+  unchanged = g.met.S.NodeRead.unchanged_onward _ _ _ c.see.ensures.unchanged c.see_child.ensures.unchanged;
+  cause = answer_cause _ (c.in_ok-see_child.ensures.cause.exact ∙ c.in_ok-found.ensures.cause.exact);
+}
+
+pub returns : goal.returns
+returns g c = record {
+  value = onward _ _ c.insert_before.result _ _ (λ t stands. later _ _ t (g.met.S.NodeRead.unchanged_contents _ _ c.see_child.ensures.unchanged) (later _ _ t (g.met.S.NodeRead.unchanged_contents _ _ c.see.ensures.unchanged) stands)) (λ t whole stands h.
+      let l = c.args.at.now in
+      let k = c.args.child.now in
+      let node = at l t.documents in
+      let e : Some c.in-Some.found ≡ record_of node = sym c.in-Some.is ∙ c.in_ok-found.ensures.found t stands in
+      let is_there = there node c.in-Some.found e in
+      let below_root = root_not_found l t stands.valid is_there in
+      let w = sees l in
+      let seen = begun _ c.new-plan.ensures c.in_ok-found.ensures.asks in
+      let text = sym (text_is node) ∙ ap is_text_record (sym e) ∙ sym c.is_text.ensures ∙ c.if-is_text.false in
+      let now = later _ _ t (g.met.S.NodeRead.unchanged_contents _ _ c.see.ensures.unchanged) stands in
+      let child : has_child l k t ≡ true = sym (c.in_ok-see_child.ensures.found t now below_root) ∙ c.if-not-branch.false in
+      let s = same_label (parent k) l in
+      let f = found (at k t.documents) in
+      let asked = grown _ seen (c.in_ok-see_child.ensures.asks below_root) in
+      let document = sym (document_is node) ∙ ap is_document_record (sym e) ∙ sym c.is_document.ensures ∙ c.if-is_document.false in
+      let end = dom (call.Insert l (Some k) c.args.fragment.now) t in
+      let rest = asked_by (insert_end l k (plain c.args.fragment.now) t) end in
+      past w _ (ap not is_there) (past w _ text (past_child s f w (sees k) _ child (past (w ++ (if s then sees k else [])) _ document (h (second_of_both s f child) end ∙ ap (λ v. v ++ rest) asked))))) c.insert_before.ensures.value;
+  unchanged = g.met.S.NodeRead.unchanged_onward _ _ _ (g.met.S.NodeRead.unchanged_onward _ _ _ c.see.ensures.unchanged c.see_child.ensures.unchanged) c.insert_before.ensures.unchanged;
+  cause = rest_cause _ (c.in_ok-see_child.ensures.cause.exact ∙ c.in_ok-found.ensures.cause.exact) c.insert_before.ensures.cause;
+}

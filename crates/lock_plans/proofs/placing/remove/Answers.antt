@@ -1,4 +1,5 @@
-use Rattle.std.proofs.Common.{◌≡◌, true, false, Some, [], ◌&&◌, if◌then◌else◌, not, sym, ap, ◌++◌, ◌∙◌}
+use Rattle.std.proofs.Common.{◌≡◌, true, false, Some, [], ◌&&◌, if◌then◌else◌, not, sym, ap, ◌++◌, ◌∙◌, refl}
+use Rattle.std.proofs.lemmas.Result.{IfOk-from_err}
 use Rattle.dewey_labels.specs.Labels.{parent}
 use Rattle.dewey_labels.proofs.Codes.{second_of_both}
 use Rattle.tree_model.specs.declared.dom_call.DomCall.TheVariants as call
@@ -11,43 +12,69 @@ use Rattle.tree_model.specs.ValidTrees.{same_label}
 use Rattle.dom_reads.proofs.ReplyLaws.{later}
 use Rattle.dom_reads.proofs.StepLaws.{root_not_found}
 use Rattle.lock_plans.specs.inside.PlanSteps.{asked_by, insert_end, is_text_record, remove_end, replace_end}
+use Rattle.lock_plans.proofs.Causes.{answer_cause, fault_cause, rest_cause}
 use Rattle.lock_plans.proofs.GapLaws.{onward, past_child, stopped_at_child}
 use Rattle.lock_plans.proofs.PlanLaws.{begun, document_is, grown, not_there, past, sees, stopped, text_is, there}
 use Rattle.lock_plans.proofs.placing.remove.Goals as goal
 
-pub returns-then-not-branch-clause-value : goal.returns-then-not-branch-clause-value
-returns-then-not-branch-clause-value g c = λ t stands.
-    stopped _ (ap not (sym (c.in_ok-see_node.ensures.found t stands) ∙ c.if-not-branch.true)) (begun _ c.new-plan.ensures c.in_ok-see_node.ensures.asks)
+pub returns-in_err-see_node : goal.returns-in_err-see_node
+returns-in_err-see_node g c = record {
+  value = IfOk-from_err _ _ c.from_residual.ensures.0;
+  unchanged = c.see_node.ensures.unchanged;
+  cause = fault_cause _ refl c.in_err-see_node.ensures.cause c.from_residual.ensures.1;
+}
 
-pub returns-then-not-branch-2-clause-value : goal.returns-then-not-branch-2-clause-value
-returns-then-not-branch-2-clause-value g c = λ t stands.
-    let l = c.args.at.now in
-    let k = c.args.old.now in
-    let is_there : found (at l t.documents) ≡ true = sym (c.in_ok-see_node.ensures.found t stands) ∙ c.if-not-branch.false in
-    let below_root = root_not_found l t stands.valid is_there in
-    let w = sees l in
-    let seen = begun _ c.new-plan.ensures c.in_ok-see_node.ensures.asks in
-    let now = later _ _ t (g.met.S.NodeRead.unchanged_contents _ _ c.see_node.ensures.unchanged) stands in
-    let child : has_child l k t ≡ false = sym (c.in_ok-see_child.ensures.found t now below_root) ∙ c.if-not-branch-2.true in
-    let s = same_label (parent k) l in
-    let f = found (at k t.documents) in
-    let asked = grown _ seen (c.in_ok-see_child.ensures.asks below_root) in
-    past w _ (ap not is_there) (stopped_at_child s f w (sees k) _ child asked)
+pub returns-then-not-branch : goal.returns-then-not-branch
+returns-then-not-branch g c = record {
+  value = λ t stands.
+      stopped _ (ap not (sym (c.in_ok-see_node.ensures.found t stands) ∙ c.if-not-branch.true)) (begun _ c.new-plan.ensures c.in_ok-see_node.ensures.asks);
+  unchanged = c.see_node.ensures.unchanged;
+  cause = answer_cause _ c.in_ok-see_node.ensures.cause.exact;
+}
 
-pub returns-clause-value : goal.returns-clause-value
-returns-clause-value g c =
-    onward _ _ c.take_out_child.result _ _ (λ t stands. later _ _ t (g.met.S.NodeRead.unchanged_contents _ _ c.see_child.ensures.unchanged) (later _ _ t (g.met.S.NodeRead.unchanged_contents _ _ c.see_node.ensures.unchanged) stands)) (λ t whole stands h.
-    let l = c.args.at.now in
-    let k = c.args.old.now in
-    let is_there : found (at l t.documents) ≡ true = sym (c.in_ok-see_node.ensures.found t stands) ∙ c.if-not-branch.false in
-    let below_root = root_not_found l t stands.valid is_there in
-    let w = sees l in
-    let seen = begun _ c.new-plan.ensures c.in_ok-see_node.ensures.asks in
-    let now = later _ _ t (g.met.S.NodeRead.unchanged_contents _ _ c.see_node.ensures.unchanged) stands in
-    let child : has_child l k t ≡ true = sym (c.in_ok-see_child.ensures.found t now below_root) ∙ c.if-not-branch-2.false in
-    let s = same_label (parent k) l in
-    let f = found (at k t.documents) in
-    let asked = grown _ seen (c.in_ok-see_child.ensures.asks below_root) in
-    let end = dom (call.Remove l k) t in
-    let rest = asked_by (remove_end l k t) end in
-    past w _ (ap not is_there) (past_child s f w (sees k) _ child (h (second_of_both s f child) end ∙ ap (λ v. v ++ rest) asked))) c.take_out_child.ensures.value
+pub returns-in_err-see_child : goal.returns-in_err-see_child
+returns-in_err-see_child g c = record {
+  value = IfOk-from_err _ _ c.from_residual-in_err-see_child.ensures.0;
+  unchanged = g.met.S.NodeRead.unchanged_onward _ _ _ c.see_node.ensures.unchanged c.see_child.ensures.unchanged;
+  cause = fault_cause _ c.in_ok-see_node.ensures.cause.exact c.in_err-see_child.ensures.cause c.from_residual-in_err-see_child.ensures.1;
+}
+
+pub returns-then-not-branch-2 : goal.returns-then-not-branch-2
+returns-then-not-branch-2 g c = record {
+  value = λ t stands.
+      let l = c.args.at.now in
+      let k = c.args.old.now in
+      let is_there : found (at l t.documents) ≡ true = sym (c.in_ok-see_node.ensures.found t stands) ∙ c.if-not-branch.false in
+      let below_root = root_not_found l t stands.valid is_there in
+      let w = sees l in
+      let seen = begun _ c.new-plan.ensures c.in_ok-see_node.ensures.asks in
+      let now = later _ _ t (g.met.S.NodeRead.unchanged_contents _ _ c.see_node.ensures.unchanged) stands in
+      let child : has_child l k t ≡ false = sym (c.in_ok-see_child.ensures.found t now below_root) ∙ c.if-not-branch-2.true in
+      let s = same_label (parent k) l in
+      let f = found (at k t.documents) in
+      let asked = grown _ seen (c.in_ok-see_child.ensures.asks below_root) in
+      past w _ (ap not is_there) (stopped_at_child s f w (sees k) _ child asked);
+  unchanged = g.met.S.NodeRead.unchanged_onward _ _ _ c.see_node.ensures.unchanged c.see_child.ensures.unchanged;
+  cause = answer_cause _ (c.in_ok-see_child.ensures.cause.exact ∙ c.in_ok-see_node.ensures.cause.exact);
+}
+
+pub returns : goal.returns
+returns g c = record {
+  value = onward _ _ c.take_out_child.result _ _ (λ t stands. later _ _ t (g.met.S.NodeRead.unchanged_contents _ _ c.see_child.ensures.unchanged) (later _ _ t (g.met.S.NodeRead.unchanged_contents _ _ c.see_node.ensures.unchanged) stands)) (λ t whole stands h.
+      let l = c.args.at.now in
+      let k = c.args.old.now in
+      let is_there : found (at l t.documents) ≡ true = sym (c.in_ok-see_node.ensures.found t stands) ∙ c.if-not-branch.false in
+      let below_root = root_not_found l t stands.valid is_there in
+      let w = sees l in
+      let seen = begun _ c.new-plan.ensures c.in_ok-see_node.ensures.asks in
+      let now = later _ _ t (g.met.S.NodeRead.unchanged_contents _ _ c.see_node.ensures.unchanged) stands in
+      let child : has_child l k t ≡ true = sym (c.in_ok-see_child.ensures.found t now below_root) ∙ c.if-not-branch-2.false in
+      let s = same_label (parent k) l in
+      let f = found (at k t.documents) in
+      let asked = grown _ seen (c.in_ok-see_child.ensures.asks below_root) in
+      let end = dom (call.Remove l k) t in
+      let rest = asked_by (remove_end l k t) end in
+      past w _ (ap not is_there) (past_child s f w (sees k) _ child (h (second_of_both s f child) end ∙ ap (λ v. v ++ rest) asked))) c.take_out_child.ensures.value;
+  unchanged = g.met.S.NodeRead.unchanged_onward _ _ _ (g.met.S.NodeRead.unchanged_onward _ _ _ c.see_node.ensures.unchanged c.see_child.ensures.unchanged) c.take_out_child.ensures.unchanged;
+  cause = rest_cause _ (c.in_ok-see_child.ensures.cause.exact ∙ c.in_ok-see_node.ensures.cause.exact) c.take_out_child.ensures.cause;
+}
