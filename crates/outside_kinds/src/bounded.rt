@@ -23,6 +23,7 @@ impl<'a, S: Source> Bounded<'a, S> {
         ensures same_reference { result.inner.ghost_name ≡ inner.entry.ghost_name }
         ensures same_source { result.inner.now ≡ inner.old }
         ensures room { result.room ≡ input_limit }
+        ensures faults { result.faults ≡ 0 }
     {
         Bounded {
             inner,

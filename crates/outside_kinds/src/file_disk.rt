@@ -1,5 +1,5 @@
 //! A disk over a file of the operating system.
-ghost use Rattle.std.specs.Prelude.{false, [], IsErr};
+ghost use Rattle.std.specs.Prelude.{◌≡◌, false, [], IsErr};
 ghost use Rattle.outside_traits.specs.Disks.{all_synced};
 ghost use Rattle.outside_traits.specs.Faults.{HasCause, failed};
 
@@ -18,7 +18,9 @@ pub struct FileDisk {
 }
 
 impl FileDisk {
-    pub fn new(file: File) -> FileDisk {
+    pub fn new(file: File) -> FileDisk
+        ensures faults { result.faults ≡ 0 }
+    {
         FileDisk { file, faults: 0 }
     }
 

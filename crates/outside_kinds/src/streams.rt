@@ -14,7 +14,11 @@ pub struct StdSource<R> {
 }
 
 impl<R: Read> StdSource<R> {
-    pub fn new(inner: R) -> StdSource<R> {
+    pub fn new(inner: R) -> StdSource<R>
+        ensures given { result.given ≡ 0 }
+        ensures asked { result.asked ≡ 0 }
+        ensures faults { result.faults ≡ 0 }
+    {
         StdSource {
             inner,
             given: 0,
@@ -59,7 +63,9 @@ pub struct StdSink<W> {
 }
 
 impl<W: Write> StdSink<W> {
-    pub fn new(inner: W) -> StdSink<W> {
+    pub fn new(inner: W) -> StdSink<W>
+        ensures faults { result.faults ≡ 0 }
+    {
         StdSink { inner, faults: 0 }
     }
 }
