@@ -119,7 +119,7 @@ fn ask<J: Disk>(
     Ok(write_replies(alloc, replies.as_slice(), out)?)
 }
 
-/// Does what a session is asked. A commit is made once it is durable.
+/// Does what a session is asked. A commit is made once it is durable, and where the disk fails no entry comes to the book.
 pub fn answer<J: Disk>(
     alloc: Global,
     core: &mut Core<StoreOp, SortedSeq>,
@@ -136,6 +136,7 @@ pub fn answer<J: Disk>(
     ensures takes { OnOk result (TakesNext core.new journal.new) }
     ensures any_moment { (s : State StoreCall) → Stands core.old s
         → LeavesEither J.is_known journal.old.history journal.new.history s (asked_from s session doing).state }
+    ensures unmade { result ≡ Err Halt.DiskFault → core.new.book ≡ core.old.book }
     ensures counts { Counts (result ≡ Err Halt.DiskFault) journal.old.faults journal.new.faults }
 {
     // It tells that the book is legal, before and after.
@@ -151,7 +152,8 @@ pub fn answer<J: Disk>(
     }
 }
 
-/// Makes a commit durable, then makes it and does what it leads to. What memory the journal wants is taken before its first write.
+/// Makes a commit durable, then makes it and does what it leads to; where the disk fails nothing is made.
+/// What memory the journal wants is taken before its first write.
 fn commit<J: Disk>(
     alloc: Global,
     core: &mut Core<StoreOp, SortedSeq>,
@@ -171,6 +173,7 @@ fn commit<J: Disk>(
     ensures takes { OnOk result (TakesNext core.new journal.new) }
     ensures any_moment { (s : State StoreCall) → Stands core.old s
         → LeavesEither J.is_known journal.old.history journal.new.history s (asked_from s session Commit).state }
+    ensures unmade { result ≡ Err Halt.DiskFault → core.new ≡ core.old }
     ensures counts { Counts (result ≡ Err Halt.DiskFault) journal.old.faults journal.new.faults }
 {
     // It tells that the book is legal, before and after.
