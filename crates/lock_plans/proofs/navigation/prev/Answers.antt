@@ -7,6 +7,7 @@ use Rattle.tree_model.specs.Tree.{at, prev_of, record_of}
 use Rattle.tree_model.specs.StoredTree.{is_document_record}
 use Rattle.dom_reads.proofs.ReplyLaws.{later}
 use Rattle.lock_plans.specs.inside.PlanSteps.{reads_found}
+use Rattle.lock_plans.proofs.Causes.{answer_cause, fault_cause, memory_cause}
 use Rattle.lock_plans.proofs.PlanLaws.{begun, document_is, edge_asks, grown, past, joined, found_at_end, sees, there}
 use Rattle.lock_plans.proofs.navigation.prev.Goals as goal
 
@@ -22,3 +23,21 @@ returns-clause-value g c = λ t stands.
     let w = sees l in
     let r = edge_asks l Prev ER in
     past w _ (ap not is_there) (past w _ other (joined w r _ (found_at_end (w ++ r) (prev_of None l t.documents) (dom (call.Prev l) t) (asked ∙ ap (λ o. (w ++ r) ++ reads_found o) sibling))))
+
+pub returns-clause-unchanged : goal.returns-clause-unchanged
+returns-clause-unchanged g c = g.met.S.NodeRead.unchanged_onward _ _ _ c.see.ensures.unchanged c.previous_sibling.ensures.unchanged
+
+pub returns-clause-cause : goal.returns-clause-cause
+returns-clause-cause g c = answer_cause _ (c.in_ok-sibling.ensures.cause.exact ∙ c.in_ok-found.ensures.cause.exact)
+
+pub returns-in_err-sibling-clause-unchanged : goal.returns-in_err-sibling-clause-unchanged
+returns-in_err-sibling-clause-unchanged g c = g.met.S.NodeRead.unchanged_onward _ _ _ c.see.ensures.unchanged c.previous_sibling.ensures.unchanged
+
+pub returns-in_err-sibling-clause-cause : goal.returns-in_err-sibling-clause-cause
+returns-in_err-sibling-clause-cause g c = fault_cause _ c.in_ok-found.ensures.cause.exact c.in_err-sibling.ensures.cause c.from_residual-in_err-sibling.ensures.1
+
+pub returns-in_err-read_found-clause-unchanged : goal.returns-in_err-read_found-clause-unchanged
+returns-in_err-read_found-clause-unchanged g c = g.met.S.NodeRead.unchanged_onward _ _ _ c.see.ensures.unchanged c.previous_sibling.ensures.unchanged
+
+pub returns-in_err-read_found-clause-cause : goal.returns-in_err-read_found-clause-cause
+returns-in_err-read_found-clause-cause g c = memory_cause _ (c.in_ok-sibling.ensures.cause.exact ∙ c.in_ok-found.ensures.cause.exact) c.from_residual-in_err-read_found.ensures.1
