@@ -1,5 +1,6 @@
 -- words of public clauses
 pub mod ChangeLists
+pub mod Counting
 pub mod Reads
 pub mod Trees
 pub mod WalkSteps

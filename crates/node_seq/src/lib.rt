@@ -3,11 +3,13 @@
 //! So every walk ends: `Walk` takes one entry after the other. `UnknownSeq` is a map that isn't known, for tests. What the records mean is left to the crates above.
 #![tactic(auto)]
 
+mod counted;
 mod node_read;
 mod sorted_seq;
 mod unknown_seq;
 mod walk;
 
+pub use counted::Counted;
 pub use node_read::{NodeRead, SeqError};
 pub use sorted_seq::SortedSeq;
 pub use unknown_seq::{Answer, UnknownSeq};

@@ -1,5 +1,5 @@
 //! Reading a finite map from keys to records, whatever keeps it.
-ghost use Rattle.std.specs.Prelude.{◌≡◌, ◌≤◌, ℕ, Option, Some, None, IfOk};
+ghost use Rattle.std.specs.Prelude.{◌≡◌, ◌+◌, ◌≤◌, ℕ, Option, Some, None, IfOk};
 ghost use Rattle.tree_model.specs.Entries.{Entries, Sorted, get, first_above, last_below};
 ghost use Rattle.node_seq.specs.Reads.{Finds, LiesAbove, LiesBelow, IsEntryOfTrees, IsRecordOfTrees};
 ghost use Rattle.node_seq.specs.declared.node_read.SeqError.TheVariants.{DiskFault};
@@ -51,7 +51,7 @@ impl<T: Drop> From<AllocFailed<T>> for SeqError {
 
 /// A finite map from keys to records, in the order of the keys.
 ///
-/// `contents` is the map where it is known. `count` is the count of faults.
+/// `contents` is the map where it is known. `count` is the count of faults. `reads` is that of its reads, where it keeps one as `Counted` does; else it stays 0.
 /// A map that isn't known answers only what a valid tree may have, so every walk by reads ends, known or not; what it answers may be another map's from read to read.
 /// `unchanged` holds of a value and the same value after reads: it has the same map, and its count isn't lower.
 /// A value that reads through others says of these that they are unchanged, so that who lent them learns it.
@@ -60,6 +60,8 @@ pub trait NodeRead {
 
     ghost count: { Self → ℕ };
 
+    ghost reads: { Self → ℕ } = { λ _. 0 };
+
     ghost unchanged: { Self → Self → Type 0 };
 
     /// The record at a key.
@@ -67,6 +69,7 @@ pub trait NodeRead {
         ensures value { Finds (contents self.old) result (get key.now) }
         ensures valid { contents self.old ≡ None → IfOk result IsRecordOfTrees }
         ensures unchanged { unchanged self.old self.new }
+        ensures reads { reads self.new ≤ reads self.old + 1 }
         ensures cause { HasCause DiskFault (count self.old) (count self.new) result };
 
     /// The entry with the least key above a key.
@@ -75,6 +78,7 @@ pub trait NodeRead {
         ensures above { IfOk result (LiesAbove key.now) }
         ensures valid { contents self.old ≡ None → IfOk result IsEntryOfTrees }
         ensures unchanged { unchanged self.old self.new }
+        ensures reads { reads self.new ≤ reads self.old + 1 }
         ensures cause { HasCause DiskFault (count self.old) (count self.new) result };
 
     /// The entry with the greatest key below a key.
@@ -83,6 +87,7 @@ pub trait NodeRead {
         ensures below { IfOk result (LiesBelow key.now) }
         ensures valid { contents self.old ≡ None → IfOk result IsEntryOfTrees }
         ensures unchanged { unchanged self.old self.new }
+        ensures reads { reads self.new ≤ reads self.old + 1 }
         ensures cause { HasCause DiskFault (count self.old) (count self.new) result };
 
     /// The count of faults. It reads nothing, and tells that a known map is in the order of its keys.
