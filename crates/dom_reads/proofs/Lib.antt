@@ -8,3 +8,4 @@ pub mod ReplyLaws
 pub mod StepLaws
 pub mod SubtreeEntries
 pub mod SubtreeLabels
+pub mod WalkReads

@@ -1,4 +1,5 @@
 -- words of public clauses
+pub mod ReadCounts
 pub mod Reading
 pub mod SubtreeWalks
 -- words that only private clauses use

@@ -1,11 +1,12 @@
 //! The calls on attributes (DOM Level 3 Core, interface Element), and all attributes of a place.
-ghost use Rattle.std.specs.Prelude.{◌≡◌, [], if◌then◌else◌, unwrap_or, IfOk, None};
+ghost use Rattle.std.specs.Prelude.{◌≡◌, [], if◌then◌else◌, unwrap_or, IfOk, None, ◌≤◌, ◌+◌, length};
 ghost use Rattle.tree_model.specs.Attributes as attributes;
 ghost use Rattle.tree_model.specs.Names.{is_name};
 ghost use Rattle.tree_model.specs.Places.{attributes_at};
 ghost use Rattle.tree_model.specs.Tree.{beside};
 ghost use Rattle.node_seq.specs.Trees.{OnTree};
 ghost use Rattle.outside_traits.specs.Faults.{HasCause};
+ghost use Rattle.dom_reads.specs.ReadCounts.{items_listed};
 ghost use Rattle.dom_reads.specs.inside.AttributeWalks.{attribute_of};
 
 use crate::kinds::is_element;
@@ -25,6 +26,7 @@ pub fn attr<S: NodeRead>(
 ) -> Result<Reply, SeqError>
     ensures reply { OnTree (S.contents seq.old) result (λ t reply. reply ≡ attributes.attr at.now name.now t) }
     ensures unchanged { S.unchanged seq.old seq.new }
+    ensures reads { S.reads seq.new ≤ S.reads seq.old + 2 }
     ensures cause { HasCause SeqError.DiskFault (S.count seq.old) (S.count seq.new) result }
 {
     let Some(found) = record_at(alloc, at, seq)? else {
@@ -56,6 +58,7 @@ pub fn has_attr<S: NodeRead>(
 ) -> Result<Reply, SeqError>
     ensures reply { OnTree (S.contents seq.old) result (λ t reply. reply ≡ attributes.has_attr at.now name.now t) }
     ensures unchanged { S.unchanged seq.old seq.new }
+    ensures reads { S.reads seq.new ≤ S.reads seq.old + 2 }
     ensures cause { HasCause SeqError.DiskFault (S.count seq.old) (S.count seq.new) result }
 {
     let Some(found) = record_at(alloc, at, seq)? else {
@@ -77,6 +80,7 @@ fn named_attribute<S: NodeRead>(
 ) -> Result<Option<Text>, SeqError>
     ensures value { OnTree (S.contents seq.old) result (λ t value. value ≡ (if is_name name.now then beside name.now (attributes_at at.now t) else None)) }
     ensures unchanged { S.unchanged seq.old seq.new }
+    ensures reads { S.reads seq.new ≤ S.reads seq.old + 1 }
     ensures cause { HasCause SeqError.DiskFault (S.count seq.old) (S.count seq.new) result }
 {
     if !is_name(name) {
@@ -89,6 +93,7 @@ fn named_attribute<S: NodeRead>(
 pub fn attrs<S: NodeRead>(alloc: Global, at: &Label, seq: &mut S) -> Result<Reply, SeqError>
     ensures reply { OnTree (S.contents seq.old) result (λ t reply. reply ≡ attributes.attrs at.now t) }
     ensures unchanged { S.unchanged seq.old seq.new }
+    ensures reads { IfOk result (λ reply. S.reads seq.new ≤ S.reads seq.old + (items_listed reply + 2)) }
     ensures cause { HasCause SeqError.DiskFault (S.count seq.old) (S.count seq.new) result }
 {
     let Some(found) = record_at(alloc, at, seq)? else {
@@ -108,6 +113,7 @@ pub fn all_attributes<S: NodeRead>(
 ) -> Result<List<(Text, Text)>, SeqError>
     ensures found { OnTree (S.contents seq.old) result (λ t found. found ≡ attributes_at at.now t) }
     ensures unchanged { S.unchanged seq.old seq.new }
+    ensures reads { IfOk result (λ found. S.reads seq.new ≤ S.reads seq.old + (length found + 1)) }
     ensures cause { HasCause SeqError.DiskFault (S.count seq.old) (S.count seq.new) result }
 {
     // It tells that a known map is in order.

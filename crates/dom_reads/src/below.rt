@@ -1,6 +1,6 @@
 //! The nodes that stand first and last below a node, where it may not be there.
 //! A child that is found shows its parent, so the parent is read only where none is found.
-ghost use Rattle.std.specs.Prelude.{◌≡◌, ◌≢◌, is_some, IfOk, IfSome, IsSome, IsTrue};
+ghost use Rattle.std.specs.Prelude.{◌≡◌, ◌≢◌, is_some, IfOk, IfSome, IsSome, IsTrue, ◌≤◌, ◌+◌};
 ghost use Rattle.dewey_labels.specs.Labels.{root};
 ghost use Rattle.tree_model.specs.Tree.{at as node_at, first_of, found, last_child_of};
 ghost use Rattle.node_seq.specs.Trees.{OnTree};
@@ -20,6 +20,7 @@ pub fn first_below<S: NodeRead>(
     ensures there { OnTree (S.contents seq.old) result (λ t below. is_some below ≡ found (node_at at.now t.documents)) }
     ensures child { OnTree (S.contents seq.old) result (λ t below. IfSome below (λ child. child ≡ first_of (node_at at.now t.documents))) }
     ensures unchanged { S.unchanged seq.old seq.new }
+    ensures reads { S.reads seq.new ≤ S.reads seq.old + 2 }
     ensures cause { HasCause SeqError.DiskFault (S.count seq.old) (S.count seq.new) result }
 {
     let child = first_child(alloc, at, seq)?;
@@ -41,6 +42,7 @@ pub fn last_below<S: NodeRead>(
     ensures there { OnTree (S.contents seq.old) result (λ t below. is_some below ≡ found (node_at at.now t.documents)) }
     ensures child { OnTree (S.contents seq.old) result (λ t below. IfSome below (λ child. child ≡ last_child_of (node_at at.now t.documents))) }
     ensures unchanged { S.unchanged seq.old seq.new }
+    ensures reads { S.reads seq.new ≤ S.reads seq.old + 2 }
     ensures cause { HasCause SeqError.DiskFault (S.count seq.old) (S.count seq.new) result }
 {
     let child = last_child(alloc, at, seq)?;

@@ -1,9 +1,10 @@
 //! The calls on the catalogue: all documents, and one by its name.
-ghost use Rattle.std.specs.Prelude.{◌≡◌, IfOk};
+ghost use Rattle.std.specs.Prelude.{◌≡◌, IfOk, ◌≤◌, ◌+◌};
 ghost use Rattle.dewey_labels.specs.LabelText.{label_of};
 ghost use Rattle.tree_model.specs.Documents as documents;
 ghost use Rattle.node_seq.specs.Trees.{OnTree};
 ghost use Rattle.outside_traits.specs.Faults.{HasCause};
+ghost use Rattle.dom_reads.specs.ReadCounts.{items_listed};
 ghost use Rattle.dom_reads.specs.inside.Catalogues.{catalogue_of};
 
 use crate::refusals::not_found;
@@ -17,6 +18,7 @@ use tree_model::Reply;
 pub fn docs<S: NodeRead>(alloc: Global, seq: &mut S) -> Result<Reply, SeqError>
     ensures reply { OnTree (S.contents seq.old) result (λ t reply. reply ≡ documents.docs t) }
     ensures unchanged { S.unchanged seq.old seq.new }
+    ensures reads { OnTree (S.contents seq.old) result (λ t reply. S.reads seq.new ≤ S.reads seq.old + (items_listed reply + 1)) }
     ensures cause { HasCause SeqError.DiskFault (S.count seq.old) (S.count seq.new) result }
 {
     let root = Label::root(alloc)?;
@@ -52,6 +54,7 @@ fn label_in(alloc: Global, text: &Text) -> Result<Option<Label>, NoMemory>
 pub fn doc<S: NodeRead>(alloc: Global, name: &Text, seq: &mut S) -> Result<Reply, SeqError>
     ensures reply { OnTree (S.contents seq.old) result (λ t reply. reply ≡ documents.doc name.now t) }
     ensures unchanged { S.unchanged seq.old seq.new }
+    ensures reads { S.reads seq.new ≤ S.reads seq.old + 1 }
     ensures cause { HasCause SeqError.DiskFault (S.count seq.old) (S.count seq.new) result }
 {
     let root = Label::root(alloc)?;

@@ -1,6 +1,6 @@
 //! The reading calls of DOM on any map of keys and records that stands for a tree.
 //! Where the map is known and a valid tree's, each reply is exactly the definition's on that tree; known or not, the map is unchanged, and a fault comes only where its count rose.
-//! A step from a node to a node is a read from a seek key, and a subtree is read entry by entry, so no call walks over what its answer doesn't need.
+//! A step from a node to a node is a read from a seek key, and a subtree is read entry by entry: no call walks over what its answer doesn't need, and each says how many reads it makes at most.
 #![tactic(auto)]
 
 mod attributes;

@@ -1,9 +1,10 @@
 //! What a node is, and the calls that lead from node to node (DOM Level 3 Core, interface Node).
-ghost use Rattle.std.specs.Prelude.{◌≡◌, IfOk, IsTrue};
+ghost use Rattle.std.specs.Prelude.{◌≡◌, IfOk, IsTrue, ◌≤◌, ◌+◌, length};
 ghost use Rattle.tree_model.specs.Navigation as navigation;
 ghost use Rattle.tree_model.specs.Tree.{at as node_at, children_of, found};
 ghost use Rattle.node_seq.specs.Trees.{OnTree};
 ghost use Rattle.outside_traits.specs.Faults.{HasCause};
+ghost use Rattle.dom_reads.specs.ReadCounts.{items_listed};
 
 use crate::kinds::is_document;
 use crate::refusals::not_found;
@@ -17,6 +18,7 @@ use tree_model::{Record, Reply};
 pub fn node<S: NodeRead>(alloc: Global, at: &Label, seq: &mut S) -> Result<Reply, SeqError>
     ensures reply { OnTree (S.contents seq.old) result (λ t reply. reply ≡ navigation.node_of at.now t) }
     ensures unchanged { S.unchanged seq.old seq.new }
+    ensures reads { S.reads seq.new ≤ S.reads seq.old + 1 }
     ensures cause { HasCause SeqError.DiskFault (S.count seq.old) (S.count seq.new) result }
 {
     match record_at(alloc, at, seq)? {
@@ -42,6 +44,7 @@ fn describe(alloc: Global, node: Record) -> Result<Reply, NoMemory>
 pub fn parent<S: NodeRead>(alloc: Global, at: &Label, seq: &mut S) -> Result<Reply, SeqError>
     ensures reply { OnTree (S.contents seq.old) result (λ t reply. reply ≡ navigation.parent_of at.now t) }
     ensures unchanged { S.unchanged seq.old seq.new }
+    ensures reads { S.reads seq.new ≤ S.reads seq.old + 1 }
     ensures cause { HasCause SeqError.DiskFault (S.count seq.old) (S.count seq.new) result }
 {
     let Some(found) = record_at(alloc, at, seq)? else {
@@ -57,6 +60,7 @@ pub fn parent<S: NodeRead>(alloc: Global, at: &Label, seq: &mut S) -> Result<Rep
 pub fn first<S: NodeRead>(alloc: Global, at: &Label, seq: &mut S) -> Result<Reply, SeqError>
     ensures reply { OnTree (S.contents seq.old) result (λ t reply. reply ≡ navigation.first at.now t) }
     ensures unchanged { S.unchanged seq.old seq.new }
+    ensures reads { S.reads seq.new ≤ S.reads seq.old + 2 }
     ensures cause { HasCause SeqError.DiskFault (S.count seq.old) (S.count seq.new) result }
 {
     match first_below(alloc, at, seq)? {
@@ -69,6 +73,7 @@ pub fn first<S: NodeRead>(alloc: Global, at: &Label, seq: &mut S) -> Result<Repl
 pub fn last<S: NodeRead>(alloc: Global, at: &Label, seq: &mut S) -> Result<Reply, SeqError>
     ensures reply { OnTree (S.contents seq.old) result (λ t reply. reply ≡ navigation.last at.now t) }
     ensures unchanged { S.unchanged seq.old seq.new }
+    ensures reads { S.reads seq.new ≤ S.reads seq.old + 2 }
     ensures cause { HasCause SeqError.DiskFault (S.count seq.old) (S.count seq.new) result }
 {
     match last_below(alloc, at, seq)? {
@@ -81,6 +86,7 @@ pub fn last<S: NodeRead>(alloc: Global, at: &Label, seq: &mut S) -> Result<Reply
 pub fn next<S: NodeRead>(alloc: Global, at: &Label, seq: &mut S) -> Result<Reply, SeqError>
     ensures reply { OnTree (S.contents seq.old) result (λ t reply. reply ≡ navigation.next at.now t) }
     ensures unchanged { S.unchanged seq.old seq.new }
+    ensures reads { S.reads seq.new ≤ S.reads seq.old + 2 }
     ensures cause { HasCause SeqError.DiskFault (S.count seq.old) (S.count seq.new) result }
 {
     let Some(found) = record_at(alloc, at, seq)? else {
@@ -96,6 +102,7 @@ pub fn next<S: NodeRead>(alloc: Global, at: &Label, seq: &mut S) -> Result<Reply
 pub fn prev<S: NodeRead>(alloc: Global, at: &Label, seq: &mut S) -> Result<Reply, SeqError>
     ensures reply { OnTree (S.contents seq.old) result (λ t reply. reply ≡ navigation.prev at.now t) }
     ensures unchanged { S.unchanged seq.old seq.new }
+    ensures reads { S.reads seq.new ≤ S.reads seq.old + 2 }
     ensures cause { HasCause SeqError.DiskFault (S.count seq.old) (S.count seq.new) result }
 {
     let Some(found) = record_at(alloc, at, seq)? else {
@@ -111,6 +118,7 @@ pub fn prev<S: NodeRead>(alloc: Global, at: &Label, seq: &mut S) -> Result<Reply
 pub fn children<S: NodeRead>(alloc: Global, at: &Label, seq: &mut S) -> Result<Reply, SeqError>
     ensures reply { OnTree (S.contents seq.old) result (λ t reply. reply ≡ navigation.children at.now t) }
     ensures unchanged { S.unchanged seq.old seq.new }
+    ensures reads { IfOk result (λ reply. S.reads seq.new ≤ S.reads seq.old + (items_listed reply + 2)) }
     ensures cause { HasCause SeqError.DiskFault (S.count seq.old) (S.count seq.new) result }
 {
     if record_at(alloc, at, seq)?.is_none() {
@@ -128,6 +136,7 @@ fn child_labels<S: NodeRead>(
     ensures labels { OnTree (S.contents seq.old) result (λ t labels. IsTrue (found (node_at at.now t.documents))
         → labels ≡ children_of (node_at at.now t.documents)) }
     ensures unchanged { S.unchanged seq.old seq.new }
+    ensures reads { IfOk result (λ labels. S.reads seq.new ≤ S.reads seq.old + (length labels + 1)) }
     ensures cause { HasCause SeqError.DiskFault (S.count seq.old) (S.count seq.new) result }
 {
     let mut labels = List::new(alloc);

@@ -1,5 +1,5 @@
 //! Steps from a node to what stands beside it: a read of the map each, whatever lies below the node.
-ghost use Rattle.std.specs.Prelude.{◌≡◌, IfOk, IfSome, IsTrue, None};
+ghost use Rattle.std.specs.Prelude.{◌≡◌, IfOk, IfSome, IsTrue, None, ◌≤◌, ◌+◌};
 ghost use Rattle.std.specs.Ordering.{nat_cmp};
 ghost use Rattle.std.specs.Cmp.Lexicographic.{slice_cmp};
 ghost use Rattle.std.specs.declared.cmp.Ordering.TheVariants.{Less};
@@ -29,6 +29,7 @@ pub fn record_at<S: NodeRead>(
     ensures map { Finds (S.contents seq.old) result (get (node_key at.now)) }
     ensures valid { S.contents seq.old ≡ None → IfOk result IsRecordOfTrees }
     ensures unchanged { S.unchanged seq.old seq.new }
+    ensures reads { S.reads seq.new ≤ S.reads seq.old + 1 }
     ensures cause { HasCause SeqError.DiskFault (S.count seq.old) (S.count seq.new) result }
 {
     let key = Key::of_node(alloc, at)?;
@@ -44,6 +45,7 @@ pub fn attribute_at<S: NodeRead>(
 ) -> Result<Option<Text>, SeqError>
     ensures found { OnTree (S.contents seq.old) result (λ t value. value ≡ beside name.now (attributes_at at.now t)) }
     ensures unchanged { S.unchanged seq.old seq.new }
+    ensures reads { S.reads seq.new ≤ S.reads seq.old + 1 }
     ensures cause { HasCause SeqError.DiskFault (S.count seq.old) (S.count seq.new) result }
 {
     // With the empty name the key would be the node's own.
@@ -75,6 +77,7 @@ pub fn first_child<S: NodeRead>(
     ensures child { IfOk result (λ child. IfSome child (λ c. IsTrue (is_child at.now c))) }
     ensures label { IfOk result (λ child. IfSome child IsLabel) }
     ensures unchanged { S.unchanged seq.old seq.new }
+    ensures reads { S.reads seq.new ≤ S.reads seq.old + 1 }
     ensures cause { HasCause SeqError.DiskFault (S.count seq.old) (S.count seq.new) result }
 {
     let _divisions = at.divisions();
@@ -93,6 +96,7 @@ pub fn last_child<S: NodeRead>(
     ensures child { IfOk result (λ child. IfSome child (λ c. IsTrue (is_child at.now c))) }
     ensures label { IfOk result (λ child. IfSome child IsLabel) }
     ensures unchanged { S.unchanged seq.old seq.new }
+    ensures reads { S.reads seq.new ≤ S.reads seq.old + 1 }
     ensures cause { HasCause SeqError.DiskFault (S.count seq.old) (S.count seq.new) result }
 {
     let _divisions = at.divisions();
@@ -112,6 +116,7 @@ pub fn next_sibling<S: NodeRead>(
     ensures label { IfOk result (λ next. IfSome next IsLabel) }
     ensures behind { IfOk result (λ next. IfSome next (λ n. slice_cmp nat_cmp at.now n ≡ Less)) }
     ensures unchanged { S.unchanged seq.old seq.new }
+    ensures reads { S.reads seq.new ≤ S.reads seq.old + 1 }
     ensures cause { HasCause SeqError.DiskFault (S.count seq.old) (S.count seq.new) result }
 {
     let Some(parent) = at.parent(alloc)? else {
@@ -135,6 +140,7 @@ pub fn previous_sibling<S: NodeRead>(
     ensures label { IfOk result (λ previous. IfSome previous IsLabel) }
     ensures ahead { IfOk result (λ previous. IfSome previous (λ p. slice_cmp nat_cmp p at.now ≡ Less)) }
     ensures unchanged { S.unchanged seq.old seq.new }
+    ensures reads { S.reads seq.new ≤ S.reads seq.old + 1 }
     ensures cause { HasCause SeqError.DiskFault (S.count seq.old) (S.count seq.new) result }
 {
     let Some(parent) = at.parent(alloc)? else {

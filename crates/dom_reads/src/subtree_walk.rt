@@ -1,5 +1,5 @@
 //! Walks over a subtree in the map: the entries of a node, of its attributes and of all that lies under it, each read once.
-ghost use Rattle.std.specs.Prelude.{◌≡◌, ◌++◌, IfOk, OnErr, OnOk, Some, None};
+ghost use Rattle.std.specs.Prelude.{◌≡◌, ◌++◌, IfOk, OnErr, OnOk, Some, None, ◌≤◌, ◌+◌, length};
 ghost use Rattle.dewey_labels.specs.Sides.{is_in, side};
 ghost use Rattle.tree_model.specs.Entries.{Entries, Sorted, entries_above};
 ghost use Rattle.tree_model.specs.Keys.{node_key};
@@ -48,6 +48,7 @@ impl SubtreeWalk {
         ensures above { IfOk result (λ walk. LiesAbove (node_key at.now) walk.next) }
         ensures valid { S.contents seq.old ≡ None → IfOk result (λ walk. IsEntryOfTrees walk.next) }
         ensures unchanged { S.unchanged seq.old seq.new }
+        ensures reads { S.reads seq.new ≤ S.reads seq.old + 1 }
         ensures cause { HasCause SeqError.DiskFault (S.count seq.old) (S.count seq.new) result }
     {
         // It tells that a known map is in order.
@@ -69,6 +70,7 @@ impl SubtreeWalk {
         ensures stepped { IfOk result (HasStepped (S.contents seq.old) self.old self.new) }
         ensures err { OnErr result (self.new ≡ self.old) }
         ensures unchanged { S.unchanged seq.old seq.new }
+        ensures reads { S.reads seq.new ≤ S.reads seq.old + 1 }
         ensures cause { HasCause SeqError.DiskFault (S.count seq.old) (S.count seq.new) result }
     {
         let _faults = seq.faults();
@@ -101,7 +103,7 @@ fn is_in_subtree(at: &Label, label: &Label) -> bool
 }
 
 /// The entries of a subtree: of the node `at`, of its attributes and of all that lies under it; none where there is no such node.
-/// One read an entry and one more.
+/// At most one read an entry and two more.
 pub fn subtree<S: NodeRead>(
     alloc: Global,
     at: &Label,
@@ -110,6 +112,7 @@ pub fn subtree<S: NodeRead>(
     ensures entries { OnTree (S.contents seq.old) result (λ t entries. entries ≡ subtree_of at.now t) }
     ensures rise { IfOk result Sorted }
     ensures unchanged { S.unchanged seq.old seq.new }
+    ensures reads { IfOk result (λ entries. S.reads seq.new ≤ S.reads seq.old + (length entries + 2)) }
     ensures cause { HasCause SeqError.DiskFault (S.count seq.old) (S.count seq.new) result }
 {
     let mut entries = List::new(alloc);
@@ -135,6 +138,7 @@ fn gather<S: NodeRead>(
     ensures gathered { OnOk result ((es : Entries) → S.contents seq.old ≡ Some es → entries.new ≡ entries.old ++ still_to_come walk.old es) }
     ensures rise { OnOk result (Sorted entries.new) }
     ensures unchanged { S.unchanged seq.old seq.new }
+    ensures reads { OnOk result (S.reads seq.new + length entries.old ≤ S.reads seq.old + (length entries.new + 1)) }
     ensures cause { HasCause SeqError.DiskFault (S.count seq.old) (S.count seq.new) result }
 {
     while let Some(entry) = walk.step(alloc, seq)? {

@@ -1,5 +1,5 @@
 //! The calls on a text's characters (DOM Level 3 Core, interface CharacterData).
-ghost use Rattle.std.specs.Prelude.{◌≡◌, ◌-◌, ◌^◌, drop, encode_utf8_all, if◌then◌else◌, length as length_of, take, IfOk};
+ghost use Rattle.std.specs.Prelude.{◌≡◌, ◌-◌, ◌^◌, drop, encode_utf8_all, if◌then◌else◌, length as length_of, take, IfOk, ◌≤◌, ◌+◌};
 ghost use Rattle.std.specs.Str.{chars};
 ghost use Rattle.tree_model.specs.Outcomes.{index_size_err};
 ghost use Rattle.tree_model.specs.Texts as texts;
@@ -21,6 +21,7 @@ use tree_model::{Record, Reply};
 pub fn length<S: NodeRead>(alloc: Global, at: &Label, seq: &mut S) -> Result<Reply, SeqError>
     ensures reply { OnTree (S.contents seq.old) result (λ t reply. reply ≡ texts.text_length at.now t) }
     ensures unchanged { S.unchanged seq.old seq.new }
+    ensures reads { S.reads seq.new ≤ S.reads seq.old + 1 }
     ensures cause { HasCause SeqError.DiskFault (S.count seq.old) (S.count seq.new) result }
 {
     match record_at(alloc, at, seq)? {
@@ -58,6 +59,7 @@ pub fn substring<S: NodeRead>(
 ) -> Result<Reply, SeqError>
     ensures reply { OnTree (S.contents seq.old) result (λ t reply. reply ≡ texts.substring at.now offset count t) }
     ensures unchanged { S.unchanged seq.old seq.new }
+    ensures reads { S.reads seq.new ≤ S.reads seq.old + 1 }
     ensures cause { HasCause SeqError.DiskFault (S.count seq.old) (S.count seq.new) result }
 {
     match record_at(alloc, at, seq)? {

@@ -1,4 +1,4 @@
-use Rattle.std.proofs.Common.{◌≡◌, ◌<◌, ◌++◌, ℕ, List, Option, Some, None, sym, ap, subst, ◌∙◌, arith, append-nil}
+use Rattle.std.proofs.Common.{◌≡◌, ◌<◌, ◌++◌, ℕ, List, Option, Some, None, sym, ap, subst, ◌∙◌, arith, append-nil, ◌+◌, [], ◌∷◌, length}
 use Rattle.tree_model.specs.declared.key.Key.{Key}
 use Rattle.tree_model.specs.declared.record.Record.{Record}
 use Rattle.tree_model.specs.declared.record.Record.TheVariants.{Attr}
@@ -10,6 +10,7 @@ use Rattle.node_seq.specs.WalkSteps.{steps_left}
 use Rattle.node_seq.proofs.Walks.{falls_upwards}
 use Rattle.dom_reads.specs.inside.AttributeWalks.{attribute_of}
 use Rattle.dom_reads.proofs.AttributeWalks.{attributes_from, attributes_begin, attributes_go_on, entry_of, no_more_steps, valid_attribute}
+use Rattle.dom_reads.proofs.WalkReads.{one_longer}
 use Rattle.dom_reads.proofs.attributes.all_attributes.Goals as goal
 
 pub loop-next-init : goal.loop-next-init
@@ -19,6 +20,10 @@ loop-next-init g c =
     record {
       same = c.in_ok-next_from.ensures.unchanged;
       counted = c.in_ok-next_from.ensures.cause.exact;
+      read =
+          let none : length c.new-attributes.result ≡ 0 = ap length c.new-attributes.ensures in
+          let step = c.in_ok-next_from.ensures.reads in
+          omega (arith, none, step);
       valid = λ unknown. subst (λ o. IsEntryOfTrees (entry_of o)) (sym c.attribute_of-next.ensures) (valid_attribute l found (c.in_ok-next_from.ensures.valid unknown));
       walked = λ t stands.
           let value = c.in_ok-next_from.ensures.value (map_of t) stands.map ∙ ap (λ k. first_above k (map_of t)) c.in_ok-key.ensures in
@@ -50,6 +55,11 @@ loop-next-preserved g c =
     record {
       same = law.unchanged_onward _ _ _ inv.same c.in_ok-next_from-2.ensures.unchanged;
       counted = c.in_ok-next_from-2.ensures.cause.exact ∙ inv.counted;
+      read =
+          let longer : length c.push.new.self ≡ length met + 1 = ap length c.in_ok-push.ensures.ok ∙ one_longer met (c.in-Some.key.name, c.in-Some.value) in
+          let so_far = inv.read in
+          let step = c.in_ok-next_from-2.ensures.reads in
+          omega (arith, longer, so_far, step);
       valid = λ unknown. subst (λ o. IsEntryOfTrees (entry_of o)) (sym c.attribute_of-next-in-Some.ensures) (valid_attribute l found (c.in_ok-next_from-2.ensures.valid (law.unchanged_contents _ _ inv.same ∙ unknown)));
       walked = λ t stands.
           let so_far : met ++ attributes_from l (map_of t) (Some read) ≡ attributes_at l t = subst (λ (o : Option (Key × List ℕ)). met ++ attributes_from l (map_of t) o ≡ attributes_at l t) c.in-Some.is (inv.walked t stands) in
@@ -62,3 +72,6 @@ returns-clause-found g c = λ t stands.
     let l = c.args.at.now in
     let met = c.loop-next.attributes in
     sym (append-nil met) ∙ subst (λ (o : Option (Key × List ℕ)). met ++ attributes_from l (map_of t) o ≡ attributes_at l t) c.in_default.is (c.loop-next.invariant.walked t stands)
+
+pub returns-clause-reads : goal.returns-clause-reads
+returns-clause-reads g c = c.loop-next.invariant.read

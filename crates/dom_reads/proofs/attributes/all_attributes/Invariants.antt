@@ -1,4 +1,4 @@
-use Rattle.std.proofs.Common.{◌≡◌, ◌++◌, None}
+use Rattle.std.proofs.Common.{◌≡◌, ◌++◌, None, ◌+◌, ◌≤◌, length}
 use Rattle.tree_model.specs.Places.{attributes_at}
 use Rattle.tree_model.specs.Tree.{Tree, map_of}
 use Rattle.node_seq.specs.Reads.{IsEntryOfTrees}
@@ -11,6 +11,7 @@ abbrev pub invariant-loop-next : goal.invariant-loop-next
 invariant-loop-next g l = record {
   same : g.S.NodeRead.unchanged l.fn.seq l.seq;
   counted : g.S.NodeRead.count l.seq ≡ g.S.NodeRead.count l.fn.seq;
+  read : g.S.NodeRead.reads l.seq ≤ g.S.NodeRead.reads l.fn.seq + (length l.attributes + 1);
   valid : g.S.NodeRead.contents l.fn.seq ≡ None → IsEntryOfTrees (entry_of l.next);
   walked : (t : Tree) → StandsFor (g.S.NodeRead.contents l.fn.seq) t → l.attributes ++ attributes_from l.at (map_of t) l.next ≡ attributes_at l.at t;
 }

@@ -1,5 +1,7 @@
-use Rattle.std.proofs.Common.{ap, ◌∙◌}
+use Rattle.std.proofs.Common.{ap, ◌∙◌, ◌≡◌, ◌+◌, length, arith}
+use Rattle.std.proofs.lemmas.List.{length-map}
 use Rattle.tree_model.specs.Places.{attributes_at}
+use Rattle.tree_model.specs.Tree.{root_attribute}
 use Rattle.tree_model.specs.declared.reply.Reply.TheVariants as reply
 use Rattle.dom_reads.specs.inside.Catalogues.{catalogue_of}
 use Rattle.dom_reads.proofs.ReplyLaws.{catalogue_is}
@@ -9,3 +11,11 @@ pub returns-clause-reply : goal.returns-clause-reply
 returns-clause-reply g c = λ t stands.
     let entries = c.in_ok-entries.ensures.found t stands ∙ ap (λ l. attributes_at l t) c.in_ok-root.ensures in
     ap reply.Names (c.in_ok-catalogue.ensures ∙ ap catalogue_of entries ∙ catalogue_is t stands.valid)
+
+pub returns-clause-reads : goal.returns-clause-reads
+returns-clause-reads g c = λ t stands.
+    let entries = c.in_ok-entries.ensures.found t stands ∙ ap (λ l. attributes_at l t) c.in_ok-root.ensures in
+    let names : length c.in_ok-catalogue.field-0 ≡ length t.catalogue = ap length (c.in_ok-catalogue.ensures ∙ ap catalogue_of entries ∙ catalogue_is t stands.valid) in
+    let met : length c.in_ok-entries.entries ≡ length t.catalogue = ap length entries ∙ length-map t.catalogue root_attribute in
+    let read = c.in_ok-entries.ensures.reads in
+    omega (arith, names, met, read)

@@ -1,13 +1,18 @@
-use Rattle.std.proofs.Common.{◌<◌, IfSome, Some, sym, subst, ◌∙◌}
+use Rattle.std.proofs.Common.{◌<◌, IfSome, Some, sym, subst, ◌∙◌, ◌≡◌, ◌+◌, ◌++◌, [], ◌∷◌, List, length, ap, arith}
 use Rattle.dewey_labels.specs.Labels.{IsLabel}
 use Rattle.dom_reads.proofs.ChildLists.{IsChildWalk, walk_begins, walk_goes_on, walk_ends, steps_behind, steps_fall, within_if}
 use Rattle.dom_reads.proofs.ReplyLaws.{later}
+use Rattle.dom_reads.proofs.WalkReads.{one_longer}
 use Rattle.dom_reads.proofs.navigation.child_labels.Goals as goal
 
 pub loop-next-init : goal.loop-next-init
 loop-next-init g c = record {
   same = c.in_ok-next.ensures.unchanged;
   counted = c.in_ok-next.ensures.cause.exact;
+  read =
+      let none : length c.new-labels.result ≡ 0 = ap length c.new-labels.ensures in
+      let step = c.in_ok-next.ensures.reads in
+      omega (arith, none, step);
   label = c.in_ok-next.ensures.label;
   walked = λ t stands y.
       subst (λ ls. IsChildWalk c.args.at.now t ls c.in_ok-next.next) (sym c.new-labels.ensures) (walk_begins c.args.at.now t c.in_ok-next.next stands.valid y (c.in_ok-next.ensures.found t stands));
@@ -29,6 +34,11 @@ loop-next-preserved g c =
     record {
       same = law.unchanged_onward _ _ _ inv.same c.in_ok-next-2.ensures.unchanged;
       counted = c.in_ok-next-2.ensures.cause.exact ∙ inv.counted;
+      read =
+          let longer : length c.push.new.self ≡ length c.loop-next.labels + 1 = ap length c.in_ok-push.ensures.ok ∙ one_longer c.loop-next.labels child in
+          let so_far = inv.read in
+          let step = c.in_ok-next-2.ensures.reads in
+          omega (arith, longer, so_far, step);
       label = c.in_ok-next-2.ensures.label;
       walked = λ t stands y.
           let was : IsChildWalk c.args.at.now t c.loop-next.labels (Some child) = subst (IsChildWalk c.args.at.now t c.loop-next.labels) c.in-Some.is (inv.walked t stands y) in
@@ -39,3 +49,6 @@ loop-next-preserved g c =
 pub returns-clause-labels : goal.returns-clause-labels
 returns-clause-labels g c = λ t stands y.
     walk_ends c.args.at.now t c.loop-next.labels (subst (IsChildWalk c.args.at.now t c.loop-next.labels) c.in_default.is (c.loop-next.invariant.walked t stands y))
+
+pub returns-clause-reads : goal.returns-clause-reads
+returns-clause-reads g c = c.loop-next.invariant.read

@@ -1,4 +1,4 @@
-use Rattle.std.proofs.Common.{◌≡◌, true, IfSome}
+use Rattle.std.proofs.Common.{◌≡◌, true, IfSome, ◌+◌, ◌≤◌, length}
 use Rattle.dewey_labels.specs.Labels.{IsLabel}
 use Rattle.tree_model.specs.Tree.{Tree, at, found}
 use Rattle.node_seq.specs.Trees.{StandsFor}
@@ -9,6 +9,7 @@ abbrev pub invariant-loop-next : goal.invariant-loop-next
 invariant-loop-next g l = record {
   same : g.S.NodeRead.unchanged l.fn.seq l.seq;
   counted : g.S.NodeRead.count l.seq ≡ g.S.NodeRead.count l.fn.seq;
+  read : g.S.NodeRead.reads l.seq ≤ g.S.NodeRead.reads l.fn.seq + (length l.labels + 1);
   label : IfSome l.next IsLabel;
   walked : (t : Tree) → StandsFor (g.S.NodeRead.contents l.fn.seq) t → found (at l.at t.documents) ≡ true → IsChildWalk l.at t l.labels l.next;
 }

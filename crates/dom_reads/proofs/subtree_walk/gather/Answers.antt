@@ -1,10 +1,11 @@
-use Rattle.std.proofs.Common.{◌≡◌, ◌++◌, [], ◌∷◌, Option, Some, sym, ap, subst, ◌∙◌, append_assoc}
+use Rattle.std.proofs.Common.{◌≡◌, ◌++◌, [], ◌∷◌, Option, Some, sym, ap, subst, ◌∙◌, append_assoc, ◌+◌, length, ℕ, arith}
 use Rattle.tree_model.specs.declared.key.Key.{Key}
 use Rattle.tree_model.specs.declared.record.Record.{Record}
 use Rattle.tree_model.specs.Entries.{Entries}
 use Rattle.dom_reads.specs.SubtreeWalks.{HasStepped, Stand, still_to_come}
 use Rattle.dom_reads.specs.inside.InSubtrees.{RisesTo}
 use Rattle.dom_reads.proofs.SubtreeEntries.{rises_on}
+use Rattle.dom_reads.proofs.WalkReads.{one_longer}
 use Rattle.dom_reads.proofs.subtree_walk.gather.Goals as goal
 
 pub loop-entry-preserved : goal.loop-entry-preserved
@@ -22,9 +23,20 @@ loop-entry-preserved g c =
     record {
       same = law.unchanged_onward _ _ _ inv.same c.in_ok-entry.ensures.unchanged;
       counted = c.in_ok-entry.ensures.cause.exact ∙ inv.counted;
+      read =
+          let longer : length c.push.new.self ≡ length entries + 1 = ap length c.in_ok-push.ensures.ok ∙ one_longer entries e in
+          let so_far = inv.read in
+          let step = c.in_ok-entry.ensures.reads in
+          omega (arith, longer, so_far, step);
       valid = λ unknown. stepped.valid (known ∙ unknown);
       rise = subst (λ (es : Entries). RisesTo new.next es) (sym c.in_ok-push.ensures.ok) (rises_on e new.next entries (subst (λ (o : Option (Key × Record)). RisesTo o entries) (sym stepped.entry) inv.rise) stepped.above);
       gathered = λ es t.
           subst (λ (v : Entries). v ++ still_to_come new es ≡ c.args.entries.now ++ still_to_come c.args.walk.now es) (sym c.in_ok-push.ensures.ok)
           (append_assoc entries (e ∷ []) (still_to_come new es) ∙ ap (λ v. entries ++ v) (sym (stepped.rest es (known ∙ t))) ∙ inv.gathered es t);
     }
+
+pub returns-clause-reads : goal.returns-clause-reads
+returns-clause-reads g c =
+    let so_far = c.loop-entry.invariant.read in
+    let step = c.in_ok-entry.ensures.reads in
+    omega (arith, so_far, step)

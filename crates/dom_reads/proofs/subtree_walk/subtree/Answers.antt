@@ -1,4 +1,4 @@
-use Rattle.std.proofs.Common.{◌++◌, [], ◌∷◌, sym, ap, ◌∙◌}
+use Rattle.std.proofs.Common.{◌++◌, [], ◌∷◌, sym, ap, ◌∙◌, ◌≡◌, length}
 use Rattle.tree_model.specs.declared.key.Key.{Key}
 use Rattle.tree_model.specs.declared.record.Record.{Record}
 use Rattle.tree_model.specs.Entries.{Entries, get, entries_above}
@@ -6,6 +6,7 @@ use Rattle.tree_model.specs.Keys.{node_key}
 use Rattle.tree_model.specs.Tree.{map_of}
 use Rattle.dom_reads.specs.SubtreeWalks.{as_long, lies_in, still_to_come}
 use Rattle.dom_reads.proofs.SubtreeEntries.{missing, subtree_found, subtree_missing}
+use Rattle.dom_reads.proofs.WalkReads.{reads_of_list}
 use Rattle.dom_reads.proofs.subtree_walk.subtree.Goals as goal
 
 pub returns-in_default-clause-entries : goal.returns-in_default-clause-entries
@@ -28,3 +29,8 @@ returns-clause-entries g c t stands =
     ∙ ap (λ (v : Entries). (k, r) ∷ v) (c.in_ok-walk.ensures.rest es read)
     ∙ ap (λ (j : Key). (j, r) ∷ as_long (lies_in at) (entries_above (node_key at) es)) c.in_ok-key.ensures
     ∙ subtree_found at r t stands.valid (sym c.in-Some.is ∙ c.in_ok-record.ensures.value es stands.map ∙ ap (λ j. get j es) c.in_ok-key.ensures)
+
+pub returns-clause-reads : goal.returns-clause-reads
+returns-clause-reads g c =
+    let one : length c.push.new.self ≡ 1 = ap length (c.in_ok-push.ensures.ok ∙ ap (λ (v : Entries). v ++ ((c.in_ok-key.key, c.in-Some.record) ∷ [])) c.new-entries.ensures) in
+    reads_of_list _ _ _ _ c.push.new.self _ one c.in_ok-record.ensures.reads c.in_ok-walk.ensures.reads c.in_ok-gather.ensures.reads

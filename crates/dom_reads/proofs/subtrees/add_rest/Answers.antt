@@ -4,6 +4,7 @@ use Rattle.tree_model.specs.declared.record.Record.{Record}
 use Rattle.tree_model.specs.Entries.{Entries}
 use Rattle.dom_reads.specs.SubtreeWalks.{HasStepped, Stand, still_to_come}
 use Rattle.dom_reads.specs.inside.FragmentBuilders.{Making, add_all, making_of}
+use Rattle.dom_reads.proofs.WalkReads.{reads_on, reads_at_end}
 use Rattle.dom_reads.proofs.subtrees.add_rest.Goals as goal
 
 pub loop-entry-preserved : goal.loop-entry-preserved
@@ -19,8 +20,12 @@ loop-entry-preserved g c =
     record {
       same = law.unchanged_onward _ _ _ inv.same c.in_ok-entry.ensures.unchanged;
       counted = c.in_ok-entry.ensures.cause.exact ∙ inv.counted;
+      read = λ es t. reads_on _ _ _ _ _ _ e (inv.read es t) c.in_ok-entry.ensures.reads (stepped.rest es (known ∙ t));
       valid = λ unknown. stepped.valid (known ∙ unknown);
       added = λ es t.
           subst (λ (v : Making). add_all (still_to_come new es) v ≡ add_all (still_to_come c.args.walk.now es) (making_of c.args.builder.now)) (sym c.in_ok-add.ensures)
           (ap (λ (v : Entries). add_all v (making_of c.loop-entry.builder)) (sym (stepped.rest es (known ∙ t))) ∙ inv.added es t);
     }
+
+pub returns-clause-reads : goal.returns-clause-reads
+returns-clause-reads g c es t = reads_at_end _ _ _ (still_to_come c.args.walk.now es) (still_to_come c.loop-entry.walk es) (c.loop-entry.invariant.read es t) c.in_ok-entry.ensures.reads

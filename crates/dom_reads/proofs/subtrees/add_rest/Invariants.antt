@@ -1,4 +1,4 @@
-use Rattle.std.proofs.Common.{◌≡◌, Some, None}
+use Rattle.std.proofs.Common.{◌≡◌, Some, None, ◌+◌, ◌≤◌, length}
 use Rattle.tree_model.specs.Entries.{Entries}
 use Rattle.node_seq.specs.Reads.{IsEntryOfTrees}
 use Rattle.node_seq.specs.WalkSteps.{steps_left}
@@ -10,6 +10,7 @@ abbrev pub invariant-loop-entry : goal.invariant-loop-entry
 invariant-loop-entry g l = record {
   same : g.S.NodeRead.unchanged l.fn.seq l.seq;
   counted : g.S.NodeRead.count l.seq ≡ g.S.NodeRead.count l.fn.seq;
+  read : (es : Entries) → g.S.NodeRead.contents l.fn.seq ≡ Some es → g.S.NodeRead.reads l.seq + length (still_to_come l.walk es) ≤ g.S.NodeRead.reads l.fn.seq + length (still_to_come l.fn.walk es);
   valid : g.S.NodeRead.contents l.fn.seq ≡ None → IsEntryOfTrees l.walk.next;
   added : (es : Entries) → g.S.NodeRead.contents l.fn.seq ≡ Some es → add_all (still_to_come l.walk es) (making_of l.builder) ≡ add_all (still_to_come l.fn.walk es) (making_of l.fn.builder);
 }

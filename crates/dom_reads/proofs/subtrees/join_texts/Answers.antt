@@ -4,6 +4,7 @@ use Rattle.tree_model.specs.declared.record.Record.{Record}
 use Rattle.tree_model.specs.Entries.{Entries}
 use Rattle.dom_reads.specs.SubtreeWalks.{HasStepped, Stand, still_to_come}
 use Rattle.dom_reads.specs.inside.Gathered.{data_of, texts_in}
+use Rattle.dom_reads.proofs.WalkReads.{reads_on, reads_at_end}
 use Rattle.dom_reads.proofs.subtrees.join_texts.Goals as goal
 
 pub loop-joined-preserved : goal.loop-joined-preserved
@@ -19,9 +20,13 @@ loop-joined-preserved g c =
     record {
       same = law.unchanged_onward _ _ _ inv.same c.in_ok-entry.ensures.unchanged;
       counted = c.in_ok-entry.ensures.cause.exact ∙ inv.counted;
+      read = λ es t. reads_on _ _ _ _ _ _ e (inv.read es t) c.in_ok-entry.ensures.reads (stepped.rest es (known ∙ t));
       valid = λ unknown. stepped.valid (known ∙ unknown);
       texts = λ es t.
           let so_far : List ℕ = string_bytes c.loop-joined.joined in
           subst (λ (v : List ℕ). v ++ texts_in (still_to_come new es) ≡ texts_in (still_to_come c.args.walk.now es)) (sym c.in_ok-push_text.ensures)
           (append_assoc so_far (data_of e.1) (texts_in (still_to_come new es)) ∙ ap (λ (v : Entries). so_far ++ texts_in v) (sym (stepped.rest es (known ∙ t))) ∙ inv.texts es t);
     }
+
+pub returns-clause-reads : goal.returns-clause-reads
+returns-clause-reads g c es t = reads_at_end _ _ _ (still_to_come c.args.walk.now es) (still_to_come c.loop-joined.walk es) (c.loop-joined.invariant.read es t) c.in_ok-entry.ensures.reads

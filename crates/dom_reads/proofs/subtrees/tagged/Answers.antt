@@ -5,6 +5,7 @@ use Rattle.tree_model.specs.Entries.{Entries}
 use Rattle.dom_reads.specs.SubtreeWalks.{HasStepped, Stand, still_to_come}
 use Rattle.dewey_labels.specs.Labels.{Label}
 use Rattle.dom_reads.specs.inside.Gathered.{has_tag, labels_in}
+use Rattle.dom_reads.proofs.WalkReads.{reads_on, reads_at_end}
 use Rattle.dom_reads.proofs.subtrees.tagged.Goals as goal
 
 pub loop-labels-preserved : goal.loop-labels-preserved
@@ -20,6 +21,7 @@ loop-labels-preserved g c =
     record {
       same = law.unchanged_onward _ _ _ inv.same c.in_ok-entry.ensures.unchanged;
       counted = c.in_ok-entry.ensures.cause.exact ∙ inv.counted;
+      read = λ es t. reads_on _ _ _ _ _ _ e (inv.read es t) c.in_ok-entry.ensures.reads (stepped.rest es (known ∙ t));
       valid = λ unknown. stepped.valid (known ∙ unknown);
       labels = λ es t.
           let n = c.args.name.now in
@@ -27,3 +29,6 @@ loop-labels-preserved g c =
           subst (λ (v : List Label). v ++ labels_in n (still_to_come new es) ≡ labels_in n (still_to_come c.args.walk.now es)) (sym c.in_ok-push_tagged.ensures)
           (append_assoc so_far (if has_tag n e.1 then e.0.label ∷ [] else []) (labels_in n (still_to_come new es)) ∙ ap (λ (v : Entries). so_far ++ labels_in n v) (sym (stepped.rest es (known ∙ t))) ∙ inv.labels es t);
     }
+
+pub returns-clause-reads : goal.returns-clause-reads
+returns-clause-reads g c es t = reads_at_end _ _ _ (still_to_come c.args.walk.now es) (still_to_come c.loop-labels.walk es) (c.loop-labels.invariant.read es t) c.in_ok-entry.ensures.reads

@@ -8,6 +8,7 @@ use Rattle.tree_model.specs.Texts.{content}
 use Rattle.dom_reads.specs.inside.Gathered.{texts_in}
 use Rattle.dom_reads.proofs.GatheredLaws.{see_missing, text_content_found, text_met}
 use Rattle.dom_reads.proofs.SubtreeEntries.{met_below, missing}
+use Rattle.dom_reads.proofs.WalkReads.{reads_of_subtree}
 use Rattle.dom_reads.proofs.subtrees.text_content.Goals as goal
 
 pub returns-in_default-clause-reply : goal.returns-in_default-clause-reply
@@ -50,3 +51,13 @@ returns-clause-reply g c t stands =
     let r : Record = c.in-Some.record in
     ap (λ v. text_met v (met_below at t)) (sym c.in-Attr.is)
     ∙ text_content_found at r t stands.valid (sym c.in-Some.is ∙ c.in_ok-record.ensures.value es stands.map ∙ ap (λ (j : Key). get j es) c.in_ok-key.ensures)
+
+pub returns-in-Element-clause-reads : goal.returns-in-Element-clause-reads
+returns-in-Element-clause-reads g c t stands =
+    let law = g.met.S.NodeRead in
+    let at = c.args.at.now in
+    let es = map_of t in
+    let read = law.unchanged_contents _ _ c.in_ok-record.ensures.unchanged ∙ stands.map in
+    let walked = law.unchanged_contents _ _ c.in_ok-walk-in-Element.ensures.unchanged ∙ read in
+    reads_of_subtree _ _ _ _ at c.in-Some.record _ t stands.valid (sym c.in-Some.is ∙ c.in_ok-record.ensures.value es stands.map ∙ ap (λ (j : Key). get j es) c.in_ok-key.ensures)
+    (c.in_ok-walk-in-Element.ensures.rest es read) c.in_ok-record.ensures.reads c.in_ok-walk-in-Element.ensures.reads (c.in_ok-join_texts-in-Element.ensures.reads es walked)
