@@ -7,7 +7,7 @@ use command_lines::{
 };
 use dewey_labels::{List, NoMemory};
 use lock_resources::Request;
-use node_seq::{Answer, SeqError, UnknownSeq};
+use node_seq::{Answer, Counted, NodeRead, SeqError, UnknownSeq};
 use std::alloc::Global;
 use store_calls::StoreOp;
 use tree_model::{Changes, Key, Record, Reply};
@@ -140,27 +140,37 @@ fn fails_at_each(
 }
 
 /// Whether a call ends with a fault exactly where one was counted, over maps that aren't known: each read is answered by the next one of the entries,
-/// from a different one on in each map, whatever it asks, until one fails.
+/// from a different one on in each map, whatever it asks, until one fails. A call reads no further then.
 fn ends_over_any_map(
     alloc: Global,
     op: &StoreOp,
     entries: &[(Key, Record)],
 ) -> Result<bool, SeqError> {
     for start in [0, 1, 2, 5, 11, 23] {
-        let mut seq = any_map(alloc, entries, start)?;
+        let mut seq = Counted::new(any_map(alloc, entries, start)?);
         let mut requests = List::new(alloc);
         let is_planned = op.requests(alloc, &mut seq, &mut requests).is_ok();
-        if is_planned != (seq.faults == 0) {
+        if !ends_at_its_fault(&seq, is_planned, entries.len(), start) {
             return Ok(false);
         }
-        let mut seq = any_map(alloc, entries, start)?;
+        let mut seq = Counted::new(any_map(alloc, entries, start)?);
         let mut changes: Changes = List::new(alloc);
         let is_answered = op.apply(alloc, &mut seq, &mut changes).is_ok();
-        if is_answered != (seq.faults == 0) {
+        if !ends_at_its_fault(&seq, is_answered, entries.len(), start) {
             return Ok(false);
         }
     }
     Ok(true)
+}
+
+/// Whether a call over such a map ended well exactly where it made no read past those that are answered, and else at the first one past them.
+fn ends_at_its_fault(seq: &Counted<UnknownSeq>, is_ok: bool, entries: usize, start: usize) -> bool {
+    let answered = entries.saturating_sub(start).min(ANSWERED_READS) as u64;
+    if is_ok {
+        seq.faults() == 0 && seq.calls() <= answered
+    } else {
+        seq.faults() == 1 && seq.calls() == answered + 1
+    }
 }
 
 /// A map that isn't known, whose first reads are answered by the entries from this one on, and the next one by a fault.
