@@ -217,7 +217,7 @@ impl Ord for Label {
     ghost matches_eq = { texts_ties };
 
     fn cmp(&self, other: &Label) -> Ordering {
-        self.divisions().cmp(other.divisions())
+        order(self.divisions(), other.divisions())
     }
 }
 
@@ -228,5 +228,21 @@ impl PartialOrd for Label {
 
     fn partial_cmp(&self, other: &Label) -> Option<Ordering> {
         Some(self.cmp(other))
+    }
+}
+
+/// The order of two lists of divisions. They are short, so their divisions are compared one by one.
+fn order(one: &[u32], other: &[u32]) -> Ordering
+    ensures { result ≡ slice_cmp nat_cmp one.now other.now }
+{
+    match one {
+        [] => 0.cmp(&other.len()),
+        [division, rest @ ..] => match other {
+            [] => Ordering::Greater,
+            [against, others @ ..] => match division.cmp(against) {
+                Ordering::Equal => order(rest, others),
+                unequal => unequal,
+            },
+        },
     }
 }
