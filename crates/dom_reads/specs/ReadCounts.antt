@@ -15,7 +15,7 @@ items_listed (Places labels) = length labels
 items_listed (Attrs (Some ats)) = length ats
 items_listed reply = 0
 
--- One read for an item that is items_listed, or for an entry of the subtree that is gone through, and two more.
+-- one read for an item that is listed, or for an entry of the subtree that is gone through, and two more
 abbrev pub most_reads : DomCall → Tree → ℕ
 most_reads (call.TextContent l) t = length (subtree_of l t) + 2
 most_reads (call.Tags l n) t = length (subtree_of l t) + 2

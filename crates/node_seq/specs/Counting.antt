@@ -1,6 +1,7 @@
 -- A map with the number of reads that were made of it.
 use Rattle.std.specs.Prelude.{ℕ, ◌+◌, ◌-◌, ◌^◌, min}
 
+-- the map, and how many reads were made of it
 pub record Counting (S : Type 0) : Type 0 where
   pub seq : S
   pub calls : ℕ
