@@ -1,11 +1,20 @@
 -- How a step follows an input that was taken so far, for any machine: what was written before the last read was asked for stays written.
-use Rattle.std.proofs.Common.{◌≡◌, ℕ, ◌+◌, ◌-◌, ◌≤◌, List, [], ◌++◌, length, take, sym, ap, ◌∙◌, subst, arith, append-nil}
-use Rattle.std.specs.Prelude.{Option, Result, Ok}
+use Rattle.std.proofs.Common.{◌≡◌, ℕ, ◌+◌, ◌-◌, ◌≤◌, List, [], ◌++◌, length, take, refl, sym, ap, ◌∙◌, subst, arith, append-nil}
+use Rattle.std.specs.Prelude.{Option, Result, Ok, Err, IfSome, OnOk}
 use Rattle.std.proofs.Math.Seq.{take-append_seam}
-use Rattle.script_runs.specs.Machine.{Machine}
+use Rattle.outside_kinds.specs.Bounds.{input_limit}
+use Rattle.outside_traits.specs.Bytes.{Gave}
+use Rattle.script_runs.specs.Counts.{CountedWhere, DisksCountedWhere, ReadFaultCause}
+use Rattle.script_runs.specs.Lines.{line_limit}
+use Rattle.script_runs.specs.Machine.{Machine, IsReady}
 use Rattle.script_runs.specs.Runs.{IsPrompt}
-use Rattle.script_runs.specs.inside.Feeding.{Script, IsNew, LeavesFrom, Leaves, TakesFrom}
+use Rattle.script_runs.specs.inside.Feeding.{Script, IsNew, IfGoesOn, LeavesFrom, Leaves, TakesFrom, went}
+use Rattle.script_runs.specs.inside.Inputs.{TakesInput}
 use Rattle.script_runs.specs.declared.feeding.Stop.{Stop}
+use Rattle.script_runs.specs.declared.feeding.Stop.TheVariants.{WriteFault, Halted}
+use Rattle.script_runs.specs.declared.halt.Halt.TheVariants.{DiskFault}
+use Rattle.script_runs.specs.declared.running.Input.{Input}
+use Rattle.script_runs.specs.declared.running.Input.TheVariants.{Ended, Fault}
 use Rattle.script_runs.proofs.LogLaws.{leaves_none, leaves_on, flushed_on}
 use Rattle.script_runs.proofs.RunLaws.{prompt_later, prompt_nothing, prompt_here, prompt_before}
 
@@ -50,3 +59,63 @@ module _ {M : Type 0} (m : Machine M) (limit : ℕ) where
           prompt = subst (λ (x : List ℕ). IsPrompt m limit s x h j) (sym (asked_behind read piece given before asked gave is))
               (prompt_later m limit s read h i j _ (prompt_here m limit s a new h read b i p written short) (q fed.0 fed.1).does.wrote);
         }
+
+-- a step's answer as an input's
+abbrev pub came : Result (Unit {0}) Stop → Result Input Stop
+came (Ok done) = Ok Ended
+came (Err stop) = Err stop
+
+-- a stop, as a step's answer
+abbrev pub as_stop : Stop → Result (Unit {0}) Stop
+as_stop e = Err e
+
+module _ {S K M : Type 0} (m : Machine M) (left : S → Option (List ℕ)) (given asked faults : S → ℕ) (held : K → Option (List ℕ)) (write_faults : K → ℕ) (old new : Script M) (source source_now : S) (sink sink_now : K) where
+  -- bytes were read, and what taking them leaves
+  abbrev Takes : Result (Unit {0}) Stop → Type 0
+  Takes r = (read : List ℕ) × Gave (left source) (left source_now) read × (given source_now ≡ given source + length read)
+      × ((s : m.State) → m.stands old.machine s → TakesFrom m line_limit s old new (held sink) (held sink_now) read (asked source_now - given source) r)
+
+  abbrev Taken : Result Input Stop → Type 0
+  Taken r = TakesInput m left given asked faults held write_faults old new source source_now sink sink_now r
+
+  -- a step stopped
+  pub input_stopped : (r : Result Input Stop) (e : Stop) → r ≡ Err e → Takes (Err e) → IfGoesOn (IsReady m new.machine) (Err e) → new.lines ≤ input_limit → faults source_now ≡ faults source
+      → CountedWhere (as_stop e ≡ Err WriteFault) (write_faults sink) (write_faults sink_now) → DisksCountedWhere (as_stop e ≡ Err (Halted DiskFault)) (m.faults old.machine) (m.faults new.machine) → Taken r
+  input_stopped r e is takes ready lines none write disk = subst Taken (sym is) (record {
+    takes = takes;
+    ready = ready;
+    lines = lines;
+    written = tt;
+    ended = λ no. absurd cc;
+    read = record { cause = λ no. absurd cc; exact = λ other. none };
+    write = record { counted = λ it. write.counted (ap went it); exact = λ other. write.exact (λ it. other (ap came it)) };
+    disk = record { counted = λ it. disk.counted (ap went it); exact = λ other. disk.exact (λ it. other (ap came it)) };
+  })
+
+  -- the input came to its end
+  pub input_ended : Takes (Ok tt) → IsReady m new.machine → new.lines ≤ input_limit → new.pending ≡ [] → length new.unended ≤ line_limit → IfSome (left source_now) (λ rest. rest ≡ []) → faults source_now ≡ faults source
+      → write_faults sink_now ≡ write_faults sink → m.faults new.machine ≡ m.faults old.machine → Taken (Ok Ended)
+  input_ended takes ready lines empty short all none written kept = record {
+    takes = takes;
+    ready = ready;
+    lines = lines;
+    written = (empty, short);
+    ended = λ is. all;
+    read = record { cause = λ no. absurd cc; exact = λ other. none };
+    write = record { counted = λ no. absurd cc; exact = λ other. written };
+    disk = record { counted = λ no. absurd cc; exact = λ other. kept };
+  }
+
+  -- a read failed
+  pub input_failed : Takes (Ok tt) → IsReady m new.machine → new.lines ≤ input_limit → new.pending ≡ [] → length new.unended ≤ line_limit → ReadFaultCause input_limit (faults source) (faults source_now) (given source) (given source_now)
+      → write_faults sink_now ≡ write_faults sink → m.faults new.machine ≡ m.faults old.machine → Taken (Ok Fault)
+  input_failed takes ready lines empty short cause written kept = record {
+    takes = takes;
+    ready = ready;
+    lines = lines;
+    written = (empty, short);
+    ended = λ no. absurd cc;
+    read = record { cause = λ is. cause; exact = λ other. absurd (other refl) };
+    write = record { counted = λ no. absurd cc; exact = λ other. written };
+    disk = record { counted = λ no. absurd cc; exact = λ other. kept };
+  }

@@ -6,7 +6,8 @@ ghost use Rattle.script_runs.specs.Counts.{CountedWhere, DisksCountedWhere, Read
 ghost use Rattle.script_runs.specs.Lines.{line_limit};
 ghost use Rattle.script_runs.specs.Machine.{IsReady};
 ghost use Rattle.script_runs.specs.Runs.{Ran};
-ghost use Rattle.script_runs.specs.inside.Feeding.{IsNew, TakesFrom, IfGoesOn, went, stopped};
+ghost use Rattle.script_runs.specs.inside.Feeding.{IsNew, stopped};
+ghost use Rattle.script_runs.specs.inside.Inputs.{TakesInput, RunsScript};
 
 use crate::feeding::{Script, Stop};
 use crate::halt::Halt;
@@ -90,15 +91,8 @@ fn run_script<S: Source, K: Sink, M: LineMachine>(
     requires new { IsNew script.old }
     requires ready { IsReady M.machine script.old.machine }
     requires some { 0 < length buffer.old }
-    ensures ran { (read : List ℕ) × Gave (S.left source.old) (S.left source.new) read × (S.given source.new ≡ S.given source.old + length read)
-        × ((s : M.machine.State) → M.machine.stands script.old.machine s
-        → Ran M.machine line_limit s result read (S.asked source.new - S.given source.old) (S.left source.new)
-        (K.held sink.old) (K.held sink.new) script.old.machine script.new.machine) }
-    ensures whole { result ≡ End.Done → IfSome (S.left source.new) (λ rest. rest ≡ []) }
-    ensures read { ReadCountedWhere (result ≡ End.ReadFault) input_limit
-        (S.faults source.old) (S.faults source.new) (S.given source.old) (S.given source.new) }
-    ensures write { CountedWhere (result ≡ End.WriteFault) (K.faults sink.old) (K.faults sink.new) }
-    ensures disk { DisksCountedWhere (result ≡ End.Halted Halt.DiskFault) (M.machine.faults script.old.machine) (M.machine.faults script.new.machine) }
+    ensures { RunsScript M.machine S.left S.given S.asked S.faults K.held K.faults script.old.machine script.new.machine
+        source.old source.new sink.old sink.new result }
 {
     match take_all(script, alloc, source, sink, buffer) {
         Ok(Input::Ended) => match script.finish(alloc, sink) {
@@ -139,18 +133,7 @@ fn take_all<S: Source, K: Sink, M: LineMachine>(
     requires new { IsNew script.old }
     requires ready { IsReady M.machine script.old.machine }
     requires some { 0 < length buffer.old }
-    ensures takes { (read : List ℕ) × Gave (S.left source.old) (S.left source.new) read × (S.given source.new ≡ S.given source.old + length read)
-        × ((s : M.machine.State) → M.machine.stands script.old.machine s
-        → TakesFrom M.machine line_limit s script.old script.new (K.held sink.old) (K.held sink.new) read
-        (S.asked source.new - S.given source.old) (went result)) }
-    ensures ready { IfGoesOn (IsReady M.machine script.new.machine) (went result) }
-    ensures lines { script.new.lines ≤ input_limit }
-    ensures written { OnOk result ((script.new.pending ≡ []) × (length script.new.unended ≤ line_limit)) }
-    ensures ended { result ≡ Ok Input.Ended → IfSome (S.left source.new) (λ rest. rest ≡ []) }
-    ensures read { ReadCountedWhere (result ≡ Ok Input.Fault) input_limit
-        (S.faults source.old) (S.faults source.new) (S.given source.old) (S.given source.new) }
-    ensures write { CountedWhere (result ≡ Err Stop.WriteFault) (K.faults sink.old) (K.faults sink.new) }
-    ensures disk { DisksCountedWhere (result ≡ Err (Stop.Halted Halt.DiskFault)) (M.machine.faults script.old.machine) (M.machine.faults script.new.machine) }
+    ensures { TakesInput M.machine S.left S.given S.asked S.faults K.held K.faults script.old script.new source.old source.new sink.old sink.new result }
 {
     let mut bounded = Bounded::new(source);
     take_pieces(script, alloc, &mut bounded, sink, buffer)
@@ -168,21 +151,9 @@ fn take_pieces<S: Source, K: Sink, M: LineMachine>(
     requires ready { IsReady M.machine script.old.machine }
     requires room { source.old.room ≡ input_limit }
     requires some { 0 < length buffer.old }
-    ensures takes { (read : List ℕ) × Gave (S.left source.old.inner.now) (S.left source.new.inner.now) read
-        × (S.given source.new.inner.now ≡ S.given source.old.inner.now + length read)
-        × ((s : M.machine.State) → M.machine.stands script.old.machine s
-        → TakesFrom M.machine line_limit s script.old script.new (K.held sink.old) (K.held sink.new) read
-        (S.asked source.new.inner.now - S.given source.old.inner.now) (went result)) }
-    ensures ready { IfGoesOn (IsReady M.machine script.new.machine) (went result) }
+    ensures takes { TakesInput M.machine S.left S.given S.asked S.faults K.held K.faults script.old script.new
+        source.old.inner.now source.new.inner.now sink.old sink.new result }
     ensures same_reference { source.new.inner.ghost_name ≡ source.old.inner.ghost_name }
-    ensures lines { script.new.lines ≤ input_limit }
-    ensures written { OnOk result ((script.new.pending ≡ []) × (length script.new.unended ≤ line_limit)) }
-    ensures ended { result ≡ Ok Input.Ended → IfSome (S.left source.new.inner.now) (λ rest. rest ≡ []) }
-    ensures read { ReadCountedWhere (result ≡ Ok Input.Fault) input_limit
-        (S.faults source.old.inner.now) (S.faults source.new.inner.now)
-        (S.given source.old.inner.now) (S.given source.new.inner.now) }
-    ensures write { CountedWhere (result ≡ Err Stop.WriteFault) (K.faults sink.old) (K.faults sink.new) }
-    ensures disk { DisksCountedWhere (result ≡ Err (Stop.Halted Halt.DiskFault)) (M.machine.faults script.old.machine) (M.machine.faults script.new.machine) }
 {
     loop {
         script.flush(sink)?;

@@ -5,10 +5,17 @@ use Rattle.outside_traits.specs.Bytes.{Gave}
 use Rattle.outside_traits.proofs.Laws.{gave_none, gave_on}
 use Rattle.script_runs.specs.Lines.{line_limit}
 use Rattle.script_runs.specs.Machine.{IsReady}
-use Rattle.script_runs.specs.inside.Feeding.{TakesFrom, went}
+use Rattle.script_runs.specs.inside.Feeding.{IfGoesOn}
 use Rattle.script_runs.proofs.LogLaws.{flushed_on}
-use Rattle.script_runs.proofs.InputLaws.{takes_none, takes_flushed, takes_fault, takes_end, takes_piece}
+use Rattle.script_runs.specs.Counts.{CountedWhere, DisksCountedWhere}
+use Rattle.script_runs.specs.declared.feeding.Stop.TheVariants.{WriteFault, Halted}
+use Rattle.script_runs.specs.declared.halt.Halt.TheVariants.{DiskFault}
+use Rattle.script_runs.proofs.InputLaws.{takes_none, takes_flushed, takes_fault, takes_end, takes_piece, as_stop, input_stopped, input_failed, input_ended}
 use Rattle.script_runs.proofs.running.take_pieces.Goals as goal
+
+-- a failed write is no failed disk
+write_is_no_halt : as_stop WriteFault ≡ Err (Halted DiskFault) → ⊥
+write_is_no_halt it = cc
 
 -- one piece more was given
 gave_piece : (a b c : Option (List ℕ)) (read piece prefix : List ℕ) → Gave a b read → piece ≡ prefix → Gave b c prefix → Gave a c (read ++ piece)
@@ -31,67 +38,93 @@ loop-source-init g c = record {
 
 pub returns-in_err-flush-clause-takes : goal.returns-in_err-flush-clause-takes
 returns-in_err-flush-clause-takes g c =
-    let so = c.loop-source.invariant.so_far in
-    let h = g.K.Sink.held c.args.sink.now in
-    let j = g.K.Sink.held c.flush.new.sink in
-    let is : c.from_residual.result ≡ Err c.in_err-flush.field-0.0 = search rules in
-    let stop : went c.from_residual.result ≡ Err c.in_err-flush.field-0.0 = ap went is in (
-      so.0,
-      so.1,
-      so.2,
-      λ s stands.
-          subst (TakesFrom g.M.LineMachine.machine line_limit s c.args.script.now c.flush.new.self h j so.0 _) (sym stop)
-          (takes_flushed g.M.LineMachine.machine line_limit s c.args.script.now c.loop-source.script c.flush.new.self h _ j so.0 _ (Err c.in_err-flush.field-0.0) (so.3 s stands) c.in_err-flush.ensures.leaves),
-    )
+    let m = g.M.LineMachine.machine in
+    let invariant = c.loop-source.invariant in
+    let so = invariant.so_far in
+    let f = c.in_err-flush.ensures in
+    let e = c.in_err-flush.field-0.0 in
+    let is : c.from_residual.result ≡ Err e = search rules in
+    input_stopped m g.S.Source.left g.S.Source.given g.S.Source.asked g.S.Source.faults g.K.Sink.held g.K.Sink.faults _ _ _ _ _ _ c.from_residual.result e is
+    (so.0, so.1, so.2, λ s stands. takes_flushed m line_limit s c.args.script.now c.loop-source.script c.flush.new.self _ _ _ so.0 _ (Err e) (so.3 s stands) f.leaves)
+    (subst (IfGoesOn (IsReady m c.flush.new.self.machine)) (sym f.error) tt)
+    (omega (arith, invariant.lines, f.lines))
+    invariant.no_read_fault
+    (subst (λ n. CountedWhere (as_stop e ≡ Err WriteFault) n (g.K.Sink.faults c.flush.new.sink)) invariant.no_write_fault f.write)
+    (record { counted = λ it. absurd (write_is_no_halt (sym f.error ∙ it)); exact = λ other. ap m.faults f.machine ∙ invariant.no_disk_fault })
 
 pub returns-in-Err-clause-takes : goal.returns-in-Err-clause-takes
 returns-in-Err-clause-takes g c =
     let m = g.M.LineMachine.machine in
-    let so = c.loop-source.invariant.so_far in
-    let err = c.in-Err.ensures.err in
-    let f = c.in_ok-flush.ensures in (
+    let invariant = c.loop-source.invariant in
+    let so = invariant.so_far in
+    let r = c.in-Err.ensures in
+    let f = c.in_ok-flush.ensures in
+    input_failed m g.S.Source.left g.S.Source.given g.S.Source.asked g.S.Source.faults g.K.Sink.held g.K.Sink.faults _ _ _ _ _ _ (
       so.0,
-      so.1 ∙ ap (λ o. option_map (λ rest. so.0 ++ rest) o) (sym err.0),
-      omega (arith, so.2, err.1),
+      so.1 ∙ ap (λ o. option_map (λ rest. so.0 ++ rest) o) (sym r.err.0),
+      omega (arith, so.2, r.err.1),
       λ s stands. takes_fault m line_limit s c.args.script.now c.flush.new.self c.requires.new _ _ so.0 _ (flushed_on m line_limit s c.args.script.now c.loop-source.script c.flush.new.self _ _ _ so.0 (Ok tt) (so.3 s stands).leaves f.leaves) f.empty f.short,
     )
+    (subst (IsReady m) (sym f.machine) invariant.ready)
+    (omega (arith, invariant.lines, f.lines))
+    f.empty
+    f.short
+    (search rules)
+    (f.write.exact (λ e. cc) ∙ invariant.no_write_fault)
+    (ap m.faults f.machine ∙ invariant.no_disk_fault)
 
 pub returns-then-count-eq0-clause-takes : goal.returns-then-count-eq0-clause-takes
 returns-then-count-eq0-clause-takes g c =
     let m = g.M.LineMachine.machine in
-    let so = c.loop-source.invariant.so_far in
+    let invariant = c.loop-source.invariant in
+    let so = invariant.so_far in
+    let r = c.in-Ok.ensures in
     let f = c.in_ok-flush.ensures in
     let left = g.S.Source.left c.args.source.now.inner.now in
     let now = g.S.Source.left c.read.new.self.inner.now in
     let none : c.in-Ok.count ≡ 0 = search rules in
-    let gave : Gave left now so.0 = subst (Gave left now) (ap (λ k. so.0 ++ take k c.read.new.buf) none ∙ append-nil so.0) (gave_on _ _ _ so.0 (take c.in-Ok.count c.read.new.buf) so.1 c.in-Ok.ensures.bytes) in (
+    let gave : Gave left now so.0 = subst (Gave left now) (ap (λ k. so.0 ++ take k c.read.new.buf) none ∙ append-nil so.0) (gave_on _ _ _ so.0 (take c.in-Ok.count c.read.new.buf) so.1 r.bytes) in
+    input_ended m g.S.Source.left g.S.Source.given g.S.Source.asked g.S.Source.faults g.K.Sink.held g.K.Sink.faults _ _ _ _ _ _ (
       so.0,
       gave,
-      omega (arith, so.2, c.in-Ok.ensures.count, none),
+      omega (arith, so.2, r.count, none),
       λ s stands.
           takes_end m line_limit s c.args.script.now c.requires.new c.flush.new.self _ _ so.0 (flushed_on m line_limit s c.args.script.now c.loop-source.script c.flush.new.self _ _ _ so.0 (Ok tt) (so.3 s stands).leaves f.leaves) f.empty f.short
-          _ _ _ so.2 c.in-Ok.ensures.asked,
+          _ _ _ so.2 r.asked,
     )
+    (subst (IsReady m) (sym f.machine) invariant.ready)
+    (omega (arith, invariant.lines, f.lines))
+    f.empty
+    f.short
+    (search rules)
+    (r.below.exact ∙ invariant.no_read_fault)
+    (f.write.exact (λ e. cc) ∙ invariant.no_write_fault)
+    (ap m.faults f.machine ∙ invariant.no_disk_fault)
 
 pub returns-in_err-feed-clause-takes : goal.returns-in_err-feed-clause-takes
 returns-in_err-feed-clause-takes g c =
     let m = g.M.LineMachine.machine in
-    let so = c.loop-source.invariant.so_far in
+    let invariant = c.loop-source.invariant in
+    let so = invariant.so_far in
+    let r = c.in-Ok.ensures in
     let f = c.in_ok-flush.ensures in
+    let fed = c.in_err-feed.ensures in
     let piece = c.split_at.result.0.now in
     let e = c.in_err-feed.field-0.0 in
-    let h = g.K.Sink.held c.args.sink.now in
-    let j = g.K.Sink.held c.feed.new.sink in
     let is : c.from_residual-in_err-feed.result ≡ Err e = search rules in
-    let stop : went c.from_residual-in_err-feed.result ≡ Err e = ap went is in (
+    input_stopped m g.S.Source.left g.S.Source.given g.S.Source.asked g.S.Source.faults g.K.Sink.held g.K.Sink.faults _ _ _ _ _ _ c.from_residual-in_err-feed.result e is (
       so.0 ++ piece,
-      gave_piece _ _ _ so.0 piece (take c.in-Ok.count c.read.new.buf) so.1 c.split_at.ensures.front c.in-Ok.ensures.bytes,
-      omega (arith, so.2, c.in-Ok.ensures.count, c.split_at.ensures.front_len, length-append so.0 piece),
+      gave_piece _ _ _ so.0 piece (take c.in-Ok.count c.read.new.buf) so.1 c.split_at.ensures.front r.bytes,
+      omega (arith, so.2, r.count, c.split_at.ensures.front_len, length-append so.0 piece),
       λ s stands.
-          subst (TakesFrom m line_limit s c.args.script.now c.feed.new.self h j (so.0 ++ piece) _) (sym stop)
-          (takes_piece m line_limit s c.args.script.now c.requires.new c.flush.new.self h _ so.0 (flushed_on m line_limit s c.args.script.now c.loop-source.script c.flush.new.self h _ _ so.0 (Ok tt) (so.3 s stands).leaves f.leaves) f.empty f.short
-          _ _ _ so.2 c.in-Ok.ensures.asked c.feed.new.self j piece (Err e) c.in_err-feed.ensures.leaves),
+          takes_piece m line_limit s c.args.script.now c.requires.new c.flush.new.self _ _ so.0 (flushed_on m line_limit s c.args.script.now c.loop-source.script c.flush.new.self _ _ _ so.0 (Ok tt) (so.3 s stands).leaves f.leaves) f.empty f.short
+          _ _ _ so.2 r.asked c.feed.new.self _ piece (Err e) fed.leaves,
     )
+    fed.ready
+    (omega (arith, invariant.lines, fed.lines, f.lines, c.split_at.ensures.front_len, r.count, r.room))
+    (r.below.exact ∙ invariant.no_read_fault)
+    (subst (λ n. CountedWhere (as_stop e ≡ Err WriteFault) n (g.K.Sink.faults c.feed.new.sink)) (f.write.exact (λ e. cc) ∙ invariant.no_write_fault) fed.write)
+    (subst (λ n. DisksCountedWhere (as_stop e ≡ Err (Halted DiskFault)) n (m.faults c.feed.new.self.machine)) (ap m.faults f.machine ∙ invariant.no_disk_fault) fed.disk)
 
 pub loop-source-preserved : goal.loop-source-preserved
 loop-source-preserved g c =

@@ -1,0 +1,40 @@
+-- What taking an input into a new script leaves, and what running one does.
+use Rattle.std.specs.Prelude.{◌≡◌, ℕ, ◌+◌, ◌-◌, ◌≤◌, List, [], length, Option, Result, Ok, Err, OnOk, IfSome}
+use Rattle.outside_kinds.specs.Bounds.{input_limit}
+use Rattle.outside_traits.specs.Bytes.{Gave}
+use Rattle.script_runs.specs.Counts.{CountedWhere, DisksCountedWhere, ReadCountedWhere}
+use Rattle.script_runs.specs.Lines.{line_limit}
+use Rattle.script_runs.specs.Machine.{Machine, IsReady}
+use Rattle.script_runs.specs.Runs.{Ran}
+use Rattle.script_runs.specs.inside.Feeding.{Script, TakesFrom, IfGoesOn, went}
+use Rattle.script_runs.specs.declared.feeding.Stop.{Stop}
+use Rattle.script_runs.specs.declared.feeding.Stop.TheVariants.{WriteFault, Halted}
+use Rattle.script_runs.specs.declared.halt.Halt.TheVariants.{DiskFault}
+use Rattle.script_runs.specs.declared.running.End.{End}
+use Rattle.script_runs.specs.declared.running.End.TheVariants as end
+use Rattle.script_runs.specs.declared.running.Input.{Input}
+use Rattle.script_runs.specs.declared.running.Input.TheVariants.{Ended, Fault}
+
+-- Bytes were read from a source and taken, and all that is pending is written where the input came to its end.
+-- `left`, `given`, `asked`, `faults` are the source's, `held` and `write_faults` the sink's.
+pub record TakesInput {S K M : Type 0} (m : Machine M) (left : S → Option (List ℕ)) (given asked faults : S → ℕ) (held : K → Option (List ℕ)) (write_faults : K → ℕ)
+    (old new : Script M) (source source_now : S) (sink sink_now : K) (result : Result Input Stop) : Type 0 where
+  pub takes : (read : List ℕ) × Gave (left source) (left source_now) read × (given source_now ≡ given source + length read)
+      × ((s : m.State) → m.stands old.machine s → TakesFrom m line_limit s old new (held sink) (held sink_now) read (asked source_now - given source) (went result))
+  pub ready : IfGoesOn (IsReady m new.machine) (went result)
+  pub lines : new.lines ≤ input_limit
+  pub written : OnOk result ((new.pending ≡ []) × (length new.unended ≤ line_limit))
+  pub ended : result ≡ Ok Ended → IfSome (left source_now) (λ rest. rest ≡ [])
+  pub read : ReadCountedWhere (result ≡ Ok Fault) input_limit (faults source) (faults source_now) (given source) (given source_now)
+  pub write : CountedWhere (result ≡ Err WriteFault) (write_faults sink) (write_faults sink_now)
+  pub disk : DisksCountedWhere (result ≡ Err (Halted DiskFault)) (m.faults old.machine) (m.faults new.machine)
+
+-- What running a new script leaves, at its end.
+pub record RunsScript {S K M : Type 0} (m : Machine M) (left : S → Option (List ℕ)) (given asked faults : S → ℕ) (held : K → Option (List ℕ)) (write_faults : K → ℕ)
+    (old new : M) (source source_now : S) (sink sink_now : K) (how : End) : Type 0 where
+  pub ran : (read : List ℕ) × Gave (left source) (left source_now) read × (given source_now ≡ given source + length read)
+      × ((s : m.State) → m.stands old s → Ran m line_limit s how read (asked source_now - given source) (left source_now) (held sink) (held sink_now) old new)
+  pub whole : how ≡ end.Done → IfSome (left source_now) (λ rest. rest ≡ [])
+  pub read : ReadCountedWhere (how ≡ end.ReadFault) input_limit (faults source) (faults source_now) (given source) (given source_now)
+  pub write : CountedWhere (how ≡ end.WriteFault) (write_faults sink) (write_faults sink_now)
+  pub disk : DisksCountedWhere (how ≡ end.Halted DiskFault) (m.faults old) (m.faults new)
