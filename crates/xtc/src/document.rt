@@ -323,11 +323,7 @@ fn put_doings(alloc: Global, name: &str, element: Fragment) -> Result<Vec<Doing<
     ensures valid { IfOk result (λ doings. AreValidAsks (all_asks doings.items)) }
 {
     let create = DomCall::Create(Text::of(alloc, name)?, Some(element));
-    let mut doings = Vec::new(alloc);
-    doings.push(Doing::Begin)?;
-    doings.push(doing_of(create))?;
-    doings.push(Doing::Commit)?;
-    Ok(doings)
+    Ok(vec![in alloc; Doing::Begin, doing_of(create), Doing::Commit]?)
 }
 
 fn find_doings(alloc: Global, name: &str) -> Result<Vec<Doing<StoreOp>>, NoMemory>
@@ -335,22 +331,17 @@ fn find_doings(alloc: Global, name: &str) -> Result<Vec<Doing<StoreOp>>, NoMemor
     ensures valid { IfOk result (λ doings. AreValidAsks (all_asks doings.items)) }
 {
     let doc = DomCall::Doc(Text::of(alloc, name)?);
-    let mut doings = Vec::new(alloc);
-    doings.push(Doing::Begin)?;
-    doings.push(doing_of(doc))?;
-    Ok(doings)
+    Ok(vec![in alloc; Doing::Begin, doing_of(doc)]?)
 }
 
 fn dump_doings(alloc: Global, label: Option<Label>) -> Result<Vec<Doing<StoreOp>>, NoMemory>
     ensures asks { IfOk result (λ doings. all_asks doings.items ≡ dump_asks label) }
     ensures valid { IfOk result (λ doings. AreValidAsks (all_asks doings.items)) }
 {
-    let mut doings = Vec::new(alloc);
-    if let Some(at) = label {
-        doings.push(doing_of(DomCall::Dump(at)))?;
-        doings.push(Doing::Abort)?;
+    match label {
+        Some(at) => Ok(vec![in alloc; doing_of(DomCall::Dump(at)), Doing::Abort]?),
+        None => Ok(Vec::new(alloc)),
     }
-    Ok(doings)
 }
 
 /// Asking a session for a call.
