@@ -107,13 +107,29 @@ fn disk(alloc: Global, bytes: &[u8], fails: u64) -> Result<MemDisk, AllocError> 
     Ok(MemDisk::new(listed(alloc, bytes)?, listed(alloc, &[fails])?))
 }
 
-fn source_of(alloc: Global, case: &Case<'_>) -> Result<MemSource, AllocError> {
-    let text = written_out(alloc, case.input)?;
-    let mut bytes = Vec::from_slice(alloc, text.as_bytes())?;
+/// The bytes of the input, with the blanks behind it.
+fn input_of(alloc: Global, case: &Case<'_>) -> Result<Vec<u8>, AllocError> {
+    let mut bytes = written_out(alloc, case.input)?.into_bytes();
     if case.bytes > 0 {
         bytes.resize(case.bytes, b' ')?;
     }
-    Ok(MemSource::new(List::from_vec(bytes), listed(alloc, &[case.read])?))
+    Ok(bytes)
+}
+
+fn source_of(alloc: Global, case: &Case<'_>) -> Result<InPieces<MemSource>, AllocError> {
+    let fails = listed(alloc, &[case.read])?;
+    Ok(InPieces {
+        inner: MemSource::new(List::from_vec(input_of(alloc, case)?), fails),
+        piece: case.piece,
+    })
+}
+
+fn sink_of(alloc: Global, case: &Case<'_>) -> Result<InPieces<MemSink>, AllocError> {
+    let fails = listed(alloc, &[case.write])?;
+    Ok(InPieces {
+        inner: MemSink::new(alloc, fails),
+        piece: case.piece,
+    })
 }
 
 fn words_of(alloc: Global, text: &str) -> Result<Vec<String>, AllocError> {
@@ -126,14 +142,21 @@ fn words_of(alloc: Global, text: &str) -> Result<Vec<String>, AllocError> {
 
 /// Runs the program, where this call of the journal's file fails.
 fn run(alloc: Global, case: &Case<'_>, call: u64) -> Result<Outcome, AllocError> {
-    let words = words_of(alloc, case.words)?;
     let journal = disk(alloc, case.journal, call)?;
     let pages = disk(alloc, case.pages, case.pages_call)?;
-    let inner = source_of(alloc, case)?;
-    let piece = case.piece;
-    let mut source = InPieces { inner, piece };
-    let inner = MemSink::new(alloc, listed(alloc, &[case.write])?);
-    let mut sink = InPieces { inner, piece };
+    run_over(alloc, case, journal, pages)
+}
+
+/// Runs the program over these files.
+fn run_over(
+    alloc: Global,
+    case: &Case<'_>,
+    journal: MemDisk,
+    pages: MemDisk,
+) -> Result<Outcome, AllocError> {
+    let words = words_of(alloc, case.words)?;
+    let mut source = source_of(alloc, case)?;
+    let mut sink = sink_of(alloc, case)?;
     let finish = xtc(alloc, &words, &mut source, &mut sink, journal, pages);
     outcome_of(alloc, finish, &sink.inner)
 }
@@ -486,13 +509,14 @@ fn is_usage(rt: &impl Abort, alloc: Global, words: &str) -> Result<(), Fail> {
         status: "2 xtc: usage",
         ..PLAIN
     };
-    let outcome = run_case(rt, alloc, &case)?;
-    assert_eq!(rt;
-        outcome.journal.calls().max(outcome.pages.calls()),
-        0,
-        "{words}"
-    );
+    assert_eq!(rt; calls_of(rt, alloc, &case)?, 0, "{words}");
     Ok(())
+}
+
+/// The more calls that a run makes of one of its disks.
+fn calls_of(rt: &impl Abort, alloc: Global, case: &Case<'_>) -> Result<u64, Fail> {
+    let outcome = run_case(rt, alloc, case)?;
+    Ok(outcome.journal.calls().max(outcome.pages.calls()))
 }
 
 fn run_others(rt: &impl Abort, alloc: Global) -> Result<(), Fail> {
@@ -535,11 +559,15 @@ const FOUND: &[&[u8]] = &[
     b"{\"ok\":1,\"s\":1}\n{\"err\":{\"name\":\"DocumentExists\"},\"s\":1}\n{\"err\":{\"name\":\"DocumentExists\"},\"s\":1}\n{\"err\":{\"name\":\"DocumentExists\"},\"s\":1}\n{\"ok\":4,\"s\":1}\n",
 ];
 
+/// After how many commits this is the text of `WHICH`.
+fn found_at(text: &[u8]) -> Option<usize> {
+    FOUND.iter().position(|found| *found == text)
+}
+
 /// How many of the commits a journal holds.
 fn commits_in(alloc: Global, journal: &[u8]) -> Result<usize, Fail> {
-    let outcome = run_on(alloc, WHICH, journal, 0)?;
-    let text = outcome.text.as_slice();
-    match FOUND.iter().position(|found| *found == text) {
+    let text = run_on(alloc, WHICH, journal, 0)?.text;
+    match found_at(&text) {
         Some(count) => Ok(count),
         None => Err(Fail::from("the files hold no prefix of the commits")),
     }
