@@ -1,6 +1,5 @@
 //! The printed tables of the lock modes, row by row.
 use lock_modes::{Ask, EdgeMode, Mode, ReadPart, WritePart};
-use std::test::Fail;
 
 /// The modes in the order of the printed table's columns.
 const COLUMNS: [Mode; 11] = [
@@ -32,16 +31,26 @@ const TABLE: [(Mode, &str); 11] = [
     (Mode::SX, "-----------"),
 ];
 
-#[test]
-fn modes_go_together_as_the_printed_table_says(rt: HostRuntime) -> Result<(), Fail> {
-    for (mode, marks) in TABLE {
-        assert_eq!(rt; marks.len(), COLUMNS.len());
-        for (other, mark) in COLUMNS.iter().zip(marks.as_bytes()) {
-            let want = *mark == b'+';
-            assert_eq!(rt; mode.compatible(*other), want, "{mode:?} beside {other:?}");
+/// The marks of a mode: a plus at each column whose mode another may hold beside it.
+fn marks_of(mode: Mode) -> [u8; 11] {
+    let mut marks = [b'-'; 11];
+    for (mark, other) in marks.iter_mut().zip(&COLUMNS) {
+        if mode.compatible(*other) {
+            *mark = b'+';
         }
     }
-    Ok(())
+    marks
+}
+
+#[test]
+fn modes_go_together_as_the_printed_table_says(rt: HostRuntime) {
+    for (mode, marks) in &TABLE {
+        assert_eq!(rt;
+            marks_of(*mode).as_slice(),
+            marks.as_bytes(),
+            "beside {mode:?}"
+        );
+    }
 }
 
 /// Two modes and their join.
@@ -59,17 +68,21 @@ const JOINS: [(Mode, Mode, Mode); 9] = [
 
 #[test]
 fn a_join_takes_the_greater_of_each_part(rt: HostRuntime) {
-    for (mode, other, want) in JOINS {
-        assert_eq!(rt; mode.join(other), want, "{mode:?} with {other:?}");
-        assert_eq!(rt; other.join(mode), want, "{other:?} with {mode:?}");
+    for (mode, other, want) in &JOINS {
+        let joins = (mode.join(*other), other.join(*mode));
+        assert_eq!(rt;
+            joins,
+            (*want, *want),
+            "{mode:?} with {other:?}, and the other way round"
+        );
     }
 }
 
 #[test]
 fn exclusive_with_anything_stays_exclusive(rt: HostRuntime) {
-    for mode in COLUMNS {
-        assert_eq!(rt; mode.join(Mode::SX), Mode::SX);
-        assert_eq!(rt; Mode::SX.join(mode), Mode::SX);
+    for mode in &COLUMNS {
+        let joins = (mode.join(Mode::SX), Mode::SX.join(*mode));
+        assert_eq!(rt; joins, (Mode::SX, Mode::SX));
     }
 }
 
@@ -90,8 +103,8 @@ const PARTS: [(Mode, Option<(ReadPart, WritePart)>); 11] = [
 
 #[test]
 fn each_mode_has_its_parts(rt: HostRuntime) {
-    for (mode, want) in PARTS {
-        assert_eq!(rt; mode.parts(), want, "{mode:?}");
+    for (mode, want) in &PARTS {
+        assert_eq!(rt; mode.parts(), *want, "{mode:?}");
     }
 }
 
@@ -105,9 +118,9 @@ const EDGES: [(EdgeMode, EdgeMode, EdgeMode, bool); 4] = [
 
 #[test]
 fn only_readers_share_an_edge(rt: HostRuntime) {
-    for (mode, other, joined, together) in EDGES {
-        assert_eq!(rt; mode.join(other), joined);
-        assert_eq!(rt; mode.compatible(other), together);
+    for (mode, other, joined, together) in &EDGES {
+        let meets = (mode.join(*other), mode.compatible(*other));
+        assert_eq!(rt; meets, (*joined, *together));
     }
 }
 
@@ -130,7 +143,7 @@ const NAMES: [(Ask, &str); 13] = [
 
 #[test]
 fn a_mode_has_its_name(rt: HostRuntime) {
-    for (ask, want) in NAMES {
-        assert_eq!(rt; ask.name(), want);
+    for (ask, want) in &NAMES {
+        assert_eq!(rt; ask.name(), *want);
     }
 }

@@ -24,19 +24,35 @@ fn adds(alloc: Global, resource: Resource, ask: Ask, want: &str) -> Result<bool,
 {
     let mut requests = List::new(alloc);
     with_intentions(alloc, &resource, ask, &mut requests)?;
-    let text = shown(alloc, requests.as_slice())?;
+    are_shown(alloc, requests.as_slice(), want)
+}
+
+/// Whether these requests one after the other are shown so.
+fn are_shown(alloc: Global, requests: &[Request], want: &str) -> Result<bool, NoMemory> {
+    let mut text = List::new(alloc);
+    for request in requests {
+        show(alloc, request, &mut text)?;
+    }
     Ok(text.as_slice() == want.as_bytes())
 }
 
-fn shown(alloc: Global, requests: &[Request]) -> Result<List<u8>, NoMemory> {
-    let mut out = List::new(alloc);
-    for request in requests {
-        request.resource.write_text(alloc, &mut out)?;
-        out.push(b' ')?;
-        out.extend_from_slice(alloc, request.ask.name().as_bytes())?;
-        out.push(b',')?;
-    }
-    Ok(out)
+/// Shows a request as its resource's text, the mode's name and a comma.
+fn show(alloc: Global, request: &Request, out: &mut List<u8>) -> Result<(), NoMemory> {
+    request.resource.write_text(alloc, out)?;
+    out.push(b' ')?;
+    out.extend_from_slice(alloc, request.ask.name().as_bytes())?;
+    out.push(b',')
+}
+
+/// Whether these requests are added for a changed attribute of a node.
+fn changed_attribute_adds(
+    alloc: Global,
+    label: Label,
+    name: &str,
+    want: &str,
+) -> Result<bool, NoMemory> {
+    let one = Resource::Attr(label, Text::of(alloc, name)?);
+    adds(alloc, one, Ask::Node(Mode::SX), want)
 }
 
 #[test]
@@ -89,23 +105,15 @@ fn a_changed_attribute_owes_a_child_change_at_all_of_them(rt: HostRuntime) -> Re
     let alloc = rt.alloc();
     let want =
         "node 1 IX,node 1.1001 IX,node 1.1001.1001 IX,attrs 1.1001.1001.1 CX,attr 1.1001.1001 k SX,";
-    let one = Resource::Attr(element(alloc)?, Text::of(alloc, "k")?);
-    assert!(rt; adds(alloc, one, Ask::Node(Mode::SX), want)?);
+    assert!(rt; changed_attribute_adds(alloc, element(alloc)?, "k", want)?);
     Ok(())
 }
 
 #[test]
 fn a_document_name_is_changed_as_an_attribute_of_the_root(rt: HostRuntime) -> Result<(), Fail> {
     let alloc = rt.alloc();
-    let name = Resource::Attr(Label::root(alloc)?, Text::of(alloc, "X")?);
-    assert!(rt;
-        adds(
-            alloc,
-            name,
-            Ask::Node(Mode::SX),
-            "node 1 IX,attrs 1.1 CX,attr 1 X SX,"
-        )?
-    );
+    let want = "node 1 IX,attrs 1.1 CX,attr 1 X SX,";
+    assert!(rt; changed_attribute_adds(alloc, Label::root(alloc)?, "X", want)?);
     Ok(())
 }
 
@@ -118,15 +126,31 @@ fn an_edge_is_asked_below_a_read_node(rt: HostRuntime) -> Result<(), Fail> {
     Ok(())
 }
 
-/// Whether the copy of an edge's request is equal to it, and shown so.
-fn edge_is_shown(alloc: Global, side: Side, want: &str) -> Result<bool, Fail> {
-    let request = Request {
+/// A request to read an edge at the element.
+fn edge_request(alloc: Global, side: Side) -> Result<Request, Fail> {
+    Ok(Request {
         resource: Resource::Edge(element(alloc)?, side),
         ask: Ask::Edge(EdgeMode::ER),
-    };
-    let copies = [request.copy(alloc)?];
-    let text = shown(alloc, &copies)?;
-    Ok(text.as_slice() == want.as_bytes() && copies[0] == request)
+    })
+}
+
+/// Whether a request is shown so.
+fn is_shown(alloc: Global, request: &Request, want: &str) -> Result<bool, NoMemory> {
+    let mut text = List::new(alloc);
+    show(alloc, request, &mut text)?;
+    Ok(text.as_slice() == want.as_bytes())
+}
+
+/// Whether the copy of a request is equal to it, and shown so.
+fn copy_is_shown(alloc: Global, request: &Request, want: &str) -> Result<bool, NoMemory> {
+    let copy = request.copy(alloc)?;
+    Ok(copy == *request && is_shown(alloc, &copy, want)?)
+}
+
+/// Whether the copy of an edge's request is equal to it, and shown so.
+fn edge_is_shown(alloc: Global, side: Side, want: &str) -> Result<bool, Fail> {
+    let request = edge_request(alloc, side)?;
+    Ok(copy_is_shown(alloc, &request, want)?)
 }
 
 /// A side, and how a request at it is shown.
@@ -140,17 +164,22 @@ const SIDES: [(Side, &str); 4] = [
 #[test]
 fn each_side_has_its_word(rt: HostRuntime) -> Result<(), Fail> {
     let alloc = rt.alloc();
-    for (side, want) in SIDES {
-        assert!(rt; edge_is_shown(alloc, side, want)?);
+    for (side, want) in &SIDES {
+        assert!(rt; edge_is_shown(alloc, *side, want)?);
     }
     Ok(())
+}
+
+/// Whether the element comes before a resource.
+fn element_is_before(alloc: Global, other: Resource) -> Result<bool, Fail> {
+    let node = Resource::Node(element(alloc)?);
+    Ok(node < other)
 }
 
 #[test]
 fn a_node_comes_before_its_children_and_its_attributes(rt: HostRuntime) -> Result<(), Fail> {
     let alloc = rt.alloc();
-    let node = Resource::Node(element(alloc)?);
-    assert!(rt; node < Resource::Node(child(alloc)?));
-    assert!(rt; node < Resource::AttrRoot(Label::root(alloc)?));
+    assert!(rt; element_is_before(alloc, Resource::Node(child(alloc)?))?);
+    assert!(rt; element_is_before(alloc, Resource::AttrRoot(Label::root(alloc)?))?);
     Ok(())
 }

@@ -30,6 +30,14 @@ fn request(alloc: Global, label: &str, side: Option<Side>, ask: Ask) -> Result<R
     Ok(Request { resource, ask })
 }
 
+/// Who bars what was asked; nobody where it is granted.
+fn barring(alloc: Global, asked: Asked) -> Vec<u32> {
+    match asked {
+        Asked::Granted => Vec::new(alloc),
+        Asked::Conflict { holders } => holders.into_vec(),
+    }
+}
+
 /// Who bars what the owner asks; nobody where it is granted.
 fn asked(
     alloc: Global,
@@ -39,10 +47,20 @@ fn asked(
     ask: Ask,
 ) -> Result<Vec<u32>, Fail> {
     let request = request(alloc, at.0, at.1, ask)?;
-    match table.ask(alloc, owner, &request)? {
-        Asked::Granted => Ok(Vec::new(alloc)),
-        Asked::Conflict { holders } => Ok(holders.into_vec()),
+    Ok(barring(alloc, table.ask(alloc, owner, &request)?))
+}
+
+/// Whether an owner who asks for a mode at the element is barred.
+fn is_barred(alloc: Global, table: &mut LockTable, owner: u32, mode: Mode) -> Result<bool, Fail> {
+    Ok(!asked(alloc, table, owner, (E, None), Ask::Node(mode))?.is_empty())
+}
+
+/// Grants an owner a mode at the element, where nobody is to bar it.
+fn grant(alloc: Global, table: &mut LockTable, owner: u32, mode: Mode) -> Result<(), Fail> {
+    if is_barred(alloc, table, owner, mode)? {
+        return Err(Fail::from("an owner is barred whom nobody is to bar"));
     }
+    Ok(())
 }
 
 const E: &str = "1.1001.1001";
@@ -65,10 +83,8 @@ const TABLE: [(Mode, &str); 11] = [
 /// Whether another owner is barred by a mode that is held, and then holds nothing.
 fn bars(alloc: Global, held: Mode, mode: Mode) -> Result<(bool, bool), Fail> {
     let mut table = LockTable::new(alloc)?;
-    if !asked(alloc, &mut table, 1, (E, None), Ask::Node(held))?.is_empty() {
-        return Err(Fail::from("the first owner is barred"));
-    }
-    let barred = !asked(alloc, &mut table, 2, (E, None), Ask::Node(mode))?.is_empty();
+    grant(alloc, &mut table, 1, held)?;
+    let barred = is_barred(alloc, &mut table, 2, mode)?;
     Ok((barred, held_at_element(alloc, &table, 2)?.is_none()))
 }
 
@@ -78,14 +94,29 @@ fn held_at_element(alloc: Global, table: &LockTable, owner: u32) -> Result<Optio
     Ok(table.held(owner, &node.resource))
 }
 
+/// The mark of a mode beside one that is held: a plus where it is granted, a minus where it is barred and then nothing is held, else a question mark.
+fn mark_beside(alloc: Global, held: Mode, mode: Mode) -> Result<u8, Fail> {
+    let (barred, holds_nothing) = bars(alloc, held, mode)?;
+    if barred != holds_nothing {
+        return Ok(b'?');
+    }
+    Ok(if barred { b'-' } else { b'+' })
+}
+
+/// The marks of each of `MODES` beside one that is held.
+fn marks_beside(alloc: Global, held: Mode) -> Result<[u8; 11], Fail> {
+    let mut marks = [b'?'; 11];
+    for (mark, mode) in marks.iter_mut().zip(&MODES) {
+        *mark = mark_beside(alloc, held, *mode)?;
+    }
+    Ok(marks)
+}
+
 #[test]
 fn two_owners_meet_as_the_printed_table_says(rt: HostRuntime) -> Result<(), Fail> {
-    for (held, marks) in TABLE {
-        for (mode, mark) in MODES.iter().zip(marks.as_bytes()) {
-            let (barred, holds_nothing) = bars(rt.alloc(), held, *mode)?;
-            assert_eq!(rt; barred, *mark == b'-', "{mode:?} beside {held:?}");
-            assert_eq!(rt; holds_nothing, barred, "{mode:?} beside {held:?}");
-        }
+    for (held, want) in &TABLE {
+        let marks = marks_beside(rt.alloc(), *held)?;
+        assert_eq!(rt; marks.as_slice(), want.as_bytes(), "beside {held:?}");
     }
     Ok(())
 }
@@ -104,11 +135,8 @@ const JOINS: [(Mode, Mode, Mode); 7] = [
 /// What an owner holds that was granted both, and once it has let go.
 fn joined(alloc: Global, first: Mode, then: Mode) -> Result<(Option<Ask>, Option<Ask>), Fail> {
     let mut table = LockTable::new(alloc)?;
-    for mode in [first, then] {
-        if !asked(alloc, &mut table, 1, (E, None), Ask::Node(mode))?.is_empty() {
-            return Err(Fail::from("an owner is barred by itself"));
-        }
-    }
+    grant(alloc, &mut table, 1, first)?;
+    grant(alloc, &mut table, 1, then)?;
     let held = held_at_element(alloc, &table, 1)?;
     table.release_all(1);
     Ok((held, held_at_element(alloc, &table, 1)?))
@@ -116,10 +144,13 @@ fn joined(alloc: Global, first: Mode, then: Mode) -> Result<(Option<Ask>, Option
 
 #[test]
 fn an_owner_holds_the_join_of_its_grants(rt: HostRuntime) -> Result<(), Fail> {
-    for (first, then, want) in JOINS {
-        let (held, left) = joined(rt.alloc(), first, then)?;
-        assert_eq!(rt; held, Some(Ask::Node(want)), "{first:?}, {then:?}");
-        assert_eq!(rt; left, None);
+    for (first, then, want) in &JOINS {
+        let held_and_left = joined(rt.alloc(), *first, *then)?;
+        assert_eq!(rt;
+            held_and_left,
+            (Some(Ask::Node(*want)), None),
+            "{first:?}, {then:?}"
+        );
     }
     Ok(())
 }
@@ -153,30 +184,58 @@ const HELD: [(u32, Option<Ask>); 4] = [
     (7, Some(Ask::Node(Mode::LR))),
 ];
 
+/// The first owner of the crowd whom others bar than are listed.
+fn barred_otherwise(alloc: Global, table: &mut LockTable) -> Result<Option<u32>, Fail> {
+    for (owner, mode, by) in &CROWD {
+        if !are_barring(alloc, table, *owner, *mode, by)? {
+            return Ok(Some(*owner));
+        }
+    }
+    Ok(None)
+}
+
+/// The first owner that holds otherwise than is listed, and what it holds.
+fn held_otherwise(alloc: Global, table: &LockTable) -> Result<Option<(u32, Option<Ask>)>, Fail> {
+    for (owner, want) in &HELD {
+        let held = held_at_element(alloc, table, *owner)?;
+        if held != *want {
+            return Ok(Some((*owner, held)));
+        }
+    }
+    Ok(None)
+}
+
+/// Whether 3 alone would bar 5 from a child change at the element.
+fn three_would_bar(alloc: Global, table: &LockTable) -> Result<bool, Fail> {
+    let request = request(alloc, E, None, Ask::Node(Mode::CX))?;
+    Ok(table.barring(alloc, 5, &request)?.as_slice() == [3].as_slice())
+}
+
 #[test]
 fn all_holders_are_named_and_nothing_is_changed(rt: HostRuntime) -> Result<(), Fail> {
     let alloc = rt.alloc();
     let mut table = LockTable::new(alloc)?;
-    for (owner, mode, by) in CROWD {
-        assert!(rt; are_barring(alloc, &mut table, owner, mode, by)?, "{owner}");
-    }
-    for (owner, want) in HELD {
-        assert_eq!(rt; held_at_element(alloc, &table, owner)?, want, "{owner}");
-    }
+    assert_eq!(rt; barred_otherwise(alloc, &mut table)?, None);
+    assert_eq!(rt; held_otherwise(alloc, &table)?, None);
     table.release_all(7);
-    let request = request(alloc, E, None, Ask::Node(Mode::CX))?;
-    assert!(rt; table.barring(alloc, 5, &request)?.as_slice() == [3].as_slice());
+    assert!(rt; three_would_bar(alloc, &table)?);
     Ok(())
 }
 
 /// An owner, the label and the side that it asks at, its mode, and who bars it.
 type Step = (u32, &'static str, Option<Side>, Ask, Option<u32>);
 
+/// Whether an owner is barred by whom the step names, and by nobody else.
+fn is_step(alloc: Global, table: &mut LockTable, step: &Step) -> Result<bool, Fail> {
+    let (owner, label, side, ask, by) = step;
+    let barred = asked(alloc, table, *owner, (*label, *side), *ask)?;
+    Ok(barred.first().copied() == *by && barred.len() <= 1)
+}
+
 /// Whether each owner in turn is answered so.
 fn is_answered(alloc: Global, table: &mut LockTable, steps: &[Step]) -> Result<bool, Fail> {
-    for (owner, label, side, ask, by) in steps {
-        let barred = asked(alloc, table, *owner, (*label, *side), *ask)?;
-        if barred.first().copied() != *by || barred.len() > 1 {
+    for step in steps {
+        if !is_step(alloc, table, step)? {
             return Ok(false);
         }
     }

@@ -1,5 +1,5 @@
 //! Owners who wait for one another at resources, and the cycles that they would close.
-use dewey_labels::{Label, List};
+use dewey_labels::{Label, List, NoMemory};
 use lock_modes::{Ask, EdgeMode, Mode};
 use lock_resources::{Request, Resource, Side};
 use lock_table::{Asked, LockTable};
@@ -22,6 +22,16 @@ enum End {
     Deadlock(Vec<u32>),
 }
 
+impl End {
+    /// How an ask ends that these hold back: with the cycle that waiting would close, or waiting.
+    fn of(holders: List<u32>, cycle: Option<List<u32>>) -> End {
+        match cycle {
+            Some(cycle) => End::Deadlock(cycle.into_vec()),
+            None => End::Waits(holders.into_vec()),
+        }
+    }
+}
+
 impl Sessions {
     fn new(alloc: Global) -> Result<Sessions, Fail> {
         Ok(Sessions {
@@ -30,21 +40,52 @@ impl Sessions {
         })
     }
 
-    /// Asks for a mode, and waits where that closes no cycle.
-    fn ask(&mut self, alloc: Global, owner: u32, request: Request) -> Result<End, Fail> {
-        let holders = match self.table.ask(alloc, owner, &request)? {
-            Asked::Granted => return Ok(End::Granted),
-            Asked::Conflict { holders } => holders,
-        };
+    /// Waits where that closes no cycle, else answers the cycle.
+    fn wait(
+        &mut self,
+        alloc: Global,
+        owner: u32,
+        request: Request,
+    ) -> Result<Option<List<u32>>, NoMemory> {
         self.graph.reserve(alloc, owner)?;
         match self
             .graph
             .cycle_through(alloc, owner, &request, &self.table)?
         {
-            Some(cycle) => Ok(End::Deadlock(cycle.into_vec())),
+            Some(cycle) => Ok(Some(cycle)),
             None => {
                 self.graph.wait(owner, request, &self.table);
-                Ok(End::Waits(holders.into_vec()))
+                Ok(None)
+            }
+        }
+    }
+
+    /// Asks for a mode, and waits where that closes no cycle.
+    fn ask(&mut self, alloc: Global, owner: u32, request: Request) -> Result<End, Fail> {
+        match self.table.ask(alloc, owner, &request)? {
+            Asked::Granted => Ok(End::Granted),
+            Asked::Conflict { holders } => {
+                let cycle = self.wait(alloc, owner, request)?;
+                Ok(End::of(holders, cycle))
+            }
+        }
+    }
+
+    /// Asks for a mode at the n-th child of the document.
+    fn ask_child(&mut self, alloc: Global, owner: u32, n: u32, mode: Mode) -> Result<End, Fail> {
+        self.ask(alloc, owner, child(alloc, n, mode)?)
+    }
+
+    /// Whether a step ends as it is to end.
+    fn is_met(&mut self, alloc: Global, step: &Step) -> Result<bool, Fail> {
+        match step {
+            Step::Asks(owner, label, side, ask, want) => {
+                let request = request(alloc, label, *side, *ask)?;
+                Ok(is_wanted(&self.ask(alloc, *owner, request)?, want))
+            }
+            Step::Ends(owner) => {
+                self.end(*owner);
+                Ok(true)
             }
         }
     }
@@ -57,7 +98,7 @@ impl Sessions {
 }
 
 /// How an ask is to end.
-#[derive(Drop)]
+#[derive(Clone, Copy)]
 enum Want {
     Granted,
     Waits(&'static [u32]),
@@ -74,7 +115,7 @@ fn is_wanted(end: &End, want: &Want) -> bool {
 }
 
 /// An owner asks for a mode at a label, or at an edge of it, or its transaction ends.
-#[derive(Drop)]
+#[derive(Clone, Copy)]
 enum Step {
     Asks(u32, &'static str, Option<Side>, Ask, Want),
     Ends(u32),
@@ -93,14 +134,8 @@ fn request(alloc: Global, label: &str, side: Option<Side>, ask: Ask) -> Result<R
 fn are_met(alloc: Global, steps: &[Step]) -> Result<bool, Fail> {
     let mut all = Sessions::new(alloc)?;
     for step in steps {
-        match step {
-            Step::Asks(owner, label, side, ask, want) => {
-                let request = request(alloc, label, *side, *ask)?;
-                if !is_wanted(&all.ask(alloc, *owner, request)?, want) {
-                    return Ok(false);
-                }
-            }
-            Step::Ends(owner) => all.end(*owner),
+        if !all.is_met(alloc, step)? {
+            return Ok(false);
         }
     }
     Ok(true)
@@ -108,11 +143,9 @@ fn are_met(alloc: Global, steps: &[Step]) -> Result<bool, Fail> {
 
 /// A request at the n-th child of the document.
 fn child(alloc: Global, n: u32, mode: Mode) -> Result<Request, Fail> {
-    let mut divisions = List::new(alloc);
-    for division in [1, 1001, n.wrapping_mul(2).wrapping_add(1001)] {
-        divisions.push(division)?;
-    }
-    match Label::of_divisions(divisions) {
+    let division = n.wrapping_mul(2).wrapping_add(1001);
+    let divisions = vec![in alloc; 1, 1001, division]?;
+    match Label::of_divisions(List::from_vec(divisions)) {
         Some(label) => Ok(Request {
             resource: Resource::Node(label),
             ask: Ask::Node(mode),
@@ -162,32 +195,49 @@ fn who_waits_at_an_edge_is_no_deadlock(rt: HostRuntime) -> Result<(), Fail> {
     Ok(())
 }
 
+/// Lets owners from 1 to `count` change each its child.
+fn change_each(alloc: Global, all: &mut Sessions, count: u32) -> Result<(), Fail> {
+    for owner in 1..count.wrapping_add(1) {
+        let _granted = all.ask_child(alloc, owner, owner, Mode::SX)?;
+    }
+    Ok(())
+}
+
+/// Lets owners from 1 to below `count` read each the child of the next.
+fn read_each_next(alloc: Global, all: &mut Sessions, count: u32) -> Result<(), Fail> {
+    for owner in 1..count {
+        let _waits = all.ask_child(alloc, owner, owner.wrapping_add(1), Mode::SR)?;
+    }
+    Ok(())
+}
+
 /// Owners from 1 to `count`, each of whom has changed its child and waits to read that of the next; the last asks for the first's.
 fn round(alloc: Global, count: u32) -> Result<End, Fail> {
     let mut all = Sessions::new(alloc)?;
-    for owner in 1..count.wrapping_add(1) {
-        let _granted = all.ask(alloc, owner, child(alloc, owner, Mode::SX)?)?;
-    }
-    for owner in 1..count {
-        let _waits = all.ask(alloc, owner, child(alloc, owner.wrapping_add(1), Mode::SR)?)?;
-    }
-    all.ask(alloc, count, child(alloc, 1, Mode::SR)?)
+    change_each(alloc, &mut all, count)?;
+    read_each_next(alloc, &mut all, count)?;
+    all.ask_child(alloc, count, 1, Mode::SR)
 }
 
-/// Whether the last of so many closes a cycle of itself, 1, 2 and so on up to the one before it.
-fn closes(alloc: Global, count: u32) -> Result<bool, Fail> {
-    let mut cycle = Vec::new(alloc);
-    cycle.push(count)?;
+/// The cycle of so many: the last, 1, 2 and so on up to the one before it.
+fn cycle_of(alloc: Global, count: u32) -> Result<Vec<u32>, Fail> {
+    let mut cycle = vec![in alloc; count]?;
     for owner in 1..count {
         cycle.push(owner)?;
     }
-    Ok(round(alloc, count)? == End::Deadlock(cycle))
+    Ok(cycle)
+}
+
+/// Whether the last of so many closes the cycle of them all.
+fn closes(alloc: Global, count: u32) -> Result<bool, Fail> {
+    let end = round(alloc, count)?;
+    Ok(end == End::Deadlock(cycle_of(alloc, count)?))
 }
 
 #[test]
 fn a_cycle_begins_with_who_closes_it(rt: HostRuntime) -> Result<(), Fail> {
-    for count in [2, 3, 64] {
-        assert!(rt; closes(rt.alloc(), count)?, "{count} owners");
+    for count in &[2, 3, 64] {
+        assert!(rt; closes(rt.alloc(), *count)?, "{count} owners");
     }
     Ok(())
 }
