@@ -35,17 +35,17 @@ impl Sink for Small {
 
 #[test]
 fn a_text_is_written_in_as_many_calls_as_the_sink_asks_for(rt: HostRuntime) {
-    for (text, wrote, held) in [
-        (b"".as_slice(), Ok(()), b"--------"),
-        (b"abcdefg".as_slice(), Ok(()), b"abcdefg-"),
-        (b"abcdefghi".as_slice(), Err(Failed), b"abcdefgh"),
+    for (text, wrote, held) in &[
+        (b"".as_slice(), Ok(()), *b"--------"),
+        (b"abcdefg".as_slice(), Ok(()), *b"abcdefg-"),
+        (b"abcdefghi".as_slice(), Err(Failed), *b"abcdefgh"),
     ] {
         let mut sink = Small {
             held: [b'-'; 8],
             used: 0,
             faults: 0,
         };
-        assert_eq!(rt; write_all(&mut sink, text), wrote);
-        assert_eq!(rt; &sink.held, held);
+        let answer = write_all(&mut sink, text);
+        assert_eq!(rt; (answer, sink.held), (*wrote, *held));
     }
 }
