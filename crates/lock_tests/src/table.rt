@@ -211,14 +211,21 @@ fn three_would_bar(alloc: Global, table: &LockTable) -> Result<bool, Fail> {
     Ok(table.barring(alloc, 5, &request)?.as_slice() == [3].as_slice())
 }
 
+/// Who of the crowd is barred otherwise than is listed, who holds otherwise, and whether 3 alone would bar 5 once 7 has let go.
+type Crowd = (Option<u32>, Option<(u32, Option<Ask>)>, bool);
+
+/// How the crowd meets.
+fn crowd(alloc: Global) -> Result<Crowd, Fail> {
+    let mut table = LockTable::new(alloc)?;
+    let barred = barred_otherwise(alloc, &mut table)?;
+    let held = held_otherwise(alloc, &table)?;
+    table.release_all(7);
+    Ok((barred, held, three_would_bar(alloc, &table)?))
+}
+
 #[test]
 fn all_holders_are_named_and_nothing_is_changed(rt: HostRuntime) -> Result<(), Fail> {
-    let alloc = rt.alloc();
-    let mut table = LockTable::new(alloc)?;
-    assert_eq!(rt; barred_otherwise(alloc, &mut table)?, None);
-    assert_eq!(rt; held_otherwise(alloc, &table)?, None);
-    table.release_all(7);
-    assert!(rt; three_would_bar(alloc, &table)?);
+    assert_eq!(rt; crowd(rt.alloc())?, (None, None, true));
     Ok(())
 }
 

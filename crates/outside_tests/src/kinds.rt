@@ -27,6 +27,9 @@ fn reads<S: Source, const N: usize>(source: &mut S) -> ([Result<usize, Failed>; 
     (answers, buf)
 }
 
+/// The answers of four reads, what the buffer holds then, and the count of faults.
+type FailingReads = ([Result<usize, Failed>; 4], [u8; 3], u64);
+
 /// The calls that fail, what four reads of three bytes answer, and the count of faults.
 const READS: [([u64; 2], [Result<usize, Failed>; 4], u64); 3] = [
     ([9, 9], [Ok(3), Ok(2), Ok(0), Ok(0)], 0),
@@ -34,14 +37,20 @@ const READS: [([u64; 2], [Result<usize, Failed>; 4], u64); 3] = [
     ([2, 3], [Ok(3), Err(Failed), Err(Failed), Ok(2)], 2),
 ];
 
+/// What four reads of a source that fails at these calls answer, what the buffer holds then, and the count of faults.
+fn failing_reads(alloc: Global, fails: &[u64]) -> Result<FailingReads, Fail> {
+    let mut source = mem_source(alloc, fails)?;
+    let (answers, buf) = reads(&mut source);
+    Ok((answers, buf, source.faults()))
+}
+
 #[test]
 fn a_source_gives_its_bytes_in_order_and_fails_at_the_listed_calls(
     rt: HostRuntime,
 ) -> Result<(), Fail> {
     for (fails, answers, faults) in &READS {
-        let mut source = mem_source(rt.alloc(), fails)?;
-        let (read, buf) = reads::<_, 4>(&mut source);
-        assert_eq!(rt; (read, buf, source.faults()), (*answers, *b"dec", *faults));
+        let read = failing_reads(rt.alloc(), fails)?;
+        assert_eq!(rt; read, (*answers, *b"dec", *faults));
     }
     Ok(())
 }
@@ -195,6 +204,16 @@ const IMAGES: [(u64, &[u8]); 5] = [
     (4, b"|aXYd|aXYd!|aXYd.|aXZd|aXZd!|aXZd.|aX.d|aX.d!|aX.d."),
 ];
 
+/// The first listed call whose images are otherwise than listed.
+fn images_otherwise(alloc: Global, disk: &MemDisk) -> Result<Option<u64>, Fail> {
+    for (call, images) in &IMAGES {
+        if !images_are(alloc, disk, *call, images)? {
+            return Ok(Some(*call));
+        }
+    }
+    Ok(None)
+}
+
 /// What a sync among four writes answers, and they.
 fn writes_round_a_sync(disk: &mut MemDisk) -> [Result<(), Failed>; 5] {
     [
@@ -213,12 +232,7 @@ fn each_write_behind_the_last_sync_is_not_there_or_there_or_zeros(
     let mut disk = mem_disk(rt.alloc(), 3)?;
     let want = [Ok(()), Ok(()), Err(Failed), Ok(()), Ok(())];
     assert_eq!(rt; writes_round_a_sync(&mut disk), want);
-    for (call, images) in &IMAGES {
-        assert!(rt;
-            images_are(rt.alloc(), &disk, *call, images)?,
-            "call {call}"
-        );
-    }
+    assert_eq!(rt; images_otherwise(rt.alloc(), &disk)?, None);
     // The last write without the one before it stands behind zeros.
     let first = b"|aXYd|aXYd.?|aXYd..|aXYd!|";
     assert!(rt; images_begin(rt.alloc(), &disk, 9, first)?);
