@@ -225,17 +225,22 @@ fn writes_round_a_sync(disk: &mut MemDisk) -> [Result<(), Failed>; 5] {
     ]
 }
 
+/// What the calls of a disk answer, the first listed call whose images are otherwise, and whether those of a stop after all of them begin as they are to.
+fn crashed(alloc: Global) -> Result<([Result<(), Failed>; 5], Option<u64>, bool), Fail> {
+    let mut disk = mem_disk(alloc, 3)?;
+    let wrote = writes_round_a_sync(&mut disk);
+    let otherwise = images_otherwise(alloc, &disk)?;
+    // The last write without the one before it stands behind zeros.
+    let first = b"|aXYd|aXYd.?|aXYd..|aXYd!|";
+    Ok((wrote, otherwise, images_begin(alloc, &disk, 9, first)?))
+}
+
 #[test]
 fn each_write_behind_the_last_sync_is_not_there_or_there_or_zeros(
     rt: HostRuntime,
 ) -> Result<(), Fail> {
-    let mut disk = mem_disk(rt.alloc(), 3)?;
-    let want = [Ok(()), Ok(()), Err(Failed), Ok(()), Ok(())];
-    assert_eq!(rt; writes_round_a_sync(&mut disk), want);
-    assert_eq!(rt; images_otherwise(rt.alloc(), &disk)?, None);
-    // The last write without the one before it stands behind zeros.
-    let first = b"|aXYd|aXYd.?|aXYd..|aXYd!|";
-    assert!(rt; images_begin(rt.alloc(), &disk, 9, first)?);
+    let wrote = [Ok(()), Ok(()), Err(Failed), Ok(()), Ok(())];
+    assert_eq!(rt; crashed(rt.alloc())?, (wrote, None, true));
     Ok(())
 }
 
