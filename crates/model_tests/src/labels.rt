@@ -35,32 +35,56 @@ impl Copied for Shelf {
     }
 }
 
+/// A shelf with one book.
+fn shelf_with_a_book(alloc: Global) -> Result<Shelf, NoMemory> {
+    let book = Shelf::Book(Text::of(alloc, "Ulysses")?);
+    Ok(Shelf::Shelves(List::from_vec(vec![in alloc; book]?)))
+}
+
+/// A shelf that holds that shelf.
+fn shelf_of_shelves(alloc: Global) -> Result<Shelf, NoMemory> {
+    let inner = shelf_with_a_book(alloc)?;
+    Ok(Shelf::Shelves(List::from_vec(vec![in alloc; inner]?)))
+}
+
 #[test]
 fn a_type_may_hold_a_list_of_itself(rt: HostRuntime) -> Result<(), Fail> {
-    let alloc = rt.alloc();
-    let mut inner = List::new(alloc);
-    inner.push(Shelf::Book(Text::of(alloc, "Ulysses")?))?;
-    let mut outer = List::new(alloc);
-    outer.push(Shelf::Shelves(inner))?;
-    let shelf = Shelf::Shelves(outer);
-    assert_eq!(rt; shelf.copy(alloc)?, shelf);
+    let shelf = shelf_of_shelves(rt.alloc())?;
+    let copy = shelf.copy(rt.alloc())?;
+    assert_eq!(rt; copy, shelf);
     Ok(())
+}
+
+/// A list with one document, its name and its label.
+fn documents(alloc: Global) -> Result<List<(Text, Label)>, NoMemory> {
+    let name = Text::of(alloc, "a")?;
+    let label = Label::root(alloc)?;
+    Ok(List::from_vec(vec![in alloc; (name, label)]?))
+}
+
+/// Whether a label's divisions, with that of attributes behind them, are these.
+fn has_attr_root(alloc: Global, label: &Label, divisions: &[u32]) -> Result<bool, NoMemory> {
+    let copy = label.copy(alloc)?;
+    let attr_root = copy.attr_root(alloc)?;
+    Ok(attr_root.as_slice() == divisions)
+}
+
+/// Whether all documents are named `a` and have the root's label.
+fn are_as_made(alloc: Global, documents: Vec<(Text, Label)>) -> Result<bool, NoMemory> {
+    let mut are_as_made = true;
+    for (name, label) in documents.as_slice() {
+        let has_root = has_attr_root(alloc, label, &[1, 1])?;
+        are_as_made = are_as_made && has_root && name.as_str() == "a";
+    }
+    Ok(are_as_made)
 }
 
 #[test]
 fn a_list_of_pairs_is_copied_item_by_item(rt: HostRuntime) -> Result<(), Fail> {
-    let alloc = rt.alloc();
-    let mut documents = List::new(alloc);
-    documents.push((Text::of(alloc, "a")?, Label::root(alloc)?))?;
-    let copy = documents.copy(alloc)?;
+    let mut documents = documents(rt.alloc())?;
+    let copy = documents.copy(rt.alloc())?;
     assert!(rt; !copy.is_empty());
-    for (name, label) in copy.into_vec() {
-        assert_eq!(rt; name.as_str(), "a");
-        assert_eq!(rt;
-            label.copy(alloc)?.attr_root(alloc)?.as_slice(),
-            [1, 1].as_slice()
-        );
-    }
+    assert!(rt; are_as_made(rt.alloc(), copy.into_vec())?);
     assert!(rt; documents.pop().is_some());
     Ok(())
 }
@@ -74,12 +98,17 @@ fn shown(alloc: Global, label: Option<&Label>) -> Result<List<u8>, NoMemory> {
     Ok(out)
 }
 
-#[test]
-fn a_list_grows_at_its_end_and_is_cut_back(rt: HostRuntime) -> Result<(), Fail> {
-    let alloc = rt.alloc();
+/// A list that grew twice at its end.
+fn grown(alloc: Global) -> Result<List<u8>, NoMemory> {
     let mut list = List::new(alloc);
     list.extend_from_slice(alloc, &[5_u8, 3])?;
     list.extend_from_slice(alloc, &[4])?;
+    Ok(list)
+}
+
+#[test]
+fn a_list_grows_at_its_end_and_is_cut_back(rt: HostRuntime) -> Result<(), Fail> {
+    let mut list = grown(rt.alloc())?;
     assert_eq!(rt; list.as_slice(), [5, 3, 4].as_slice());
     list.truncate(3);
     assert_eq!(rt; list.len(), 3);
@@ -88,13 +117,17 @@ fn a_list_grows_at_its_end_and_is_cut_back(rt: HostRuntime) -> Result<(), Fail> 
     Ok(())
 }
 
+/// Whether a copy of the text made of a string reads so, and whether the text gives the string back.
+fn is_kept(alloc: Global, written: &str) -> Result<(bool, bool), Fail> {
+    let text = Text::from_string(String::from_str(alloc, written)?);
+    let is_copied = text.copy(alloc)?.as_str() == written;
+    Ok((is_copied, text.into_string().as_str() == written))
+}
+
 #[test]
 fn a_text_is_made_of_a_string_and_gives_it_back(rt: HostRuntime) -> Result<(), Fail> {
-    let alloc = rt.alloc();
     for written in ["", "a", "Bücher"] {
-        let text = Text::from_string(String::from_str(alloc, written)?);
-        assert_eq!(rt; text.copy(alloc)?.as_str(), written);
-        assert_eq!(rt; text.into_string().as_str(), written);
+        assert_eq!(rt; is_kept(rt.alloc(), written)?, (true, true), "{written:?}");
     }
     Ok(())
 }
@@ -107,18 +140,34 @@ const LEVELS: [(&[u8], u32, &[u8]); 4] = [
     (b"1.3.2.4294967290.4294967291", 2, b"1.3"),
 ];
 
+/// Whether a label, or nothing, is written so.
+fn is_written(alloc: Global, label: Option<&Label>, text: &[u8]) -> Result<bool, NoMemory> {
+    let written = shown(alloc, label)?;
+    Ok(written.as_slice() == text)
+}
+
+/// Whether the label of a label's parent, or nothing, is written so.
+fn has_parent(alloc: Global, label: &Label, text: &[u8]) -> Result<bool, NoMemory> {
+    let parent = label.parent(alloc)?;
+    is_written(alloc, parent.as_ref(), text)
+}
+
+/// The level of the label of a text, whether its parent is written so, and whether it is written as it was read.
+fn read_back(alloc: Global, text: &[u8], parent: &[u8]) -> Result<(u32, bool, bool), Fail> {
+    let label = Label::read_text(alloc, text)?;
+    let has_parent = has_parent(alloc, &label, parent)?;
+    let is_written = is_written(alloc, Some(&label), text)?;
+    Ok((label.level(), has_parent, is_written))
+}
+
 #[test]
 fn levels_and_parents_go_by_codes(rt: HostRuntime) -> Result<(), Fail> {
-    let alloc = rt.alloc();
     for (text, level, parent) in LEVELS {
-        let label = Label::read_text(alloc, text)?;
-        assert_eq!(rt; label.level(), level, "of {text:?}");
         assert_eq!(rt;
-            shown(alloc, label.parent(alloc)?.as_ref())?.as_slice(),
-            parent,
-            "of {text:?}"
+            read_back(rt.alloc(), text, parent)?,
+            (level, true, true),
+            "level, parent and text of {text:?}"
         );
-        assert_eq!(rt; shown(alloc, Some(&label))?.as_slice(), text);
     }
     Ok(())
 }
@@ -132,16 +181,25 @@ const CHILDREN_TOWARD: [(&[u8], &[u8], &[u8]); 5] = [
     (b"1.3.3", b"1.3", b""),
 ];
 
+/// The label of the child of one label on the way to another.
+fn child_toward(alloc: Global, above: &[u8], below: &[u8]) -> Result<Option<Label>, Fail> {
+    let at = Label::read_text(alloc, above)?;
+    let below = Label::read_text(alloc, below)?;
+    Ok(at.child_toward(alloc, &below)?)
+}
+
+/// Whether that label, or nothing, is written so.
+fn leads_to(alloc: Global, above: &[u8], below: &[u8], child: &[u8]) -> Result<bool, Fail> {
+    let toward = child_toward(alloc, above, below)?;
+    Ok(is_written(alloc, toward.as_ref(), child)?)
+}
+
 #[test]
 fn the_child_toward_a_label_lies_below_or_is_none(rt: HostRuntime) -> Result<(), Fail> {
-    let alloc = rt.alloc();
     for (above, below, child) in CHILDREN_TOWARD {
-        let at = Label::read_text(alloc, above)?;
-        let toward = at.child_toward(alloc, &Label::read_text(alloc, below)?)?;
-        assert_eq!(rt;
-            shown(alloc, toward.as_ref())?.as_slice(),
-            child,
-            "from {above:?} to {below:?}"
+        assert!(rt;
+            leads_to(rt.alloc(), above, below, child)?,
+            "{child:?} from {above:?} to {below:?}"
         );
     }
     Ok(())
@@ -157,19 +215,22 @@ const IN_ORDER: [(&[u8], &[u8], bool); 6] = [
     (b"1.5", b"1.33", false),
 ];
 
+/// Whether one label comes before another, whether it is an ancestor of it, and whether the other, or the first itself, is one of the first.
+fn compared(alloc: Global, first: &[u8], second: &[u8]) -> Result<(bool, bool, bool), Fail> {
+    let left = Label::read_text(alloc, first)?;
+    let right = Label::read_text(alloc, second)?;
+    let is_below = right.is_ancestor_of(&left) || left.is_ancestor_of(&left);
+    Ok((left < right, left.is_ancestor_of(&right), is_below))
+}
+
 #[test]
 fn a_label_comes_before_its_extensions(rt: HostRuntime) -> Result<(), Fail> {
-    let alloc = rt.alloc();
     for (first, second, is_ancestor) in IN_ORDER {
-        let left = Label::read_text(alloc, first)?;
-        let right = Label::read_text(alloc, second)?;
-        assert!(rt; left < right, "{first:?} and {second:?}");
         assert_eq!(rt;
-            left.is_ancestor_of(&right),
-            is_ancestor,
+            compared(rt.alloc(), first, second)?,
+            (true, is_ancestor, false),
             "{first:?} and {second:?}"
         );
-        assert!(rt; !right.is_ancestor_of(&left) && !left.is_ancestor_of(&left));
     }
     Ok(())
 }
@@ -177,12 +238,15 @@ fn a_label_comes_before_its_extensions(rt: HostRuntime) -> Result<(), Fail> {
 /// Lists of divisions that are no labels.
 const NO_LABELS: [&[u32]; 6] = [&[], &[2], &[1, 2], &[1, 1], &[1, 0, 3], &[1, 4_294_967_293]];
 
+fn is_no_label(alloc: Global, divisions: &[u32]) -> Result<bool, Fail> {
+    let list = List::from_vec(Vec::from_slice(alloc, divisions)?);
+    Ok(Label::of_divisions(list).is_none())
+}
+
 #[test]
 fn what_is_no_label_has_no_divisions(rt: HostRuntime) -> Result<(), Fail> {
-    let alloc = rt.alloc();
     for divisions in NO_LABELS {
-        let list = List::from_vec(Vec::from_slice(alloc, divisions)?);
-        assert!(rt; Label::of_divisions(list).is_none(), "{divisions:?}");
+        assert!(rt; is_no_label(rt.alloc(), divisions)?, "{divisions:?}");
     }
     Ok(())
 }
@@ -233,17 +297,26 @@ const LAST_DIVISIONS: [(&[u8], Option<u32>); 5] = [
     (b"4294967291", None),
 ];
 
+/// The text of 1 and 253 times 3, so 254 divisions, and of what stands behind.
+fn text_of_254(alloc: Global, last: &[u8]) -> Result<Vec<u8>, Fail> {
+    let mut text = Vec::from_slice(alloc, b"1.")?;
+    for _ in 0..253 {
+        text.extend_from_slice(b"3.")?;
+    }
+    text.extend_from_slice(last)?;
+    Ok(text)
+}
+
+/// Where reading that text stops.
+fn place_behind_254(alloc: Global, last: &[u8]) -> Result<Option<u32>, Fail> {
+    let text = text_of_254(alloc, last)?;
+    Ok(place_of(alloc, &text)?)
+}
+
 #[test]
 fn the_last_division_that_fits_is_odd(rt: HostRuntime) -> Result<(), Fail> {
-    let alloc = rt.alloc();
     for (last, place) in LAST_DIVISIONS {
-        // 1 and 253 times 3: 254 divisions.
-        let mut text = Vec::from_slice(alloc, b"1.")?;
-        for _ in 0..253 {
-            text.extend_from_slice(b"3.")?;
-        }
-        text.extend_from_slice(last)?;
-        assert_eq!(rt; place_of(alloc, &text)?, place, "{last:?}");
+        assert_eq!(rt; place_behind_254(rt.alloc(), last)?, place, "{last:?}");
     }
     Ok(())
 }

@@ -3,7 +3,13 @@ use dewey_labels::{
     Label, LabelError, List, child_after, child_before, child_between, child_first,
 };
 use std::alloc::Global;
+use std::process::Abort;
 use std::test::Fail;
+
+/// Ends the test where a label hasn't the wanted divisions.
+fn agree(rt: &impl Abort, label: &Label, wanted: &[u32]) {
+    assert_eq!(rt; label.divisions(), wanted);
+}
 
 /// The label 1.1001.1001, an element's.
 fn element(alloc: Global) -> Result<Label, Fail> {
@@ -19,15 +25,11 @@ fn siblings_get_the_label_between_their_neighbours(rt: HostRuntime) -> Result<()
     let last = child_after(alloc, &element, &first)?;
     let third = child_between(alloc, &element, &first, &last)?;
     let second = child_between(alloc, &element, &first, &third)?;
-    for (label, want) in [
-        (&element, [1, 1001, 1001].as_slice()),
-        (&first, [1, 1001, 1001, 1001].as_slice()),
-        (&second, [1, 1001, 1001, 1002, 999].as_slice()),
-        (&third, [1, 1001, 1001, 1002, 1001].as_slice()),
-        (&last, [1, 1001, 1001, 1003].as_slice()),
-    ] {
-        assert_eq!(rt; label.divisions(), want);
-    }
+    agree(&rt, &element, &[1, 1001, 1001]);
+    agree(&rt, &first, &[1, 1001, 1001, 1001]);
+    agree(&rt, &second, &[1, 1001, 1001, 1002, 999]);
+    agree(&rt, &third, &[1, 1001, 1001, 1002, 1001]);
+    agree(&rt, &last, &[1, 1001, 1001, 1003]);
     Ok(())
 }
 
@@ -51,7 +53,7 @@ fn the_five_hundredth_before_the_first_overflows(rt: HostRuntime) -> Result<(), 
     let element = element(rt.alloc())?;
     for (times, want) in BEFORE_FIRST {
         let first = before_first(rt.alloc(), &element, times)?;
-        assert_eq!(rt; first.divisions(), want);
+        agree(&rt, &first, want);
     }
     Ok(())
 }
@@ -69,23 +71,29 @@ fn narrowed(alloc: Global, element: &Label, times: u32) -> Result<(usize, usize,
     Ok((left.divisions().len(), right.divisions().len(), none_left))
 }
 
-#[test]
-fn a_narrowing_gap_ends_at_255_divisions(rt: HostRuntime) -> Result<(), Fail> {
-    let element = element(rt.alloc())?;
-    let (left, right, none_left) = narrowed(rt.alloc(), &element, 251)?;
-    assert_eq!(rt; left, 255);
-    assert_eq!(rt; right, 255);
-    assert!(rt; none_left);
-    Ok(())
+/// The same between the children of the element.
+fn narrowed_in_element(alloc: Global, times: u32) -> Result<(usize, usize, bool), Fail> {
+    let element = element(alloc)?;
+    narrowed(alloc, &element, times)
 }
 
 #[test]
-fn nothing_comes_behind_the_greatest_code(rt: HostRuntime) -> Result<(), Fail> {
-    let alloc = rt.alloc();
+fn a_narrowing_gap_ends_at_255_divisions(rt: HostRuntime) -> Result<(), Fail> {
+    assert_eq!(rt; narrowed_in_element(rt.alloc(), 251)?, (255, 255, true));
+    Ok(())
+}
+
+/// Whether the label limit refuses a child behind the one with the greatest code.
+fn nothing_is_behind_the_greatest(alloc: Global) -> Result<bool, Fail> {
     let root = Label::root(alloc)?;
     let divisions = List::from_vec(Vec::from_slice(alloc, &[1, 4_294_967_291])?);
     let last = Label::of_divisions(divisions).ok_or("no label")?;
     let refused = child_after(alloc, &root, &last);
-    assert!(rt; matches!(refused, Err(LabelError::LabelLimit)));
+    Ok(matches!(refused, Err(LabelError::LabelLimit)))
+}
+
+#[test]
+fn nothing_comes_behind_the_greatest_code(rt: HostRuntime) -> Result<(), Fail> {
+    assert!(rt; nothing_is_behind_the_greatest(rt.alloc())?);
     Ok(())
 }
