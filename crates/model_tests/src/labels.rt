@@ -1,6 +1,7 @@
 //! Lists, texts, labels and their texts, as tables.
 ghost use Rattle.std.specs.Prelude.{◌≡◌, IfOk};
 
+use crate::rows::agree;
 use dewey_labels::{Copied, Label, LabelTextError, List, NoMemory, Text};
 use std::alloc::Global;
 use std::test::Fail;
@@ -47,11 +48,16 @@ fn shelf_of_shelves(alloc: Global) -> Result<Shelf, NoMemory> {
     Ok(Shelf::Shelves(List::from_vec(vec![in alloc; inner]?)))
 }
 
+/// Whether a copy of that shelf is equal to it.
+fn shelf_is_copied(alloc: Global) -> Result<bool, Fail> {
+    let shelf = shelf_of_shelves(alloc)?;
+    let copy = shelf.copy(alloc)?;
+    Ok(copy == shelf)
+}
+
 #[test]
 fn a_type_may_hold_a_list_of_itself(rt: HostRuntime) -> Result<(), Fail> {
-    let shelf = shelf_of_shelves(rt.alloc())?;
-    let copy = shelf.copy(rt.alloc())?;
-    assert_eq!(rt; copy, shelf);
+    assert!(rt; shelf_is_copied(rt.alloc())?);
     Ok(())
 }
 
@@ -79,13 +85,18 @@ fn are_as_made(alloc: Global, documents: Vec<(Text, Label)>) -> Result<bool, NoM
     Ok(are_as_made)
 }
 
+/// Whether a copy of the documents is empty, whether its items are as they were made, and whether the documents still have one.
+fn documents_copied(alloc: Global) -> Result<(bool, bool, bool), Fail> {
+    let mut documents = documents(alloc)?;
+    let copy = documents.copy(alloc)?;
+    let is_empty = copy.is_empty();
+    let are_as_made = are_as_made(alloc, copy.into_vec())?;
+    Ok((is_empty, are_as_made, documents.pop().is_some()))
+}
+
 #[test]
 fn a_list_of_pairs_is_copied_item_by_item(rt: HostRuntime) -> Result<(), Fail> {
-    let mut documents = documents(rt.alloc())?;
-    let copy = documents.copy(rt.alloc())?;
-    assert!(rt; !copy.is_empty());
-    assert!(rt; are_as_made(rt.alloc(), copy.into_vec())?);
-    assert!(rt; documents.pop().is_some());
+    assert_eq!(rt; documents_copied(rt.alloc())?, (false, true, true));
     Ok(())
 }
 
@@ -106,14 +117,19 @@ fn grown(alloc: Global) -> Result<List<u8>, NoMemory> {
     Ok(list)
 }
 
+/// Whether such a list has all its items, its length cut back to 3, and whether cut back to 1 it has the first.
+fn cut_back(alloc: Global) -> Result<(bool, usize, bool), Fail> {
+    let mut list = grown(alloc)?;
+    let has_all = list.as_slice() == [5, 3, 4].as_slice();
+    list.truncate(3);
+    let length = list.len();
+    list.truncate(1);
+    Ok((has_all, length, list.as_slice() == [5].as_slice()))
+}
+
 #[test]
 fn a_list_grows_at_its_end_and_is_cut_back(rt: HostRuntime) -> Result<(), Fail> {
-    let mut list = grown(rt.alloc())?;
-    assert_eq!(rt; list.as_slice(), [5, 3, 4].as_slice());
-    list.truncate(3);
-    assert_eq!(rt; list.len(), 3);
-    list.truncate(1);
-    assert_eq!(rt; list.as_slice(), [5].as_slice());
+    assert_eq!(rt; cut_back(rt.alloc())?, (true, 3, true));
     Ok(())
 }
 
@@ -127,7 +143,8 @@ fn is_kept(alloc: Global, written: &str) -> Result<(bool, bool), Fail> {
 #[test]
 fn a_text_is_made_of_a_string_and_gives_it_back(rt: HostRuntime) -> Result<(), Fail> {
     for written in ["", "a", "Bücher"] {
-        assert_eq!(rt; is_kept(rt.alloc(), written)?, (true, true), "{written:?}");
+        let found = is_kept(rt.alloc(), written)?;
+        agree(&rt, &written, &found, &(true, true));
     }
     Ok(())
 }
@@ -163,11 +180,8 @@ fn read_back(alloc: Global, text: &[u8], parent: &[u8]) -> Result<(u32, bool, bo
 #[test]
 fn levels_and_parents_go_by_codes(rt: HostRuntime) -> Result<(), Fail> {
     for (text, level, parent) in LEVELS {
-        assert_eq!(rt;
-            read_back(rt.alloc(), text, parent)?,
-            (level, true, true),
-            "level, parent and text of {text:?}"
-        );
+        let found = read_back(rt.alloc(), text, parent)?;
+        agree(&rt, &text, &found, &(level, true, true));
     }
     Ok(())
 }
@@ -197,10 +211,8 @@ fn leads_to(alloc: Global, above: &[u8], below: &[u8], child: &[u8]) -> Result<b
 #[test]
 fn the_child_toward_a_label_lies_below_or_is_none(rt: HostRuntime) -> Result<(), Fail> {
     for (above, below, child) in CHILDREN_TOWARD {
-        assert!(rt;
-            leads_to(rt.alloc(), above, below, child)?,
-            "{child:?} from {above:?} to {below:?}"
-        );
+        let found = leads_to(rt.alloc(), above, below, child)?;
+        agree(&rt, &(above, below), &found, &true);
     }
     Ok(())
 }
@@ -226,11 +238,8 @@ fn compared(alloc: Global, first: &[u8], second: &[u8]) -> Result<(bool, bool, b
 #[test]
 fn a_label_comes_before_its_extensions(rt: HostRuntime) -> Result<(), Fail> {
     for (first, second, is_ancestor) in IN_ORDER {
-        assert_eq!(rt;
-            compared(rt.alloc(), first, second)?,
-            (true, is_ancestor, false),
-            "{first:?} and {second:?}"
-        );
+        let found = compared(rt.alloc(), first, second)?;
+        agree(&rt, &(first, second), &found, &(true, is_ancestor, false));
     }
     Ok(())
 }
@@ -246,7 +255,8 @@ fn is_no_label(alloc: Global, divisions: &[u32]) -> Result<bool, Fail> {
 #[test]
 fn what_is_no_label_has_no_divisions(rt: HostRuntime) -> Result<(), Fail> {
     for divisions in NO_LABELS {
-        assert!(rt; is_no_label(rt.alloc(), divisions)?, "{divisions:?}");
+        let found = is_no_label(rt.alloc(), divisions)?;
+        agree(&rt, &divisions, &found, &true);
     }
     Ok(())
 }
@@ -283,7 +293,8 @@ const TEXTS: [(&[u8], Option<u32>); 16] = [
 #[test]
 fn a_text_is_refused_behind_its_longest_prefix_of_a_label(rt: HostRuntime) -> Result<(), Fail> {
     for (text, place) in TEXTS {
-        assert_eq!(rt; place_of(rt.alloc(), text)?, place, "{text:?}");
+        let found = place_of(rt.alloc(), text)?;
+        agree(&rt, &text, &found, &place);
     }
     Ok(())
 }
@@ -316,7 +327,8 @@ fn place_behind_254(alloc: Global, last: &[u8]) -> Result<Option<u32>, Fail> {
 #[test]
 fn the_last_division_that_fits_is_odd(rt: HostRuntime) -> Result<(), Fail> {
     for (last, place) in LAST_DIVISIONS {
-        assert_eq!(rt; place_behind_254(rt.alloc(), last)?, place, "{last:?}");
+        let found = place_behind_254(rt.alloc(), last)?;
+        agree(&rt, &last, &found, &place);
     }
     Ok(())
 }

@@ -10,4 +10,6 @@ mod maps;
 #[cfg(test)]
 mod new_labels;
 #[cfg(test)]
+mod rows;
+#[cfg(test)]
 mod trees;

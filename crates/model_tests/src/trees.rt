@@ -1,9 +1,9 @@
 //! Names, keys, texts and copies, as tables.
+use crate::rows::agree;
 use dewey_labels::{Copied, Label, List, NoMemory, Text};
 use std::alloc::Global;
 use std::cmp::Ordering;
 use std::fmt::Debug;
-use std::process::Abort;
 use std::test::Fail;
 use tree_model::{Change, DomCall, Fragment, Hit, Key, Record, Refusal, Reply, is_name};
 
@@ -81,11 +81,6 @@ const CHARACTERS: [(char, bool, bool); 70] = [
     ('\u{F0000}', false, false),
     ('\u{10FFFF}', false, false),
 ];
-
-/// Ends the test where what a row gives isn't what is wanted.
-fn agree<R: Debug, T: PartialEq + Debug>(rt: &impl Abort, row: &R, found: &T, wanted: &T) {
-    assert_eq!(rt; *found, *wanted, "at {row:?}");
-}
 
 /// Whether a text with the character behind it is a Name.
 fn is_name_with(alloc: Global, before: &str, character: char) -> Result<bool, Fail> {
