@@ -1,5 +1,5 @@
 //! Journals byte by byte, stopped and failing at each call of their disk.
-ghost use Rattle.std.specs.Prelude.{◌≡◌, ◌++◌, false, None, Some, IsSome, IsTrue, IfOk, OnOk};
+ghost use Rattle.std.specs.Prelude.{◌≡◌, ◌++◌, [], false, None, Some, IsSome, IsTrue, IfOk, OnOk};
 ghost use Rattle.std.specs.List.{AllByRecursion};
 ghost use Rattle.tree_model.specs.Changes.{keys_rise};
 ghost use Rattle.node_records.specs.Changes.{IsWritableChange, changes_bytes};
@@ -7,7 +7,7 @@ ghost use Rattle.journal.specs.Bodies.{changes_in};
 ghost use Rattle.journal.specs.Groups.{is_next};
 
 use dewey_labels::{List, NoMemory};
-use journal::{DiskFault, Journal, a_body_is_read_again};
+use journal::{DiskFault, Groups, Journal, a_body_is_read_again};
 use node_records::{File, OpenError, Place, write_change};
 use outside_kinds::MemDisk;
 use outside_traits::Disk;
@@ -71,31 +71,50 @@ fn bytes_of(alloc: Global, dump: &str) -> Result<List<u8>, NoMemory> {
     Ok(bytes)
 }
 
+/// The journal in a file, and its groups, on a disk that fails at the listed calls.
+fn opened(
+    alloc: Global,
+    file: &[u8],
+    fails: &[u64],
+) -> Result<(Journal<MemDisk>, Groups), OpenError>
+    ensures usable { IfOk result (λ opened. opened.0.failed ≡ false) }
+    ensures none { IfOk result (λ opened. opened.1.commits ≡ [] → opened.0.last ≡ None) }
+{
+    let file = List::from_vec(Vec::from_slice(alloc, file)?);
+    let calls = List::from_vec(Vec::from_slice(alloc, fails)?);
+    match Journal::open(alloc, MemDisk::new(file, calls)) {
+        Ok(opened) => Ok(opened),
+        Err(refused) => Err(refused.fault),
+    }
+}
+
 /// The journal in a file without commits, on a disk that fails at the listed calls.
 fn empty_journal(alloc: Global, file: &[u8], fails: &[u64]) -> Result<Journal<MemDisk>, OpenError>
     ensures usable { IfOk result (λ journal. journal.failed ≡ false) }
     ensures last { IfOk result (λ journal. journal.last ≡ None) }
 {
-    let mut bytes = List::new(alloc);
-    bytes.extend_from_slice(alloc, file)?;
-    let mut calls = List::new(alloc);
-    calls.extend_from_slice(alloc, fails)?;
-    match Journal::open(alloc, MemDisk::new(bytes, calls)) {
-        Ok((journal, groups)) if groups.commits.is_empty() => Ok(journal),
-        Ok(_) => Err(OpenError::NoMemory),
-        Err(refused) => Err(refused.fault),
+    let (journal, groups) = opened(alloc, file, fails)?;
+    if groups.commits.is_empty() {
+        Ok(journal)
+    } else {
+        Err(OpenError::NoMemory)
     }
 }
 
 /// The changes of the dump's commit.
 fn dumped_changes(alloc: Global) -> Result<Changes, Fail> {
     let bytes = bytes_of(alloc, DUMP)?;
-    match Journal::open(alloc, MemDisk::new(bytes, List::new(alloc))) {
-        Ok((_, mut groups)) => match groups.commits.pop() {
-            Some(group) => Ok(group.changes),
-            None => Err(Fail::from("no commit")),
-        },
+    match opened(alloc, bytes.as_slice(), &[]) {
+        Ok((_, groups)) => changes_of_last(groups),
         Err(_) => Err(Fail::from("the dump isn't opened")),
+    }
+}
+
+/// The changes of the last commit.
+fn changes_of_last(mut groups: Groups) -> Result<Changes, Fail> {
+    match groups.commits.pop() {
+        Some(group) => Ok(group.changes),
+        None => Err(Fail::from("no commit")),
     }
 }
 
@@ -152,12 +171,8 @@ fn commit(
 
 /// How many commits a file has, or why it isn't opened.
 fn commits_in(alloc: Global, file: &[u8]) -> Result<usize, OpenError> {
-    let mut bytes = List::new(alloc);
-    bytes.extend_from_slice(alloc, file)?;
-    match Journal::open(alloc, MemDisk::new(bytes, List::new(alloc))) {
-        Ok((_, groups)) => Ok(groups.commits.len()),
-        Err(refused) => Err(refused.fault),
-    }
+    let (_, groups) = opened(alloc, file, &[])?;
+    Ok(groups.commits.len())
 }
 
 /// The fewest and the most commits that a crash in a call of the disk leaves.
@@ -194,11 +209,16 @@ fn damaged(at: u64) -> Result<usize, OpenError> {
     }))
 }
 
+/// The length of the dump, and how many commits it has.
+fn dumped(alloc: Global) -> Result<(usize, usize), OpenError> {
+    let bytes = bytes_of(alloc, DUMP)?;
+    let commits = commits_in(alloc, bytes.as_slice())?;
+    Ok((bytes.len(), commits))
+}
+
 #[test]
 fn the_dump_of_the_file_format_is_a_journal(rt: HostRuntime) -> Result<(), Fail> {
-    let bytes = bytes_of(rt.alloc(), DUMP)?;
-    assert_eq!(rt; bytes.len(), 60);
-    assert_eq!(rt; commits_in(rt.alloc(), bytes.as_slice()), Ok(1));
+    assert_eq!(rt; dumped(rt.alloc()), Ok((60, 1)));
     Ok(())
 }
 
@@ -223,13 +243,21 @@ fn dumped_commit(alloc: Global) -> Result<MemDisk, Fail> {
     }
 }
 
+/// Whether the bytes are those of the dump.
+fn are_dumped(alloc: Global, bytes: &[u8]) -> Result<bool, NoMemory> {
+    Ok(bytes_of(alloc, DUMP)?.as_slice() == bytes)
+}
+
+/// Whether the dump's commit writes the bytes of the dump, how many it writes, and the faults of its disk.
+fn written(alloc: Global) -> Result<(bool, usize, u64), Fail> {
+    let disk = dumped_commit(alloc)?;
+    let dumped = are_dumped(alloc, disk.bytes())?;
+    Ok((dumped, disk.bytes().len(), disk.faults()))
+}
+
 #[test]
 fn a_commit_writes_the_bytes_of_the_dump(rt: HostRuntime) -> Result<(), Fail> {
-    let disk = dumped_commit(rt.alloc())?;
-    let bytes = bytes_of(rt.alloc(), DUMP)?;
-    assert_eq!(rt; bytes.len(), 60);
-    assert!(rt; disk.bytes() == bytes.as_slice());
-    assert_eq!(rt; disk.faults(), 0);
+    assert_eq!(rt; written(rt.alloc())?, (true, 60, 0));
     Ok(())
 }
 
@@ -252,16 +280,25 @@ const CHANGED: [(usize, usize, u8, Result<usize, u64>); 15] = [
     (0, 0, 0, Ok(0)),
 ];
 
+/// How many commits the changed dump has, or where it is damaged.
+fn commits_in_changed(alloc: Global, keep: usize, at: usize, byte: u8) -> Result<usize, OpenError> {
+    let bytes = changed(alloc, keep, at, byte)?;
+    commits_in(alloc, bytes.as_slice())
+}
+
+/// What a row says: a count of commits, or damage at a place.
+fn told(want: Result<usize, u64>) -> Result<usize, OpenError> {
+    match want {
+        Ok(count) => Ok(count),
+        Err(place) => damaged(place),
+    }
+}
+
 #[test]
 fn a_changed_file_is_read_or_damaged_at_its_place(rt: HostRuntime) -> Result<(), Fail> {
-    for (keep, at, byte, want) in CHANGED {
-        let bytes = changed(rt.alloc(), keep, at, byte)?;
-        let want = match want {
-            Ok(count) => Ok(count),
-            Err(place) => damaged(place),
-        };
-        let found = commits_in(rt.alloc(), bytes.as_slice());
-        assert_eq!(rt; found, want, "{keep} bytes with {byte} at {at}");
+    for &(keep, at, byte, want) in &CHANGED {
+        let found = commits_in_changed(rt.alloc(), keep, at, byte);
+        assert_eq!(rt; found, told(want), "{keep} bytes with {byte} at {at}");
     }
     Ok(())
 }
@@ -301,13 +338,29 @@ const STOPS: [(u64, (usize, usize)); 13] = [
     (15, (3, 3)),
 ];
 
+/// A call, and the fewest and the most commits that a stop in it leaves.
+type WrongStop = Result<Option<(u64, (usize, usize))>, OpenError>;
+
+/// The first of these calls in which a stop leaves other counts of commits than the row says, and the counts that it leaves.
+fn first_wrong_stop(alloc: Global, disk: &MemDisk, stops: &[(u64, (usize, usize))]) -> WrongStop {
+    for &(call, want) in stops {
+        let found = commits_after_stop(alloc, disk, call)?;
+        if found != want {
+            return Ok(Some((call, found)));
+        }
+    }
+    Ok(None)
+}
+
+/// The first of the calls of three commits in which a stop leaves other counts than the row says, and these counts.
+fn wrong_stop_of_three(alloc: Global) -> Result<WrongStop, Fail> {
+    let disk = three_commits(alloc)?;
+    Ok(first_wrong_stop(alloc, &disk, &STOPS))
+}
+
 #[test]
 fn a_stop_in_a_commit_leaves_it_whole_or_not_at_all(rt: HostRuntime) -> Result<(), Fail> {
-    let disk = three_commits(rt.alloc())?;
-    for (call, want) in STOPS {
-        let found = commits_after_stop(rt.alloc(), &disk, call);
-        assert_eq!(rt; found, Ok(want), "at call {call}");
-    }
+    assert_eq!(rt; wrong_stop_of_three(rt.alloc())?, Ok(None));
     Ok(())
 }
 
@@ -319,19 +372,43 @@ const FRESH: [(&[u8], u64); 4] = [
     (b"\x4DXTCJRN1\x01", 6),
 ];
 
+/// The first nine calls, in which a stop leaves no commit.
+const NO_COMMITS: [(u64, (usize, usize)); 9] = [
+    (1, (0, 0)),
+    (2, (0, 0)),
+    (3, (0, 0)),
+    (4, (0, 0)),
+    (5, (0, 0)),
+    (6, (0, 0)),
+    (7, (0, 0)),
+    (8, (0, 0)),
+    (9, (0, 0)),
+];
+
+/// The disk of the journal that is made of a fresh file.
+fn fresh_disk(alloc: Global, file: &[u8]) -> Result<MemDisk, OpenError> {
+    let journal = empty_journal(alloc, file, &[])?;
+    Ok(journal.into_disk())
+}
+
+/// Whether a journal without commits is made of a fresh file, in how many calls, and the first of nine calls in which a stop leaves commits, with their counts.
+fn made_of(
+    alloc: Global,
+    file: &[u8],
+) -> Result<(bool, u64, Option<(u64, (usize, usize))>), OpenError> {
+    let disk = fresh_disk(alloc, file)?;
+    let wrong = first_wrong_stop(alloc, &disk, &NO_COMMITS)?;
+    Ok((disk.bytes() == NEW, disk.calls(), wrong))
+}
+
 #[test]
 fn a_stop_while_a_journal_is_made_leaves_an_empty_store(rt: HostRuntime) -> Result<(), Fail> {
-    for (file, calls) in FRESH {
-        let Ok(journal) = empty_journal(rt.alloc(), file, &[]) else {
-            panic!(rt; "a fresh file isn't opened");
-        };
-        let disk = journal.into_disk();
-        assert!(rt; disk.bytes() == NEW);
-        assert_eq!(rt; disk.calls(), calls);
-        for call in 1..10 {
-            let found = commits_after_stop(rt.alloc(), &disk, call);
-            assert_eq!(rt; found, Ok((0, 0)), "at call {call}");
-        }
+    for &(file, calls) in &FRESH {
+        assert_eq!(rt;
+            made_of(rt.alloc(), file),
+            Ok((true, calls, None)),
+            "of {file:?}"
+        );
     }
     Ok(())
 }
@@ -358,14 +435,16 @@ fn commit_over_an_old_group(alloc: Global) -> Result<MemDisk, Fail> {
     }
 }
 
+/// The length of its file, and the first of its calls in which a stop leaves other counts than the row says.
+fn stops_over_an_old_group(alloc: Global) -> Result<(usize, WrongStop), Fail> {
+    let disk = commit_over_an_old_group(alloc)?;
+    let wrong = first_wrong_stop(alloc, &disk, &OVER_AN_OLD_GROUP);
+    Ok((disk.bytes().len(), wrong))
+}
+
 #[test]
 fn an_append_is_safe_over_what_stands_behind_a_closed_gate(rt: HostRuntime) -> Result<(), Fail> {
-    let disk = commit_over_an_old_group(rt.alloc())?;
-    assert_eq!(rt; disk.bytes().len(), 60);
-    for (call, want) in OVER_AN_OLD_GROUP {
-        let found = commits_after_stop(rt.alloc(), &disk, call);
-        assert_eq!(rt; found, Ok(want), "at call {call}");
-    }
+    assert_eq!(rt; stops_over_an_old_group(rt.alloc())?, (60, Ok(None)));
     Ok(())
 }
 
@@ -378,68 +457,122 @@ fn failed_commit(alloc: Global, call: u64) -> Result<(Result<(), OpenError>, u64
 
 #[test]
 fn a_failing_call_is_answered_as_a_fault(rt: HostRuntime) -> Result<(), Fail> {
-    // The seven calls that make a journal in an empty file, and then the four of a commit.
-    for call in 1..8 {
-        let refused = empty_journal(rt.alloc(), b"", &[call]);
-        assert!(rt;
-            matches!(&refused, Err(OpenError::DiskFault)),
-            "at call {call}"
-        );
-    }
-    for call in 8..12 {
-        let refused = failed_commit(rt.alloc(), call);
-        assert_eq!(rt;
-            refused,
-            Ok((Err(OpenError::DiskFault), 1)),
-            "at call {call}"
-        );
+    for call in 1..12 {
+        // The seven calls that make a journal in an empty file, and then the four of a commit.
+        let want = if call < 8 {
+            Err(OpenError::DiskFault)
+        } else {
+            Ok((Err(OpenError::DiskFault), 1))
+        };
+        assert_eq!(rt; failed_commit(rt.alloc(), call), want, "at call {call}");
     }
     Ok(())
+}
+
+/// The disk of an empty file that isn't opened as a call of it fails.
+fn disk_that_failed(alloc: Global, call: u64) -> Result<MemDisk, Fail> {
+    let mut calls = List::new(alloc);
+    calls.push(call)?;
+    match Journal::open(alloc, MemDisk::new(List::new(alloc), calls)) {
+        Ok(_) => Err(Fail::from("a call that failed is passed over")),
+        Err(refused) => Ok(refused.disk),
+    }
 }
 
 #[test]
 fn the_first_step_of_a_new_journal_closes_its_gate(rt: HostRuntime) -> Result<(), Fail> {
     // The length, a write and its sync; the next write fails.
-    let mut calls = List::new(rt.alloc());
-    calls.push(4)?;
-    match Journal::open(rt.alloc(), MemDisk::new(List::new(rt.alloc()), calls)) {
-        Ok(_) => panic!(rt; "a write that failed is passed over"),
-        Err(refused) => assert!(rt; refused.disk.bytes() == b"\x00".as_slice()),
-    }
+    let disk = disk_that_failed(rt.alloc(), 4)?;
+    assert!(rt; disk.bytes() == b"\x00".as_slice());
     Ok(())
+}
+
+/// The disk of a new journal after a commit that fails at the write of its gate, and the answer to it.
+fn failed_append(alloc: Global) -> Result<(MemDisk, Result<(), OpenError>), OpenError> {
+    // The opening makes two calls, and of the append's four the third fails.
+    let mut journal = empty_journal(alloc, NEW, &[5])?;
+    let answer = commit(alloc, &mut journal, 1, &[]);
+    Ok((journal.into_disk(), answer))
+}
+
+/// The same disk, synced once more.
+fn synced_after_failed_append(alloc: Global) -> Result<MemDisk, Fail> {
+    match failed_append(alloc) {
+        Ok((mut disk, Err(OpenError::DiskFault))) => match disk.sync() {
+            Ok(()) => Ok(disk),
+            Err(_) => Err(Fail::from("the sync fails")),
+        },
+        _ => Err(Fail::from("the commit doesn't fail as a fault of the disk")),
+    }
+}
+
+/// The commits that a stop before and behind the sync leaves.
+const AROUND_THE_SYNC: [(u64, (usize, usize)); 2] = [(6, (0, 1)), (7, (0, 0))];
+
+/// The first call around the sync in which a stop leaves other counts than the row says, and how many commits the file has behind it.
+fn commits_around_the_sync(alloc: Global) -> Result<(WrongStop, Result<usize, OpenError>), Fail> {
+    let disk = synced_after_failed_append(alloc)?;
+    let wrong = first_wrong_stop(alloc, &disk, &AROUND_THE_SYNC);
+    Ok((wrong, commits_in(alloc, disk.bytes())))
 }
 
 #[test]
 fn a_failed_append_may_be_found_until_the_next_sync_is_done(rt: HostRuntime) -> Result<(), Fail> {
-    // The opening makes two calls, and of the append's four the third fails: the write of the gate.
-    let Ok(mut journal) = empty_journal(rt.alloc(), NEW, &[5]) else {
-        panic!(rt; "a new journal isn't opened");
-    };
-    let refused = commit(rt.alloc(), &mut journal, 1, &[]);
-    assert_eq!(rt; refused, Err(OpenError::DiskFault));
-    let mut disk = journal.into_disk();
-    assert_eq!(rt; disk.sync(), Ok(()));
-    assert_eq!(rt; commits_after_stop(rt.alloc(), &disk, 6), Ok((0, 1)));
-    assert_eq!(rt; commits_after_stop(rt.alloc(), &disk, 7), Ok((0, 0)));
-    assert_eq!(rt; commits_in(rt.alloc(), disk.bytes()), Ok(0));
+    assert_eq!(rt; commits_around_the_sync(rt.alloc())?, (Ok(None), Ok(0)));
     Ok(())
+}
+
+/// Writes into a file of nine bytes, or at its end.
+fn write_to_nine(disk: &mut MemDisk, at: u64, bytes: &[u8]) -> Result<(), Fail> {
+    if at > 9 || disk.bytes().len() != 9 {
+        return Err(Fail::from("the file hasn't nine bytes"));
+    }
+    match disk.write_at(at, bytes) {
+        Ok(()) => Ok(()),
+        Err(_) => Err(Fail::from("a write fails")),
+    }
+}
+
+/// Opens the gate of a journal without commits, and then writes this group.
+fn write_gate_before(disk: &mut MemDisk, group: &[u8]) -> Result<(), Fail> {
+    write_to_nine(disk, 8, b"\x01")?;
+    write_to_nine(disk, 9, group)
+}
+
+/// The disk of a journal without commits, in which the gate was opened before this group was written.
+fn gate_before(alloc: Global, group: &[u8]) -> Result<MemDisk, Fail> {
+    let new = List::from_vec(Vec::from_slice(alloc, NEW)?);
+    let mut disk = MemDisk::new(new, List::new(alloc));
+    write_gate_before(&mut disk, group)?;
+    Ok(disk)
+}
+
+/// The same with the dump's group.
+fn gate_before_dumped_group(alloc: Global) -> Result<MemDisk, Fail> {
+    let bytes = bytes_of(alloc, DUMP)?;
+    if bytes.len() != 60 {
+        return Err(Fail::from("the dump hasn't sixty bytes"));
+    }
+    gate_before(alloc, &bytes.as_slice()[9..])
+}
+
+/// Whether a stop in a call may leave a journal whose first group is damaged.
+fn may_harm(alloc: Global, disk: &MemDisk, call: u64) -> Result<bool, NoMemory> {
+    let mut harmed = false;
+    for image in disk.stop_images(alloc, call)?.as_slice() {
+        harmed = harmed || commits_in(alloc, image.as_slice()) == damaged(8);
+    }
+    Ok(harmed)
+}
+
+/// Whether a stop in the write of the dump's group may harm the journal whose gate was opened before.
+fn early_gate_may_harm(alloc: Global) -> Result<bool, Fail> {
+    let disk = gate_before_dumped_group(alloc)?;
+    Ok(may_harm(alloc, &disk, 3)?)
 }
 
 #[test]
 fn a_gate_that_is_opened_before_its_group_does_damage(rt: HostRuntime) -> Result<(), Fail> {
-    let bytes = bytes_of(rt.alloc(), DUMP)?;
-    assert_eq!(rt; bytes.len(), 60);
-    let mut new = List::new(rt.alloc());
-    new.extend_from_slice(rt.alloc(), NEW)?;
-    let mut disk = MemDisk::new(new, List::new(rt.alloc()));
-    assert_eq!(rt; disk.bytes().len(), 9);
-    assert_eq!(rt; disk.write_at(8, b"\x01"), Ok(()));
-    assert_eq!(rt; disk.bytes().len(), 9);
-    assert_eq!(rt; disk.write_at(9, &bytes.as_slice()[9..]), Ok(()));
-    let mut harmed = false;
-    for image in disk.stop_images(rt.alloc(), 3)?.as_slice() {
-        harmed = harmed || commits_in(rt.alloc(), image.as_slice()) == damaged(8);
-    }
-    assert!(rt; harmed);
+    assert!(rt; early_gate_may_harm(rt.alloc())?);
     Ok(())
 }

@@ -1,9 +1,10 @@
 //! Stores as their two files have them, damaged at each rule's place, and failing and stopped at each call of their disks.
+use crate::records::parts;
 use dewey_labels::{List, NoMemory};
 use node_records::{File, OpenError, Place};
 use outside_kinds::MemDisk;
 use outside_traits::Disk;
-use recovery::open_store;
+use recovery::{Opened, StoreFault, open_store};
 use std::alloc::Global;
 use std::test::Fail;
 use tree_model::{Key, Record};
@@ -18,21 +19,32 @@ const DOCUMENT: &[u8] = b"\x01\x01\x83\x69\0\0\0\0\0\x01\x01";
 
 const ELEMENT: &[u8] = b"\x01\x01\x83\x69\x83\x69\0\0\0\0\0\x02\x02a";
 
-/// A disk that fails at the listed calls.
-fn disk(alloc: Global, file: &[u8], fails: &[u64]) -> Result<MemDisk, NoMemory> {
-    let mut bytes = List::new(alloc);
-    bytes.extend_from_slice(alloc, file)?;
+/// A disk with this file that fails at one call; at none for 0.
+fn disk(alloc: Global, file: &[u8], call: u64) -> Result<MemDisk, NoMemory> {
+    let bytes = List::from_vec(Vec::from_slice(alloc, file)?);
     let mut calls = List::new(alloc);
-    calls.extend_from_slice(alloc, fails)?;
+    calls.push(call)?;
     Ok(MemDisk::new(bytes, calls))
+}
+
+/// The store that two files open as, or why they aren't opened.
+fn opened(
+    alloc: Global,
+    journal: &[u8],
+    pages: &[u8],
+) -> Result<Opened<MemDisk, MemDisk>, OpenError> {
+    let journal = disk(alloc, journal, 0)?;
+    let pages = disk(alloc, pages, 0)?;
+    match open_store(alloc, journal, pages) {
+        Ok(store) => Ok(store),
+        Err(refused) => Err(refused.fault),
+    }
 }
 
 /// The number and the count of records that two files open with, or why they aren't opened.
 fn opens(alloc: Global, journal: &[u8], pages: &[u8]) -> Result<(u32, usize), OpenError> {
-    match open_store(alloc, disk(alloc, journal, &[])?, disk(alloc, pages, &[])?) {
-        Ok(store) => Ok((store.number, store.base.entries().len())),
-        Err(refused) => Err(refused.fault),
-    }
+    let store = opened(alloc, journal, pages)?;
+    Ok((store.number, store.base.entries().len()))
 }
 
 fn damaged(file: File, at: u64) -> Result<(u32, usize), OpenError> {
@@ -49,32 +61,31 @@ fn told(stands: Stands) -> Result<(u32, usize), OpenError> {
     }
 }
 
-/// Puts a commit with this number and body in the place of the last gate, and the next gate behind it.
-fn commit(
-    alloc: Global,
-    journal: &mut List<u8>,
-    number: u8,
-    body: &[&[u8]],
-) -> Result<(), NoMemory> {
+/// Pieces one behind the other.
+fn joined(alloc: Global, pieces: &[&[u8]]) -> Result<List<u8>, NoMemory> {
     let mut bytes = List::new(alloc);
-    for piece in body {
+    for piece in pieces {
         bytes.extend_from_slice(alloc, piece)?;
     }
-    let Ok(length) = u8::try_from(bytes.len()) else {
+    Ok(bytes)
+}
+
+/// Puts a commit with this number and body in the place of the last gate, and the next gate behind it.
+fn commit(alloc: Global, journal: &mut List<u8>, number: u8, body: &[u8]) -> Result<(), NoMemory> {
+    let Ok(length) = u8::try_from(body.len()) else {
         return Err(NoMemory);
     };
     let _gate = journal.pop();
     journal.extend_from_slice(alloc, &[1, 0, 0, 0, 0, number, 0, 0, 0, length])?;
-    journal.extend_from_slice(alloc, bytes.as_slice())?;
-    journal.push(0)?;
-    Ok(())
+    journal.extend_from_slice(alloc, body)?;
+    journal.push(0)
 }
 
 /// A journal with one commit.
 fn journal(alloc: Global, body: &[&[u8]]) -> Result<List<u8>, NoMemory> {
-    let mut journal = List::new(alloc);
-    journal.extend_from_slice(alloc, NEW)?;
-    commit(alloc, &mut journal, 1, body)?;
+    let body = joined(alloc, body)?;
+    let mut journal = joined(alloc, &[NEW])?;
+    commit(alloc, &mut journal, 1, body.as_slice())?;
     Ok(journal)
 }
 
@@ -88,16 +99,18 @@ fn changed(alloc: Global, keep: usize, at: usize, byte: u8) -> Result<Vec<u8>, N
     Ok(bytes)
 }
 
+/// Whether an entry has this label, this name and this record.
+fn is_entry(of: &(Key, Record), divisions: &[u32], name: &str, record: (&str, &str)) -> bool {
+    of.0.label.divisions() == divisions && of.0.name.as_str() == name && parts(&of.1) == record
+}
+
 /// Whether the records are the catalogue's entry of x, its document 1.1001 and the element a.
 fn are_a_document(entries: &[(Key, Record)]) -> bool {
     match entries {
         [entry, document, element] => {
-            entry.0.name.as_str() == "x"
-                && matches!(&entry.1, Record::Attr(label) if label.as_str() == "1.1001")
-                && document.0.label.divisions() == [1, 1001].as_slice()
-                && matches!(&document.1, Record::Document)
-                && element.0.label.divisions() == [1, 1001, 1001].as_slice()
-                && matches!(&element.1, Record::Element(name) if name.as_str() == "a")
+            is_entry(entry, &[1], "x", ("attribute", "1.1001"))
+                && is_entry(document, &[1, 1001], "", ("document", ""))
+                && is_entry(element, &[1, 1001, 1001], "", ("element", "a"))
         }
         _ => false,
     }
@@ -105,17 +118,20 @@ fn are_a_document(entries: &[(Key, Record)]) -> bool {
 
 /// The number that a journal opens with, and whether its records are those of one document.
 fn opens_a_document(alloc: Global, journal: &[u8]) -> Result<(u32, bool), OpenError> {
-    match open_store(alloc, disk(alloc, journal, &[])?, disk(alloc, b"", &[])?) {
-        Ok(store) => Ok((store.number, are_a_document(store.base.entries()))),
-        Err(refused) => Err(refused.fault),
-    }
+    let store = opened(alloc, journal, b"")?;
+    Ok((store.number, are_a_document(store.base.entries())))
+}
+
+/// The length of the journal with one document, and what it opens with.
+fn whole_journal_opens(alloc: Global) -> Result<(usize, (u32, bool)), OpenError> {
+    let bytes = changed(alloc, 60, 0, 1)?;
+    let found = opens_a_document(alloc, &bytes)?;
+    Ok((bytes.len(), found))
 }
 
 #[test]
 fn sixty_bytes_are_a_document_with_number_1(rt: HostRuntime) -> Result<(), Fail> {
-    let bytes = changed(rt.alloc(), 60, 0, 1)?;
-    assert_eq!(rt; bytes.len(), 60);
-    assert_eq!(rt; opens_a_document(rt.alloc(), &bytes), Ok((1, true)));
+    assert_eq!(rt; whole_journal_opens(rt.alloc()), Ok((60, (1, true))));
     Ok(())
 }
 
@@ -134,13 +150,37 @@ const CHANGED: [(usize, usize, u8, Stands); 11] = [
     (0, 0, 0, Ok((0, 0))),
 ];
 
+/// What the sixty bytes, with the byte at one place changed, open with before pages.
+fn opens_changed(
+    alloc: Global,
+    (keep, at, byte): (usize, usize, u8),
+    pages: &[u8],
+) -> Result<(u32, usize), OpenError> {
+    let bytes = changed(alloc, keep, at, byte)?;
+    opens(alloc, &bytes, pages)
+}
+
+/// How many of the sixty bytes there are, the place that is changed, the byte there, and what they open with.
+type Otherwise = ((usize, usize, u8), Result<(u32, usize), OpenError>);
+
+/// The first of these changes of the sixty bytes with which they open otherwise than the row says before these pages, and what they open with.
+fn first_otherwise(
+    alloc: Global,
+    rows: &[(usize, usize, u8, Stands)],
+    pages: &[u8],
+) -> Option<Otherwise> {
+    for &(keep, at, byte, want) in rows {
+        let found = opens_changed(alloc, (keep, at, byte), pages);
+        if found != told(want) {
+            return Some(((keep, at, byte), found));
+        }
+    }
+    None
+}
+
 #[test]
 fn a_changed_journal_opens_or_is_damaged_at_its_place(rt: HostRuntime) -> Result<(), Fail> {
-    for (keep, at, byte, want) in CHANGED {
-        let bytes = changed(rt.alloc(), keep, at, byte)?;
-        let found = opens(rt.alloc(), &bytes, b"");
-        assert_eq!(rt; found, told(want), "{keep} bytes with {byte} at {at}");
-    }
+    assert_eq!(rt; first_otherwise(rt.alloc(), &CHANGED, b""), None);
     Ok(())
 }
 
@@ -152,14 +192,19 @@ const NUMBERS: [(u8, &[u8], u64); 4] = [
     (1, b"\x01\x00", 59),
 ];
 
+/// What the sixty bytes open with, with this number and with other bytes from the last gate on.
+fn opens_with_number(alloc: Global, number: u8, rest: &[u8]) -> Result<(u32, usize), OpenError> {
+    let mut bytes = changed(alloc, 59, 13, number)?;
+    bytes.extend_from_slice(rest)?;
+    opens(alloc, &bytes, b"")
+}
+
 #[test]
 fn a_wrong_first_number_comes_before_a_later_group_but_not_before_one_of_images(
     rt: HostRuntime,
 ) -> Result<(), Fail> {
-    for (number, rest, want) in NUMBERS {
-        let mut bytes = changed(rt.alloc(), 59, 13, number)?;
-        bytes.extend_from_slice(rest)?;
-        let found = opens(rt.alloc(), &bytes, b"");
+    for &(number, rest, want) in &NUMBERS {
+        let found = opens_with_number(rt.alloc(), number, rest);
         assert_eq!(rt;
             found,
             damaged(File::Journal, want),
@@ -181,12 +226,7 @@ const BEFORE_PAGES: [(usize, usize, u8, Stands); 6] = [
 
 #[test]
 fn pages_are_tested_behind_the_journal_and_before_the_tree(rt: HostRuntime) -> Result<(), Fail> {
-    let pages = [0; 100];
-    for (keep, at, byte, want) in BEFORE_PAGES {
-        let bytes = changed(rt.alloc(), keep, at, byte)?;
-        let found = opens(rt.alloc(), &bytes, &pages);
-        assert_eq!(rt; found, told(want), "{keep} bytes with {byte} at {at}");
-    }
+    assert_eq!(rt; first_otherwise(rt.alloc(), &BEFORE_PAGES, &[0; 100]), None);
     Ok(())
 }
 
@@ -203,35 +243,36 @@ const ROOT: &[u8] = b"\x01\x01\0\0\0\0\0\x01\x01";
 const AGAIN: &[u8] = b"\x01\x01\0y\0\0\0\0\x07\x041.1001";
 
 /// A rule that is broken, the entries of the tree, and the place.
-const RULES: [(&str, [&[u8]; 4], u64); 9] = [
-    ("an entry has no document", [ENTRY, b"", b"", b""], 1),
-    ("a parent isn't there", [b"", b"", ELEMENT, b""], 0),
-    ("no entry names a document", [DOCUMENT, b"", b"", b""], 0),
-    ("two entries do", [ENTRY, AGAIN, DOCUMENT, b""], 2),
-    (
-        "a text stands in a document",
-        [ENTRY, DOCUMENT, TEXT, b""],
-        2,
-    ),
-    ("a name is none", [ENTRY, DOCUMENT, NO_NAME, b""], 2),
+const RULES: [(&str, &[&[u8]], u64); 9] = [
+    ("an entry has no document", &[ENTRY], 1),
+    ("a parent isn't there", &[ELEMENT], 0),
+    ("no entry names a document", &[DOCUMENT], 0),
+    ("two entries do", &[ENTRY, AGAIN, DOCUMENT], 2),
+    ("a text stands in a document", &[ENTRY, DOCUMENT, TEXT], 2),
+    ("a name is none", &[ENTRY, DOCUMENT, NO_NAME], 2),
     (
         "a document has two children",
-        [ENTRY, DOCUMENT, ELEMENT, SECOND],
+        &[ENTRY, DOCUMENT, ELEMENT, SECOND],
         3,
     ),
     (
         "a document has an attribute",
-        [ENTRY, DOCUMENT, ATTRIBUTE, b""],
+        &[ENTRY, DOCUMENT, ATTRIBUTE],
         2,
     ),
-    ("the root has a record", [ROOT, b"", b"", b""], 0),
+    ("the root has a record", &[ROOT], 0),
 ];
+
+/// What a journal with one commit opens with.
+fn opens_with(alloc: Global, body: &[&[u8]]) -> Result<(u32, usize), OpenError> {
+    let bytes = journal(alloc, body)?;
+    opens(alloc, bytes.as_slice(), b"")
+}
 
 #[test]
 fn each_rule_of_the_tree_has_its_place(rt: HostRuntime) -> Result<(), Fail> {
-    for (rule, body, at) in RULES {
-        let bytes = journal(rt.alloc(), &body)?;
-        let found = opens(rt.alloc(), bytes.as_slice(), b"");
+    for &(rule, body, at) in &RULES {
+        let found = opens_with(rt.alloc(), body);
         assert_eq!(rt; found, damaged(File::Tree, at), "{rule}");
     }
     Ok(())
@@ -252,10 +293,8 @@ fn name_of_third(entries: &[(Key, Record)]) -> u8 {
 
 /// The number that a journal opens with, and the name of its third record.
 fn third_name(alloc: Global, journal: &[u8]) -> Result<(u32, u8), OpenError> {
-    match open_store(alloc, disk(alloc, journal, &[])?, disk(alloc, b"", &[])?) {
-        Ok(store) => Ok((store.number, name_of_third(store.base.entries()))),
-        Err(refused) => Err(refused.fault),
-    }
+    let store = opened(alloc, journal, b"")?;
+    Ok((store.number, name_of_third(store.base.entries())))
 }
 
 const NO_ELEMENT: &[u8] = b"\x02\x01\x83\x69\x83\x69\0\0";
@@ -269,16 +308,29 @@ const LATER: [(&[u8], &[u8], u8); 3] = [
     (RENAMED, ELEMENT, b'a'),
 ];
 
+/// What a journal with two more commits opens with, and the name of its third record then.
+fn name_after(alloc: Global, second: &[u8], third: &[u8]) -> Result<(u32, u8), OpenError> {
+    let mut bytes = journal(alloc, &[ENTRY, DOCUMENT, ELEMENT])?;
+    commit(alloc, &mut bytes, 2, second)?;
+    commit(alloc, &mut bytes, 3, third)?;
+    third_name(alloc, bytes.as_slice())
+}
+
 #[test]
 fn commits_follow_one_another_and_what_is_deleted_stays_away(rt: HostRuntime) -> Result<(), Fail> {
-    for (second, third, want) in LATER {
-        let mut bytes = journal(rt.alloc(), &[ENTRY, DOCUMENT, ELEMENT])?;
-        commit(rt.alloc(), &mut bytes, 2, &[second])?;
-        commit(rt.alloc(), &mut bytes, 3, &[third])?;
-        let found = third_name(rt.alloc(), bytes.as_slice());
-        assert_eq!(rt; found, Ok((3, want)));
+    for &(second, third, want) in &LATER {
+        assert_eq!(rt; name_after(rt.alloc(), second, third), Ok((3, want)));
     }
     Ok(())
+}
+
+/// Why a store isn't opened, and the faults that its disks have counted.
+fn counted(refused: StoreFault<MemDisk, MemDisk>) -> (OpenError, u64, u64) {
+    (
+        refused.fault,
+        refused.journal.faults(),
+        refused.pages.faults(),
+    )
 }
 
 /// The faults that the disks of two empty files have counted when they are handed back.
@@ -287,38 +339,42 @@ fn faults(
     journal_fails: u64,
     pages_fail: u64,
 ) -> Result<(OpenError, u64, u64), NoMemory> {
-    let journal = disk(alloc, b"", &[journal_fails])?;
-    let pages = disk(alloc, b"", &[pages_fail])?;
+    let journal = disk(alloc, b"", journal_fails)?;
+    let pages = disk(alloc, b"", pages_fail)?;
     match open_store(alloc, journal, pages) {
         Ok(_) => Err(NoMemory),
-        Err(refused) => Ok((
-            refused.fault,
-            refused.journal.faults(),
-            refused.pages.faults(),
-        )),
+        Err(refused) => Ok(counted(refused)),
     }
 }
 
+/// The call of the journal's disk that fails, the one of the pages' disk, and the faults of both. Eight calls of the journal's disk make a new journal, and two are made of the pages'.
+const FAILING: [(u64, u64, (u64, u64)); 10] = [
+    (1, 9, (1, 0)),
+    (2, 9, (1, 0)),
+    (3, 9, (1, 0)),
+    (4, 9, (1, 0)),
+    (5, 9, (1, 0)),
+    (6, 9, (1, 0)),
+    (7, 9, (1, 0)),
+    (8, 9, (1, 0)),
+    (9, 1, (0, 1)),
+    (9, 2, (0, 1)),
+];
+
 #[test]
 fn a_failing_call_of_either_disk_hands_both_back(rt: HostRuntime) -> Result<(), Fail> {
-    // Eight calls of the journal's disk make a new journal, and two are made of the pages'.
-    for call in 1..9 {
-        let refused = faults(rt.alloc(), call, 9)?;
-        assert_eq!(rt; refused, (OpenError::DiskFault, 1, 0), "at call {call}");
-    }
-    for call in 1..3 {
-        let refused = faults(rt.alloc(), 9, call)?;
-        assert_eq!(rt; refused, (OpenError::DiskFault, 0, 1), "at call {call}");
+    for &(journal, pages, want) in &FAILING {
+        let refused = faults(rt.alloc(), journal, pages)?;
+        let want = (OpenError::DiskFault, want.0, want.1);
+        assert_eq!(rt; refused, want, "at calls {journal} and {pages}");
     }
     Ok(())
 }
 
 /// The disk of the journal that is made in an empty file.
 fn new_journal(alloc: Global) -> Result<MemDisk, OpenError> {
-    match open_store(alloc, disk(alloc, b"", &[])?, disk(alloc, b"", &[])?) {
-        Ok(store) => Ok(store.journal.into_disk()),
-        Err(refused) => Err(refused.fault),
-    }
+    let store = opened(alloc, b"", b"")?;
+    Ok(store.journal.into_disk())
 }
 
 /// Whether each image that a crash in a call of the journal's disk leaves opens as an empty store.
@@ -331,16 +387,25 @@ fn leaves_an_empty_store(alloc: Global, disk: &MemDisk, call: u64) -> Result<boo
     Ok(true)
 }
 
+/// The first of nine calls of the journal's disk at which a crash may leave more than an empty store.
+fn first_bad_stop(alloc: Global, disk: &MemDisk) -> Result<Option<u64>, OpenError> {
+    for call in 1..10 {
+        if !leaves_an_empty_store(alloc, disk, call)? {
+            return Ok(Some(call));
+        }
+    }
+    Ok(None)
+}
+
+/// How many calls of its disk make a journal, whether it is one without commits, and the first bad stop.
+fn stops_of_new_journal(alloc: Global) -> Result<(u64, bool, Option<u64>), OpenError> {
+    let disk = new_journal(alloc)?;
+    let bad = first_bad_stop(alloc, &disk)?;
+    Ok((disk.calls(), disk.bytes() == NEW, bad))
+}
+
 #[test]
 fn a_stop_while_a_store_is_made_leaves_an_empty_one(rt: HostRuntime) -> Result<(), Fail> {
-    let Ok(disk) = new_journal(rt.alloc()) else {
-        panic!(rt; "an empty store isn't opened");
-    };
-    assert_eq!(rt; disk.calls(), 8);
-    assert!(rt; disk.bytes() == NEW);
-    for call in 1..10 {
-        let empty = leaves_an_empty_store(rt.alloc(), &disk, call);
-        assert_eq!(rt; empty, Ok(true), "at call {call}");
-    }
+    assert_eq!(rt; stops_of_new_journal(rt.alloc()), Ok((8, true, None)));
     Ok(())
 }

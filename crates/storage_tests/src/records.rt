@@ -13,16 +13,38 @@ fn key(alloc: Global, divisions: &[u32], name: &str) -> Result<Key, Fail> {
     }
 }
 
-/// Whether the key is written as the bytes, and read from them with one more behind.
-fn has_bytes(alloc: Global, key: &Key, bytes: &[u8]) -> Result<bool, Fail> {
+/// Whether the key is written as the bytes.
+fn is_written_as(alloc: Global, key: &Key, bytes: &[u8]) -> Result<bool, Fail> {
     let mut out = List::new(alloc);
     write_key(alloc, key, &mut out)?;
-    let written = out.as_slice() == bytes;
-    out.push(7)?;
-    match read_key(alloc, out.as_slice())? {
-        Some((again, length)) => Ok(written && again == *key && length == bytes.len()),
+    Ok(out.as_slice() == bytes)
+}
+
+/// The bytes with a byte 7 behind them.
+fn with_one_more(alloc: Global, bytes: &[u8]) -> Result<Vec<u8>, Fail> {
+    let mut longer = Vec::from_slice(alloc, bytes)?;
+    longer.push(7)?;
+    Ok(longer)
+}
+
+/// Whether the key is read from the bytes with one more behind.
+fn is_read_from(alloc: Global, key: &Key, bytes: &[u8]) -> Result<bool, Fail> {
+    let longer = with_one_more(alloc, bytes)?;
+    match read_key(alloc, &longer)? {
+        Some((again, length)) => Ok(again == *key && length == bytes.len()),
         None => Ok(false),
     }
+}
+
+/// Whether the key of this label and name is written as the bytes, and read from them with one more behind.
+fn has_bytes(alloc: Global, divisions: &[u32], name: &str, bytes: &[u8]) -> Result<bool, Fail> {
+    let key = key(alloc, divisions, name)?;
+    Ok(is_written_as(alloc, &key, bytes)? && is_read_from(alloc, &key, bytes)?)
+}
+
+/// Whether bytes begin with a key.
+fn begin_with_a_key(alloc: Global, bytes: &[u8]) -> Result<bool, Fail> {
+    Ok(read_key(alloc, bytes)?.is_some())
 }
 
 /// Labels with the divisions at the edges of the forms, and the bytes of their keys without a name.
@@ -45,9 +67,11 @@ const EDGES: [(&[u32], &[u8]); 8] = [
 
 #[test]
 fn a_division_has_the_bytes_of_its_form_at_each_edge(rt: HostRuntime) -> Result<(), Fail> {
-    for (divisions, bytes) in EDGES {
-        let key = key(rt.alloc(), divisions, "")?;
-        assert!(rt; has_bytes(rt.alloc(), &key, bytes)?, "of {key:?}");
+    for &(divisions, bytes) in &EDGES {
+        assert!(rt;
+            has_bytes(rt.alloc(), divisions, "", bytes)?,
+            "of {divisions:?}"
+        );
     }
     Ok(())
 }
@@ -69,67 +93,71 @@ const NO_DIVISIONS: [&[u8]; 9] = [
 
 #[test]
 fn a_division_cut_short_or_in_a_longer_form_is_none(rt: HostRuntime) -> Result<(), Fail> {
-    for bytes in NO_DIVISIONS {
-        assert!(rt; read_key(rt.alloc(), bytes)?.is_none(), "at {bytes:?}");
+    for &bytes in &NO_DIVISIONS {
+        assert!(rt; !begin_with_a_key(rt.alloc(), bytes)?, "at {bytes:?}");
     }
     Ok(())
 }
+
+/// Labels and names, and the bytes of their keys.
+const KEYS: [(&[u32], &str, &[u8]); 5] = [
+    (&[1], "", &[0x01, 0x00, 0x00]),
+    (&[1], "x", &[0x01, 0x00, 0x78, 0x00]),
+    (&[1, 1001], "", &[0x01, 0x83, 0x69, 0x00, 0x00]),
+    (
+        &[1, 1001, 1001],
+        "",
+        &[0x01, 0x83, 0x69, 0x83, 0x69, 0x00, 0x00],
+    ),
+    // Behind the first byte of the division 128 stands a byte 0, and ends nothing.
+    (
+        &[1, 128, 3],
+        "\u{E9}",
+        &[0x01, 0x80, 0x00, 0x03, 0x00, 0xC3, 0xA9, 0x00],
+    ),
+];
 
 #[test]
 fn a_key_is_its_label_its_name_and_a_zero(rt: HostRuntime) -> Result<(), Fail> {
-    let alloc = rt.alloc();
-    let rows: [(&[u32], &str, &[u8]); 5] = [
-        (&[1], "", &[0x01, 0x00, 0x00]),
-        (&[1], "x", &[0x01, 0x00, 0x78, 0x00]),
-        (&[1, 1001], "", &[0x01, 0x83, 0x69, 0x00, 0x00]),
-        (
-            &[1, 1001, 1001],
-            "",
-            &[0x01, 0x83, 0x69, 0x83, 0x69, 0x00, 0x00],
-        ),
-        // Behind the first byte of the division 128 stands a byte 0, and ends nothing.
-        (
-            &[1, 128, 3],
-            "\u{E9}",
-            &[0x01, 0x80, 0x00, 0x03, 0x00, 0xC3, 0xA9, 0x00],
-        ),
-    ];
-    for (divisions, name, bytes) in rows {
-        let key = key(alloc, divisions, name)?;
-        assert!(rt; has_bytes(alloc, &key, bytes)?, "of {key:?}");
+    for &(divisions, name, bytes) in &KEYS {
+        assert!(rt;
+            has_bytes(rt.alloc(), divisions, name, bytes)?,
+            "of {divisions:?} and {name}"
+        );
     }
     Ok(())
 }
 
+/// Bytes that begin with no key.
+const NO_KEYS: [&[u8]; 12] = [
+    &[],
+    // A label cut short: behind a division, within one, before its end.
+    &[0x01],
+    &[0x01, 0x83],
+    &[0x01, 0x83, 0x69],
+    // A name without its end.
+    &[0x01, 0x00],
+    &[0x01, 0x00, 0x78],
+    // A name that isn't UTF-8.
+    &[0x01, 0x00, 0xFF, 0x00],
+    &[0x01, 0x00, 0xC3, 0x00],
+    // No labels: no division, not 1 first, an even division last, one above the greatest.
+    &[0x00, 0x00],
+    &[0x03, 0x00, 0x00],
+    &[0x01, 0x02, 0x00, 0x00],
+    &[0x01, 0xE0, 0xFF, 0xFF, 0xFF, 0xFD, 0x00, 0x00],
+];
+
 #[test]
 fn bytes_that_begin_with_no_key_are_none(rt: HostRuntime) -> Result<(), Fail> {
-    let alloc = rt.alloc();
-    let rows: [&[u8]; 12] = [
-        &[],
-        // A label cut short: behind a division, within one, before its end.
-        &[0x01],
-        &[0x01, 0x83],
-        &[0x01, 0x83, 0x69],
-        // A name without its end.
-        &[0x01, 0x00],
-        &[0x01, 0x00, 0x78],
-        // A name that isn't UTF-8.
-        &[0x01, 0x00, 0xFF, 0x00],
-        &[0x01, 0x00, 0xC3, 0x00],
-        // No labels: no division, not 1 first, an even division last, one above the greatest.
-        &[0x00, 0x00],
-        &[0x03, 0x00, 0x00],
-        &[0x01, 0x02, 0x00, 0x00],
-        &[0x01, 0xE0, 0xFF, 0xFF, 0xFF, 0xFD, 0x00, 0x00],
-    ];
-    for bytes in rows {
-        assert!(rt; read_key(alloc, bytes)?.is_none(), "at {bytes:?}");
+    for &bytes in &NO_KEYS {
+        assert!(rt; !begin_with_a_key(rt.alloc(), bytes)?, "at {bytes:?}");
     }
     Ok(())
 }
 
 /// What a record is, and its name, data or value.
-fn parts(record: &Record) -> (&'static str, &str) {
+pub fn parts(record: &Record) -> (&'static str, &str) {
     match record {
         Record::Document => ("document", ""),
         Record::Element(name) => ("element", name.as_str()),
@@ -138,67 +166,96 @@ fn parts(record: &Record) -> (&'static str, &str) {
     }
 }
 
+/// Whether the record is written as the bytes.
+fn is_spelled(alloc: Global, record: &Record, bytes: &[u8]) -> Result<bool, Fail> {
+    let mut out = List::new(alloc);
+    write_record(alloc, record, &mut out)?;
+    Ok(out.as_slice() == bytes)
+}
+
+/// Whether the bytes are all of the record, which is this one and is written as them.
+fn is_whole(
+    alloc: Global,
+    (record, length): (&Record, usize),
+    bytes: &[u8],
+    want: (&str, &str),
+) -> Result<bool, Fail> {
+    Ok(length == bytes.len() && parts(record) == want && is_spelled(alloc, record, bytes)?)
+}
+
 /// Whether the bytes are this record, which is written as them.
 fn is_record(alloc: Global, bytes: &[u8], want: (&str, &str)) -> Result<bool, Fail> {
     match read_record(alloc, bytes)? {
-        Some((record, length)) => {
-            let mut out = List::new(alloc);
-            write_record(alloc, &record, &mut out)?;
-            Ok(parts(&record) == want && length == bytes.len() && out.as_slice() == bytes)
-        }
+        Some((record, length)) => is_whole(alloc, (&record, length), bytes, want),
         None => Ok(false),
     }
 }
 
+/// Whether bytes begin with a record.
+fn begin_with_a_record(alloc: Global, bytes: &[u8]) -> Result<bool, Fail> {
+    Ok(read_record(alloc, bytes)?.is_some())
+}
+
+/// Bytes, and the record that they are.
+const RECORDS: [(&[u8], (&str, &str)); 5] = [
+    (&[0x01], ("document", "")),
+    (&[0x02, 0x61], ("element", "a")),
+    (&[0x03], ("text", "")),
+    (&[0x03, 0x00, 0xC3, 0xA9], ("text", "\0\u{E9}")),
+    (
+        &[0x04, 0x31, 0x2E, 0x31, 0x30, 0x30, 0x31],
+        ("attribute", "1.1001"),
+    ),
+];
+
 #[test]
 fn a_record_is_its_kind_and_its_text(rt: HostRuntime) -> Result<(), Fail> {
-    let rows: [(&[u8], (&str, &str)); 5] = [
-        (&[0x01], ("document", "")),
-        (&[0x02, 0x61], ("element", "a")),
-        (&[0x03], ("text", "")),
-        (&[0x03, 0x00, 0xC3, 0xA9], ("text", "\0\u{E9}")),
-        (
-            &[0x04, 0x31, 0x2E, 0x31, 0x30, 0x30, 0x31],
-            ("attribute", "1.1001"),
-        ),
-    ];
-    for (bytes, want) in rows {
+    for &(bytes, want) in &RECORDS {
         assert!(rt; is_record(rt.alloc(), bytes, want)?, "at {bytes:?}");
     }
     Ok(())
 }
 
+/// Nothing, the kinds 0 and 5, a document with something behind it, texts that aren't UTF-8.
+const NO_RECORDS: [&[u8]; 6] = [
+    &[],
+    &[0x00, 0x61],
+    &[0x05, 0x61],
+    &[0x01, 0x61],
+    &[0x03, 0xFF],
+    &[0x02, 0x61, 0xC3],
+];
+
 #[test]
 fn bytes_that_are_no_record_are_none(rt: HostRuntime) -> Result<(), Fail> {
-    let alloc = rt.alloc();
-    // Nothing, the kinds 0 and 5, a document with something behind it, texts that aren't UTF-8.
-    let rows: [&[u8]; 6] = [
-        &[],
-        &[0x00, 0x61],
-        &[0x05, 0x61],
-        &[0x01, 0x61],
-        &[0x03, 0xFF],
-        &[0x02, 0x61, 0xC3],
-    ];
-    for bytes in rows {
-        assert!(rt; read_record(alloc, bytes)?.is_none(), "at {bytes:?}");
+    for &bytes in &NO_RECORDS {
+        assert!(rt; !begin_with_a_record(rt.alloc(), bytes)?, "at {bytes:?}");
     }
     Ok(())
 }
 
+/// The length of the record that the bytes are, the length of its text, and whether it is written as them.
+fn lengths_of(alloc: Global, bytes: &[u8]) -> Result<(usize, usize, bool), Fail> {
+    match read_record(alloc, bytes)? {
+        Some((record, length)) => {
+            let spelled = is_spelled(alloc, &record, bytes)?;
+            Ok((length, parts(&record).1.len(), spelled))
+        }
+        None => Err(Fail::from("no record")),
+    }
+}
+
+/// The same of a text that takes so many bytes.
+fn lengths_of_a_text(alloc: Global, taken: usize) -> Result<(usize, usize, bool), Fail> {
+    let mut bytes = vec![in alloc; 3u8]?;
+    bytes.resize(taken, b'x')?;
+    lengths_of(alloc, &bytes)
+}
+
 #[test]
 fn a_text_of_the_greatest_length_is_read_and_written(rt: HostRuntime) -> Result<(), Fail> {
-    let alloc = rt.alloc();
-    let mut bytes = vec![in alloc; 3u8]?;
-    bytes.resize(1_048_577, b'x')?;
-    let Some((record, length)) = read_record(alloc, &bytes)? else {
-        return Err(Fail::from("no record"));
-    };
-    assert_eq!(rt; length, 1_048_577);
-    assert_eq!(rt; parts(&record).1.len(), 1_048_576);
-    let mut out = List::new(alloc);
-    write_record(alloc, &record, &mut out)?;
-    assert!(rt; out.as_slice() == bytes.as_slice());
+    let found = lengths_of_a_text(rt.alloc(), 1_048_577)?;
+    assert_eq!(rt; found, (1_048_577, 1_048_576, true));
     Ok(())
 }
 
@@ -212,82 +269,119 @@ const BODY: [u8; 41] = [
     0x01, 0x01, 0x83, 0x69, 0x83, 0x69, 0x00, 0x00, 0x00, 0x00, 0x00, 0x02, 0x02, 0x61,
 ];
 
-/// Whether the bytes begin with the change of this key to this record, of this length, which is written as it stands there.
-fn is_change(
+/// Whether the change is of the key of this label and name, to this record.
+fn sets(
+    alloc: Global,
+    change: &Change,
+    (divisions, name): (&[u32], &str),
+    want: Option<(&str, &str)>,
+) -> Result<bool, Fail> {
+    let key = key(alloc, divisions, name)?;
+    Ok(change.key == key && change.now.as_ref().map(parts) == want)
+}
+
+/// Whether the change is written as the bytes.
+fn is_noted(alloc: Global, change: &Change, bytes: &[u8]) -> Result<bool, Fail> {
+    let mut out = List::new(alloc);
+    write_change(alloc, change, &mut out)?;
+    Ok(out.as_slice() == bytes)
+}
+
+/// Whether the change is of this key, to this record, and is written as the bytes.
+fn is_sought(
+    alloc: Global,
+    change: &Change,
+    of: (&[u32], &str),
+    want: Option<(&str, &str)>,
+    bytes: &[u8],
+) -> Result<bool, Fail> {
+    Ok(sets(alloc, change, of, want)? && is_noted(alloc, change, bytes)?)
+}
+
+/// How many bytes the change takes with which the bytes begin, if it is of this key to this record and is written as it stands there.
+fn length_of_change(
     alloc: Global,
     bytes: &[u8],
-    key: &Key,
+    of: (&[u32], &str),
     want: Option<(&str, &str)>,
-    length: usize,
-) -> Result<bool, Fail> {
+) -> Result<Option<usize>, Fail> {
     match read_change(alloc, bytes)? {
         Some((change, taken)) => {
-            let mut out = List::new(alloc);
-            write_change(alloc, &change, &mut out)?;
-            let now = change.now.as_ref().map(parts);
-            Ok(
-                change.key == *key
-                    && now == want
-                    && taken == length
-                    && out.as_slice() == &bytes[..length],
-            )
+            let sought = is_sought(alloc, &change, of, want, &bytes[..taken])?;
+            Ok(sought.then_some(taken))
         }
-        None => Ok(false),
+        None => Ok(None),
     }
+}
+
+/// Whether bytes begin with a change.
+fn begin_with_a_change(alloc: Global, bytes: &[u8]) -> Result<bool, Fail> {
+    Ok(read_change(alloc, bytes)?.is_some())
+}
+
+/// Places in the body, lengths, and the keys and records of the changes there.
+const CHANGES: [(usize, usize, (&[u32], &str), (&str, &str)); 3] = [
+    (0, 16, (&[1], "x"), ("attribute", "1.1001")),
+    (16, 11, (&[1, 1001], ""), ("document", "")),
+    (27, 14, (&[1, 1001, 1001], ""), ("element", "a")),
+];
+
+/// The body from a place on.
+fn body_from(place: usize) -> &'static [u8] {
+    BODY.get(place..).unwrap_or(&[])
 }
 
 #[test]
 fn the_body_of_a_commit_is_read_change_by_change(rt: HostRuntime) -> Result<(), Fail> {
-    let alloc = rt.alloc();
-    let rows: [(usize, usize, &[u32], &str, (&str, &str)); 3] = [
-        (0, 16, &[1], "x", ("attribute", "1.1001")),
-        (16, 11, &[1, 1001], "", ("document", "")),
-        (27, 14, &[1, 1001, 1001], "", ("element", "a")),
-    ];
-    for (place, length, divisions, name, want) in rows {
-        let key = key(alloc, divisions, name)?;
-        assert!(rt;
-            is_change(alloc, &BODY[place..], &key, Some(want), length)?,
-            "at {place}"
-        );
+    for &(place, length, of, want) in &CHANGES {
+        let found = length_of_change(rt.alloc(), body_from(place), of, Some(want))?;
+        assert_eq!(rt; found, Some(length), "at {place}");
     }
     Ok(())
 }
 
 #[test]
 fn a_delete_is_its_key(rt: HostRuntime) -> Result<(), Fail> {
-    let key = key(rt.alloc(), &[1, 1001], "")?;
     let bytes = [0x02, 0x01, 0x83, 0x69, 0x00, 0x00, 0x07];
-    assert!(rt; is_change(rt.alloc(), &bytes, &key, None, 6)?);
+    let found = length_of_change(rt.alloc(), &bytes, (&[1, 1001], ""), None)?;
+    assert_eq!(rt; found, Some(6));
     Ok(())
 }
 
+/// Nothing, the kinds 0 and 3, a record cut short, a length cut short, a record of kind 0.
+const NO_CHANGES: [&[u8]; 6] = [
+    &[],
+    &[0x00, 0x01, 0x00, 0x00],
+    &[0x03, 0x01, 0x00, 0x00],
+    &[0x01, 0x01, 0x00, 0x78, 0x00, 0x00, 0x00, 0x00, 0x02, 0x04],
+    &[0x01, 0x01, 0x00, 0x78, 0x00, 0x00, 0x00, 0x00],
+    &[0x01, 0x01, 0x00, 0x78, 0x00, 0x00, 0x00, 0x00, 0x01, 0x00],
+];
+
 #[test]
 fn bytes_that_begin_with_no_change_are_none(rt: HostRuntime) -> Result<(), Fail> {
-    // Nothing, the kinds 0 and 3, a record cut short, a length cut short, a record of kind 0.
-    let rows: [&[u8]; 6] = [
-        &[],
-        &[0x00, 0x01, 0x00, 0x00],
-        &[0x03, 0x01, 0x00, 0x00],
-        &[0x01, 0x01, 0x00, 0x78, 0x00, 0x00, 0x00, 0x00, 0x02, 0x04],
-        &[0x01, 0x01, 0x00, 0x78, 0x00, 0x00, 0x00, 0x00],
-        &[0x01, 0x01, 0x00, 0x78, 0x00, 0x00, 0x00, 0x00, 0x01, 0x00],
-    ];
-    for bytes in rows {
-        assert!(rt; read_change(rt.alloc(), bytes)?.is_none(), "at {bytes:?}");
+    for &bytes in &NO_CHANGES {
+        assert!(rt; !begin_with_a_change(rt.alloc(), bytes)?, "at {bytes:?}");
     }
     Ok(())
 }
 
+/// Whether the change is refused, and what was written before it stays as it was.
+fn is_refused(alloc: Global, change: &Change) -> Result<bool, Fail> {
+    let mut out = List::new(alloc);
+    out.push(7)?;
+    let refused = write_change(alloc, change, &mut out).is_err();
+    Ok(refused && out.as_slice() == [7].as_slice())
+}
+
+/// The same of a delete of the key of this label and name.
+fn is_delete_refused(alloc: Global, divisions: &[u32], name: &str) -> Result<bool, Fail> {
+    let key = key(alloc, divisions, name)?;
+    is_refused(alloc, &Change { key, now: None })
+}
+
 #[test]
 fn a_change_of_a_name_with_a_zero_is_not_written(rt: HostRuntime) -> Result<(), Fail> {
-    let change = Change {
-        key: key(rt.alloc(), &[1, 1001], "a\0b")?,
-        now: None,
-    };
-    let mut out = List::new(rt.alloc());
-    out.push(7)?;
-    assert!(rt; write_change(rt.alloc(), &change, &mut out).is_err());
-    assert_eq!(rt; out.as_slice(), [7].as_slice());
+    assert!(rt; is_delete_refused(rt.alloc(), &[1, 1001], "a\0b")?);
     Ok(())
 }
