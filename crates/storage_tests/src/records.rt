@@ -287,30 +287,28 @@ fn is_noted(alloc: Global, change: &Change, bytes: &[u8]) -> Result<bool, Fail> 
     Ok(out.as_slice() == bytes)
 }
 
-/// Whether the change is of this key, to this record, and is written as the bytes.
+/// Whether the bytes are as many as this, and the change is of this key, to this record, and is written as them.
 fn is_sought(
     alloc: Global,
-    change: &Change,
+    (change, length): (&Change, usize),
     of: (&[u32], &str),
     want: Option<(&str, &str)>,
     bytes: &[u8],
 ) -> Result<bool, Fail> {
-    Ok(sets(alloc, change, of, want)? && is_noted(alloc, change, bytes)?)
+    Ok(bytes.len() == length && sets(alloc, change, of, want)? && is_noted(alloc, change, bytes)?)
 }
 
-/// How many bytes the change takes with which the bytes begin, if it is of this key to this record and is written as it stands there.
-fn length_of_change(
+/// Whether the bytes begin with the change of this key to this record, of this length, which is written as it stands there.
+fn is_change(
     alloc: Global,
     bytes: &[u8],
     of: (&[u32], &str),
     want: Option<(&str, &str)>,
-) -> Result<Option<usize>, Fail> {
+    length: usize,
+) -> Result<bool, Fail> {
     match read_change(alloc, bytes)? {
-        Some((change, taken)) => {
-            let sought = is_sought(alloc, &change, of, want, &bytes[..taken])?;
-            Ok(sought.then_some(taken))
-        }
-        None => Ok(None),
+        Some((change, taken)) => is_sought(alloc, (&change, length), of, want, &bytes[..taken]),
+        None => Ok(false),
     }
 }
 
@@ -334,8 +332,10 @@ fn body_from(place: usize) -> &'static [u8] {
 #[test]
 fn the_body_of_a_commit_is_read_change_by_change(rt: HostRuntime) -> Result<(), Fail> {
     for &(place, length, of, want) in &CHANGES {
-        let found = length_of_change(rt.alloc(), body_from(place), of, Some(want))?;
-        assert_eq!(rt; found, Some(length), "at {place}");
+        assert!(rt;
+            is_change(rt.alloc(), body_from(place), of, Some(want), length)?,
+            "at {place}"
+        );
     }
     Ok(())
 }
@@ -343,8 +343,7 @@ fn the_body_of_a_commit_is_read_change_by_change(rt: HostRuntime) -> Result<(), 
 #[test]
 fn a_delete_is_its_key(rt: HostRuntime) -> Result<(), Fail> {
     let bytes = [0x02, 0x01, 0x83, 0x69, 0x00, 0x00, 0x07];
-    let found = length_of_change(rt.alloc(), &bytes, (&[1, 1001], ""), None)?;
-    assert_eq!(rt; found, Some(6));
+    assert!(rt; is_change(rt.alloc(), &bytes, (&[1, 1001], ""), None, 6)?);
     Ok(())
 }
 
