@@ -338,29 +338,33 @@ const STOPS: [(u64, (usize, usize)); 13] = [
     (15, (3, 3)),
 ];
 
-/// A call, and the fewest and the most commits that a stop in it leaves.
-type WrongStop = Result<Option<(u64, (usize, usize))>, OpenError>;
+/// A call, and the fewest and the most commits that a stop in it leaves, or why one of its images isn't opened.
+type WrongStop = (u64, Result<(usize, usize), OpenError>);
 
-/// The first of these calls in which a stop leaves other counts of commits than the row says, and the counts that it leaves.
-fn first_wrong_stop(alloc: Global, disk: &MemDisk, stops: &[(u64, (usize, usize))]) -> WrongStop {
+/// The first of these calls in which a stop leaves other counts of commits than the row says, and what it leaves.
+fn first_wrong_stop(
+    alloc: Global,
+    disk: &MemDisk,
+    stops: &[(u64, (usize, usize))],
+) -> Option<WrongStop> {
     for &(call, want) in stops {
-        let found = commits_after_stop(alloc, disk, call)?;
-        if found != want {
-            return Ok(Some((call, found)));
+        let found = commits_after_stop(alloc, disk, call);
+        if found != Ok(want) {
+            return Some((call, found));
         }
     }
-    Ok(None)
+    None
 }
 
-/// The first of the calls of three commits in which a stop leaves other counts than the row says, and these counts.
-fn wrong_stop_of_three(alloc: Global) -> Result<WrongStop, Fail> {
+/// The first of the calls of three commits in which a stop leaves other counts than the row says, and what it leaves.
+fn wrong_stop_of_three(alloc: Global) -> Result<Option<WrongStop>, Fail> {
     let disk = three_commits(alloc)?;
     Ok(first_wrong_stop(alloc, &disk, &STOPS))
 }
 
 #[test]
 fn a_stop_in_a_commit_leaves_it_whole_or_not_at_all(rt: HostRuntime) -> Result<(), Fail> {
-    assert_eq!(rt; wrong_stop_of_three(rt.alloc())?, Ok(None));
+    assert_eq!(rt; wrong_stop_of_three(rt.alloc())?, None);
     Ok(())
 }
 
@@ -391,13 +395,10 @@ fn fresh_disk(alloc: Global, file: &[u8]) -> Result<MemDisk, OpenError> {
     Ok(journal.into_disk())
 }
 
-/// Whether a journal without commits is made of a fresh file, in how many calls, and the first of nine calls in which a stop leaves commits, with their counts.
-fn made_of(
-    alloc: Global,
-    file: &[u8],
-) -> Result<(bool, u64, Option<(u64, (usize, usize))>), OpenError> {
+/// Whether a journal without commits is made of a fresh file, in how many calls, and the first of nine calls in which a stop leaves commits, with what it leaves.
+fn made_of(alloc: Global, file: &[u8]) -> Result<(bool, u64, Option<WrongStop>), OpenError> {
     let disk = fresh_disk(alloc, file)?;
-    let wrong = first_wrong_stop(alloc, &disk, &NO_COMMITS)?;
+    let wrong = first_wrong_stop(alloc, &disk, &NO_COMMITS);
     Ok((disk.bytes() == NEW, disk.calls(), wrong))
 }
 
@@ -436,7 +437,7 @@ fn commit_over_an_old_group(alloc: Global) -> Result<MemDisk, Fail> {
 }
 
 /// The length of its file, and the first of its calls in which a stop leaves other counts than the row says.
-fn stops_over_an_old_group(alloc: Global) -> Result<(usize, WrongStop), Fail> {
+fn stops_over_an_old_group(alloc: Global) -> Result<(usize, Option<WrongStop>), Fail> {
     let disk = commit_over_an_old_group(alloc)?;
     let wrong = first_wrong_stop(alloc, &disk, &OVER_AN_OLD_GROUP);
     Ok((disk.bytes().len(), wrong))
@@ -444,7 +445,7 @@ fn stops_over_an_old_group(alloc: Global) -> Result<(usize, WrongStop), Fail> {
 
 #[test]
 fn an_append_is_safe_over_what_stands_behind_a_closed_gate(rt: HostRuntime) -> Result<(), Fail> {
-    assert_eq!(rt; stops_over_an_old_group(rt.alloc())?, (60, Ok(None)));
+    assert_eq!(rt; stops_over_an_old_group(rt.alloc())?, (60, None));
     Ok(())
 }
 
@@ -510,7 +511,9 @@ fn synced_after_failed_append(alloc: Global) -> Result<MemDisk, Fail> {
 const AROUND_THE_SYNC: [(u64, (usize, usize)); 2] = [(6, (0, 1)), (7, (0, 0))];
 
 /// The first call around the sync in which a stop leaves other counts than the row says, and how many commits the file has behind it.
-fn commits_around_the_sync(alloc: Global) -> Result<(WrongStop, Result<usize, OpenError>), Fail> {
+fn commits_around_the_sync(
+    alloc: Global,
+) -> Result<(Option<WrongStop>, Result<usize, OpenError>), Fail> {
     let disk = synced_after_failed_append(alloc)?;
     let wrong = first_wrong_stop(alloc, &disk, &AROUND_THE_SYNC);
     Ok((wrong, commits_in(alloc, disk.bytes())))
@@ -518,7 +521,7 @@ fn commits_around_the_sync(alloc: Global) -> Result<(WrongStop, Result<usize, Op
 
 #[test]
 fn a_failed_append_may_be_found_until_the_next_sync_is_done(rt: HostRuntime) -> Result<(), Fail> {
-    assert_eq!(rt; commits_around_the_sync(rt.alloc())?, (Ok(None), Ok(0)));
+    assert_eq!(rt; commits_around_the_sync(rt.alloc())?, (None, Ok(0)));
     Ok(())
 }
 

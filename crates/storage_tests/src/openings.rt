@@ -387,20 +387,24 @@ fn leaves_an_empty_store(alloc: Global, disk: &MemDisk, call: u64) -> Result<boo
     Ok(true)
 }
 
+/// A call, and whether a crash in it leaves an empty store.
+type Stop = (u64, Result<bool, OpenError>);
+
 /// The first of nine calls of the journal's disk at which a crash may leave more than an empty store.
-fn first_bad_stop(alloc: Global, disk: &MemDisk) -> Result<Option<u64>, OpenError> {
+fn first_bad_stop(alloc: Global, disk: &MemDisk) -> Option<Stop> {
     for call in 1..10 {
-        if !leaves_an_empty_store(alloc, disk, call)? {
-            return Ok(Some(call));
+        let empty = leaves_an_empty_store(alloc, disk, call);
+        if empty != Ok(true) {
+            return Some((call, empty));
         }
     }
-    Ok(None)
+    None
 }
 
 /// How many calls of its disk make a journal, whether it is one without commits, and the first bad stop.
-fn stops_of_new_journal(alloc: Global) -> Result<(u64, bool, Option<u64>), OpenError> {
+fn stops_of_new_journal(alloc: Global) -> Result<(u64, bool, Option<Stop>), OpenError> {
     let disk = new_journal(alloc)?;
-    let bad = first_bad_stop(alloc, &disk)?;
+    let bad = first_bad_stop(alloc, &disk);
     Ok((disk.calls(), disk.bytes() == NEW, bad))
 }
 
