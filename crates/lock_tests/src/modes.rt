@@ -2,7 +2,7 @@
 use lock_modes::{Ask, EdgeMode, Mode, ReadPart, WritePart};
 
 /// The modes in the order of the printed table's columns.
-const COLUMNS: [Mode; 11] = [
+pub const COLUMNS: [Mode; 11] = [
     Mode::IR,
     Mode::NR,
     Mode::LR,
@@ -17,7 +17,7 @@ const COLUMNS: [Mode; 11] = [
 ];
 
 /// A mode held by one owner, and at each column whether another may hold that.
-const TABLE: [(Mode, &str); 11] = [
+pub const TABLE: [(Mode, &str); 11] = [
     (Mode::IR, "++++++++++-"),
     (Mode::NR, "++++++++++-"),
     (Mode::LR, "+++++++----"),

@@ -1,24 +1,11 @@
 //! Owners who meet at resources of a lock table.
+use crate::modes::{COLUMNS, TABLE};
 use dewey_labels::Label;
 use lock_modes::{Ask, EdgeMode, Mode};
 use lock_resources::{Request, Resource, Side};
 use lock_table::{Asked, LockTable};
 use std::alloc::Global;
 use std::test::Fail;
-
-const MODES: [Mode; 11] = [
-    Mode::IR,
-    Mode::NR,
-    Mode::LR,
-    Mode::SR,
-    Mode::IX,
-    Mode::LRIX,
-    Mode::SRIX,
-    Mode::CX,
-    Mode::LRCX,
-    Mode::SRCX,
-    Mode::SX,
-];
 
 /// A request at a node, or at an edge of it.
 fn request(alloc: Global, label: &str, side: Option<Side>, ask: Ask) -> Result<Request, Fail> {
@@ -65,21 +52,6 @@ fn grant(alloc: Global, table: &mut LockTable, owner: u32, mode: Mode) -> Result
 
 const E: &str = "1.1001.1001";
 
-/// A mode held by one owner, and at each of `MODES` whether another is granted that.
-const TABLE: [(Mode, &str); 11] = [
-    (Mode::IR, "++++++++++-"),
-    (Mode::NR, "++++++++++-"),
-    (Mode::LR, "+++++++----"),
-    (Mode::SR, "++++-------"),
-    (Mode::IX, "+++-++-++--"),
-    (Mode::LRIX, "+++-++-----"),
-    (Mode::SRIX, "+++--------"),
-    (Mode::CX, "++--+--+---"),
-    (Mode::LRCX, "++--+------"),
-    (Mode::SRCX, "++---------"),
-    (Mode::SX, "-----------"),
-];
-
 /// Whether another owner is barred by a mode that is held, and then holds nothing.
 fn bars(alloc: Global, held: Mode, mode: Mode) -> Result<(bool, bool), Fail> {
     let mut table = LockTable::new(alloc)?;
@@ -103,10 +75,10 @@ fn mark_beside(alloc: Global, held: Mode, mode: Mode) -> Result<u8, Fail> {
     Ok(if barred { b'-' } else { b'+' })
 }
 
-/// The marks of each of `MODES` beside one that is held.
+/// The marks of each of `COLUMNS` beside a mode that is held.
 fn marks_beside(alloc: Global, held: Mode) -> Result<[u8; 11], Fail> {
     let mut marks = [b'?'; 11];
-    for (mark, mode) in marks.iter_mut().zip(&MODES) {
+    for (mark, mode) in marks.iter_mut().zip(&COLUMNS) {
         *mark = mark_beside(alloc, held, *mode)?;
     }
     Ok(marks)
