@@ -1,5 +1,5 @@
 -- What a list of requests has gained on the way from the root down to a label.
-use Rattle.std.proofs.Common.{◌≡◌, ℕ, zero, suc, ◌≤◌, List, [], ◌∷◌, ◌++◌, length, take, ◌⊎◌, inl, inr, refl, sym, ap, ◌∙◌, Result, Ok, Err, OnOk, OnErr, append_assoc, append-nil, arith}
+use Rattle.std.proofs.Common.{◌≡◌, ℕ, zero, suc, ◌≤◌, List, [], ◌∷◌, ◌++◌, length, take, refl, sym, ap, ◌∙◌, Result, Ok, Err, OnOk, OnErr, append_assoc, append-nil, arith}
 use Rattle.std.proofs.Math.Seq.{take-append_seam}
 use Rattle.dewey_labels.specs.Labels.{Label, cut}
 use Rattle.dewey_labels.specs.Ancestors.{cuts}
@@ -8,21 +8,15 @@ use Rattle.lock_resources.specs.declared.request.Request.{Request}
 use Rattle.lock_resources.specs.Intentions.{on_node, on_each}
 use Rattle.lock_resources.specs.inside.Gained.{GainedAllBut, GoesOn}
 
--- the mode on the node so many levels above the label
-abbrev pub Chosen : ℕ → Mode → Mode → Mode → Type 0
-Chosen n above parent_mode m = ((n ≡ 1) × (m ≡ parent_mode)) ⊎ ((2 ≤ n) × (m ≡ above))
-
 -- one request more was added
 pub added_one : (old out new whole rest : List Request) (q : Request) → GainedAllBut old out whole (q ∷ rest) → new ≡ out ++ q ∷ [] → GainedAllBut old new whole rest
 added_one old out new whole rest q h e =
     record { prefix = h.prefix ++ q ∷ []; gained = e ∙ ap (λ v. v ++ q ∷ []) h.gained ∙ append_assoc old h.prefix (q ∷ []); all = append_assoc h.prefix (q ∷ []) rest ∙ h.all }
 
-pub one_more : (above last m : Mode) (n : ℕ) (l : Label) (old out new whole : List Request) → GainedAllBut old out whole (on_each above last (cuts (suc n) l)) → new ≡ out ++ on_node (cut (suc n) l) m ∷ [] → Chosen (suc n) above last m → GainedAllBut old new whole (on_each above last (cuts n l))
-one_more above last m zero l old out new whole h e (inl k) = added_one old out new whole [] (on_node (cut 1 l) last) h (e ∙ ap (λ v. out ++ on_node (cut 1 l) v ∷ []) k.1)
-one_more above last m zero l old out new whole h e (inr k) = absurd (omega (arith, k.0))
-one_more above last m (suc n) l old out new whole h e (inl k) = absurd (omega (arith, k.0))
-one_more above last m (suc n) l old out new whole h e (inr k) =
-    added_one old out new whole (on_each above last (cuts (suc n) l)) (on_node (cut (suc (suc n)) l) above) h (e ∙ ap (λ v. out ++ on_node (cut (suc (suc n)) l) v ∷ []) k.1)
+-- that on the next node of the way, above the parent
+pub one_more : (above last : Mode) (n : ℕ) (l : Label) (old out new whole : List Request) → 1 ≤ n → GainedAllBut old out whole (on_each above last (cuts (suc n) l)) → new ≡ out ++ on_node (cut (suc n) l) above ∷ [] → GainedAllBut old new whole (on_each above last (cuts n l))
+one_more above last zero l old out new whole k h e = absurd (omega (arith, k))
+one_more above last (suc n) l old out new whole k h e = added_one old out new whole (on_each above last (cuts (suc n) l)) (on_node (cut (suc (suc n)) l) above) h e
 
 -- nothing was added yet
 pub nothing_added : (old whole : List Request) → GainedAllBut old old whole whole
@@ -31,6 +25,10 @@ nothing_added old whole = record { prefix = []; gained = sym (append-nil old); a
 -- where all is added
 pub all_added : (old new whole : List Request) → GainedAllBut old new whole [] → new ≡ old ++ whole
 all_added old new whole h = h.gained ∙ ap (λ v. old ++ v) (sym (append-nil h.prefix) ∙ h.all)
+
+-- that on the parent, which is the last
+pub last_one : (above last : Mode) (l : Label) (old out new whole : List Request) → GainedAllBut old out whole (on_each above last (cuts 1 l)) → new ≡ out ++ on_node (cut 1 l) last ∷ [] → new ≡ old ++ whole
+last_one above last l old out new whole h e = all_added old new whole (added_one old out new whole [] (on_node (cut 1 l) last) h e)
 
 -- the list goes on behind what it was, whatever it has gained so far
 pub goes_on : (old new whole rest : List Request) → GainedAllBut old new whole rest → GoesOn old new

@@ -23,7 +23,7 @@ fn adds(alloc: Global, resource: Resource, ask: Ask, want: &str) -> Result<bool,
     requires { IsTrue (has_row resource ask) }
 {
     let mut requests = List::new(alloc);
-    with_intentions(alloc, &resource, ask, &mut requests)?;
+    with_intentions(alloc, resource, ask, &mut requests)?;
     are_shown(alloc, requests.as_slice(), want)
 }
 

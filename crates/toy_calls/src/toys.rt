@@ -51,7 +51,7 @@ fn ask_node(alloc: Global, at: &Label, mode: Mode, out: &mut List<Request>) -> R
     ensures err { OnErr result (out.new ≡ out.old) }
 {
     let resource = Resource::Node(at.copy(alloc)?);
-    with_intentions(alloc, &resource, Ask::Node(mode), out)
+    with_intentions(alloc, resource, Ask::Node(mode), out)
 }
 
 /// What a record says of its node.

@@ -9,10 +9,10 @@ way_to : (l m : Label) → l ≡ m → is_label l ≡ true → IsWayDown (ancest
 way_to l m e h = subst (λ k. IsWayDown (ancestors k ++ k ∷ [])) e (way_down l h)
 
 pub returns-then-is_err-clause-nodes : goal.returns-then-is_err-clause-nodes
-returns-then-is_err-clause-nodes c = nodes_down c.args.resource.now c.args.ask
+returns-then-is_err-clause-nodes c = nodes_down c.args.resource c.args.ask
 
 pub returns-else-is_err-clause-nodes : goal.returns-else-is_err-clause-nodes
-returns-else-is_err-clause-nodes c = nodes_down c.args.resource.now c.args.ask
+returns-else-is_err-clause-nodes c = nodes_down c.args.resource c.args.ask
 
 pub returns-then-is_err-clause-way : goal.returns-then-is_err-clause-way
 returns-then-is_err-clause-way c = way_to _ _ c.label.ensures c.divisions-divisions.ensures.label.0
@@ -21,7 +21,7 @@ pub returns-else-is_err-clause-way : goal.returns-else-is_err-clause-way
 returns-else-is_err-clause-way c = way_to _ _ c.label.ensures c.divisions-divisions.ensures.label.0
 
 pub returns-then-is_err-clause-fits : goal.returns-then-is_err-clause-fits
-returns-then-is_err-clause-fits c = all_fit c.args.resource.now c.args.ask c.requires
+returns-then-is_err-clause-fits c = all_fit c.args.resource c.args.ask c.requires
 
 pub returns-else-is_err-clause-fits : goal.returns-else-is_err-clause-fits
-returns-else-is_err-clause-fits c = all_fit c.args.resource.now c.args.ask c.requires
+returns-else-is_err-clause-fits c = all_fit c.args.resource c.args.ask c.requires
