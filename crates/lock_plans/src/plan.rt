@@ -36,11 +36,12 @@ impl Model for Plan {
 }
 
 impl Plan {
+    /// The plan of no requests yet.
     pub fn new(alloc: Global) -> Plan
         ensures { result ≡ [] }
     {
         Plan {
-            requests: List::new(alloc),
+            requests: with_room(alloc),
         }
     }
 
@@ -87,7 +88,7 @@ impl Plan {
         ensures { OnOk result (self.new ≡ self.old ++ with_intentions (AttrRoot at.now) (ask.Node LR)) }
     {
         let resource = Resource::AttrRoot(at.copy(alloc)?);
-        self.ask(alloc, &resource, Ask::Node(Mode::LR))
+        self.ask(alloc, resource, Ask::Node(Mode::LR))
     }
 
     /// Asks to read an attribute, whether it is there or not.
@@ -95,7 +96,7 @@ impl Plan {
         ensures { OnOk result (self.new ≡ self.old ++ with_intentions (Attr at.now name.now) (ask.Node NR)) }
     {
         let resource = Resource::Attr(at.copy(alloc)?, name.copy(alloc)?);
-        self.ask(alloc, &resource, Ask::Node(Mode::NR))
+        self.ask(alloc, resource, Ask::Node(Mode::NR))
     }
 
     /// Asks to change an attribute.
@@ -103,7 +104,7 @@ impl Plan {
         ensures { OnOk result (self.new ≡ self.old ++ with_intentions (Attr at.now name.now) (ask.Node SX)) }
     {
         let resource = Resource::Attr(at.copy(alloc)?, name.copy(alloc)?);
-        self.ask(alloc, &resource, Ask::Node(Mode::SX))
+        self.ask(alloc, resource, Ask::Node(Mode::SX))
     }
 
     /// Asks which node stands at an edge, if one does.
@@ -217,7 +218,7 @@ impl Plan {
         ensures { OnOk result (self.new ≡ self.old ++ with_intentions (Node at.now) (ask.Node mode)) }
     {
         let resource = Resource::Node(at.copy(alloc)?);
-        self.ask(alloc, &resource, Ask::Node(mode))
+        self.ask(alloc, resource, Ask::Node(mode))
     }
 
     fn ask_edge(
@@ -230,16 +231,26 @@ impl Plan {
         ensures { OnOk result (self.new ≡ self.old ++ with_intentions (Edge at.now side) (ask.Edge mode)) }
     {
         let resource = Resource::Edge(at.copy(alloc)?, side);
-        self.ask(alloc, &resource, Ask::Edge(mode))
+        self.ask(alloc, resource, Ask::Edge(mode))
     }
 
     /// Asks for a mode, with the intentions that it owes.
     #[tactic(auto, using(crate::proofs::PlanLaws::all_append))]
-    fn ask(&mut self, alloc: Global, resource: &Resource, mode: Ask) -> Result<(), NoMemory>
-        requires { IsTrue (has_row resource.now mode) }
-        ensures { OnOk result (self.new ≡ self.old ++ with_intentions resource.now mode) }
+    fn ask(&mut self, alloc: Global, resource: Resource, mode: Ask) -> Result<(), NoMemory>
+        requires { IsTrue (has_row resource mode) }
+        ensures { OnOk result (self.new ≡ self.old ++ with_intentions resource mode) }
     {
         with_intentions(alloc, resource, mode, &mut self.requests)
+    }
+}
+
+/// The empty list, with room for eight requests, or with none where there is no memory for that.
+fn with_room(alloc: Global) -> List<Request>
+    ensures { result ≡ [] }
+{
+    match Vec::with_capacity(alloc, 8) {
+        Ok(requests) => List::from_vec(requests),
+        Err(_) => List::new(alloc),
     }
 }
 
