@@ -1,14 +1,17 @@
 //! The requests of all calls in one.
-ghost use Rattle.std.specs.Prelude.{◌≡◌, ◌++◌, OnErr};
+ghost use Rattle.std.specs.Prelude.{◌≡◌, ◌++◌, false, IfOk, IfSome, IsSome, IsTrue, OnErr};
 ghost use Rattle.std.specs.List.{AllByRecursion};
 ghost use Rattle.lock_resources.specs.Resources.{Fits};
+ghost use Rattle.tree_model.specs.DomCalls.{dom};
 ghost use Rattle.node_seq.specs.Trees.{OnTree};
 ghost use Rattle.outside_traits.specs.Faults.{HasCause};
+ghost use Rattle.dom_reads.specs.Reading.{is_reading};
 ghost use Rattle.lock_plans.specs.DomPlans.{requests};
+ghost use Rattle.lock_plans.specs.inside.PlanSteps.{leads_on};
 
 use crate::attributes::{attr, attrs, remove_attr, rename, set_attr};
 use crate::documents::{create, doc, docs, drop_document};
-use crate::navigation::{children, first, last, next, node, parent, prev};
+use crate::navigation::{Planned, children, first, last, next, node, parent, prev};
 use crate::placing::{append, insert, remove, replace};
 use crate::plan::Plan;
 use crate::subtrees::{normalize, text_content, whole_tree};
@@ -17,29 +20,53 @@ use dewey_labels::List;
 use lock_resources::Request;
 use node_seq::{NodeRead, SeqError};
 use std::alloc::Global;
-use tree_model::DomCall;
+use tree_model::{DomCall, Reply};
 
 /// Adds what a call asks for on the tree that a map stands for, each request with its intentions before it.
 /// It makes a few reads of the map, none of which goes over a subtree or a row of siblings.
+/// Where these find out the call's reply, as those of `first`, `last`, `next` and `prev` do, it answers that.
 pub fn dom_requests<S: NodeRead>(
     alloc: Global,
     call: &DomCall,
     seq: &mut S,
     out: &mut List<Request>,
-) -> Result<(), SeqError>
+) -> Result<Option<Reply>, SeqError>
     ensures value { OnTree (S.contents seq.old) result (λ t _. out.new ≡ out.old ++ requests call.now t) }
+    ensures reply { OnTree (S.contents seq.old) result (λ t known. IfSome known (λ reply. reply ≡ (dom call.now t).0)) }
+    ensures reading { IfOk result (λ known. IsSome known → IsTrue (is_reading call.now)) }
     ensures fits { AllByRecursion Fits out.old → AllByRecursion Fits out.new }
     ensures err { OnErr result (out.new ≡ out.old) }
     ensures unchanged { S.unchanged seq.old seq.new }
     ensures cause { HasCause SeqError.DiskFault (S.count seq.old) (S.count seq.new) result }
 {
-    let plan = plan_of(alloc, call, seq)?;
+    let Planned { plan, reply } = planned(alloc, call, seq)?;
     plan.append_to(out)?;
-    Ok(())
+    Ok(reply)
 }
 
-/// The requests of a call.
+/// The requests of a call, and its reply where it leads on from a node.
+fn planned<S: NodeRead>(alloc: Global, call: &DomCall, seq: &mut S) -> Result<Planned, SeqError>
+    ensures value { OnTree (S.contents seq.old) result (λ t planned. planned.plan ≡ requests call.now t) }
+    ensures reply { OnTree (S.contents seq.old) result (λ t planned. IfSome planned.reply (λ reply. reply ≡ (dom call.now t).0)) }
+    ensures reading { IfOk result (λ planned. IsSome planned.reply → IsTrue (is_reading call.now)) }
+    ensures unchanged { S.unchanged seq.old seq.new }
+    ensures cause { HasCause SeqError.DiskFault (S.count seq.old) (S.count seq.new) result }
+{
+    match call {
+        DomCall::First(at) => first(alloc, at, seq),
+        DomCall::Last(at) => last(alloc, at, seq),
+        DomCall::Next(at) => next(alloc, at, seq),
+        DomCall::Prev(at) => prev(alloc, at, seq),
+        _ => Ok(Planned {
+            plan: plan_of(alloc, call, seq)?,
+            reply: None,
+        }),
+    }
+}
+
+/// The requests of a call that doesn't lead on from a node.
 fn plan_of<S: NodeRead>(alloc: Global, call: &DomCall, seq: &mut S) -> Result<Plan, SeqError>
+    requires { leads_on call.now ≡ false }
     ensures value { OnTree (S.contents seq.old) result (λ t plan. plan ≡ requests call.now t) }
     ensures unchanged { S.unchanged seq.old seq.new }
     ensures cause { HasCause SeqError.DiskFault (S.count seq.old) (S.count seq.new) result }
@@ -49,10 +76,7 @@ fn plan_of<S: NodeRead>(alloc: Global, call: &DomCall, seq: &mut S) -> Result<Pl
         DomCall::Doc(name) => Ok(doc(alloc, name)?),
         DomCall::Node(at) => Ok(node(alloc, at)?),
         DomCall::Parent(at) => parent(alloc, at, seq),
-        DomCall::First(at) => first(alloc, at, seq),
-        DomCall::Last(at) => last(alloc, at, seq),
-        DomCall::Next(at) => next(alloc, at, seq),
-        DomCall::Prev(at) => prev(alloc, at, seq),
+        DomCall::First(_) | DomCall::Last(_) | DomCall::Next(_) | DomCall::Prev(_) => unreachable!(),
         DomCall::Children(at) => children(alloc, at, seq),
         DomCall::Attr(at, name) => attr(alloc, at, name, seq),
         DomCall::HasAttr(at, name) => attr(alloc, at, name, seq),

@@ -1,6 +1,7 @@
 //! The requests of the calls that lead from node to node.
-ghost use Rattle.std.specs.Prelude.{◌≡◌, ℕ, IfOk};
+ghost use Rattle.std.specs.Prelude.{◌≡◌, ℕ, Some, IfOk};
 ghost use Rattle.tree_model.specs.declared.dom_call.DomCall.TheVariants as call;
+ghost use Rattle.tree_model.specs.DomCalls.{dom};
 ghost use Rattle.tree_model.specs.Tree.{Tree};
 ghost use Rattle.node_seq.specs.Trees.{OnTree};
 ghost use Rattle.outside_traits.specs.Faults.{HasCause};
@@ -8,10 +9,31 @@ ghost use Rattle.lock_plans.specs.DomPlans.{requests};
 
 use crate::plan::Plan;
 use dewey_labels::{Label, NoMemory};
-use dom_reads::{first_below, is_document, last_below, next_sibling, previous_sibling};
+use dom_reads::{first_below, is_document, last_below, next_sibling, not_found, previous_sibling};
 use lock_resources::Side;
 use node_seq::{NodeRead, SeqError};
 use std::alloc::Global;
+use tree_model::Reply;
+
+/// The requests of a call, and its reply where the steps to them found it out.
+#[derive(Drop)]
+pub struct Planned {
+    pub plan: Plan,
+    pub reply: Option<Reply>,
+}
+
+impl Plan {
+    /// The plan, with the reply that its steps found out.
+    fn answered(self, reply: Reply) -> Planned
+        ensures plan { result.plan ≡ self }
+        ensures reply { result.reply ≡ Some reply }
+    {
+        Planned {
+            plan: self,
+            reply: Some(reply),
+        }
+    }
+}
 
 /// The requests of `node`, `length` and `substring`: a test behind the last request leaves it the last. It reads nothing.
 pub fn node(alloc: Global, at: &Label) -> Result<Plan, NoMemory>
@@ -41,74 +63,78 @@ pub fn parent<S: NodeRead>(alloc: Global, at: &Label, seq: &mut S) -> Result<Pla
     Ok(plan)
 }
 
-/// The requests of `first`. One read where there is a child, and two where there is none.
-pub fn first<S: NodeRead>(alloc: Global, at: &Label, seq: &mut S) -> Result<Plan, SeqError>
-    ensures value { OnTree (S.contents seq.old) result (λ t plan. plan ≡ requests (call.First at.now) t) }
+/// The requests of `first`, and its reply. One read where there is a child, and two where there is none.
+pub fn first<S: NodeRead>(alloc: Global, at: &Label, seq: &mut S) -> Result<Planned, SeqError>
+    ensures value { OnTree (S.contents seq.old) result (λ t planned. planned.plan ≡ requests (call.First at.now) t) }
+    ensures reply { OnTree (S.contents seq.old) result (λ t planned. planned.reply ≡ Some (dom (call.First at.now) t).0) }
     ensures unchanged { S.unchanged seq.old seq.new }
     ensures cause { HasCause SeqError.DiskFault (S.count seq.old) (S.count seq.new) result }
 {
     let mut plan = Plan::new(alloc);
     plan.read_node(alloc, at)?;
     let Some(child) = first_below(alloc, at, seq)? else {
-        return Ok(plan);
+        return Ok(plan.answered(not_found()));
     };
     plan.read_edge(alloc, at, Side::First)?;
     plan.read_found(alloc, &child)?;
-    Ok(plan)
+    Ok(plan.answered(Reply::Place(child)))
 }
 
-/// The requests of `last`. One read where there is a child, and two where there is none.
-pub fn last<S: NodeRead>(alloc: Global, at: &Label, seq: &mut S) -> Result<Plan, SeqError>
-    ensures value { OnTree (S.contents seq.old) result (λ t plan. plan ≡ requests (call.Last at.now) t) }
+/// The requests of `last`, and its reply. One read where there is a child, and two where there is none.
+pub fn last<S: NodeRead>(alloc: Global, at: &Label, seq: &mut S) -> Result<Planned, SeqError>
+    ensures value { OnTree (S.contents seq.old) result (λ t planned. planned.plan ≡ requests (call.Last at.now) t) }
+    ensures reply { OnTree (S.contents seq.old) result (λ t planned. planned.reply ≡ Some (dom (call.Last at.now) t).0) }
     ensures unchanged { S.unchanged seq.old seq.new }
     ensures cause { HasCause SeqError.DiskFault (S.count seq.old) (S.count seq.new) result }
 {
     let mut plan = Plan::new(alloc);
     plan.read_node(alloc, at)?;
     let Some(child) = last_below(alloc, at, seq)? else {
-        return Ok(plan);
+        return Ok(plan.answered(not_found()));
     };
     plan.read_edge(alloc, at, Side::Last)?;
     plan.read_found(alloc, &child)?;
-    Ok(plan)
+    Ok(plan.answered(Reply::Place(child)))
 }
 
-/// The requests of `next`. Two reads.
-pub fn next<S: NodeRead>(alloc: Global, at: &Label, seq: &mut S) -> Result<Plan, SeqError>
-    ensures value { OnTree (S.contents seq.old) result (λ t plan. plan ≡ requests (call.Next at.now) t) }
+/// The requests of `next`, and its reply. Two reads.
+pub fn next<S: NodeRead>(alloc: Global, at: &Label, seq: &mut S) -> Result<Planned, SeqError>
+    ensures value { OnTree (S.contents seq.old) result (λ t planned. planned.plan ≡ requests (call.Next at.now) t) }
+    ensures reply { OnTree (S.contents seq.old) result (λ t planned. planned.reply ≡ Some (dom (call.Next at.now) t).0) }
     ensures unchanged { S.unchanged seq.old seq.new }
     ensures cause { HasCause SeqError.DiskFault (S.count seq.old) (S.count seq.new) result }
 {
     let mut plan = Plan::new(alloc);
     let Some(found) = plan.see(alloc, at, seq)? else {
-        return Ok(plan);
+        return Ok(plan.answered(not_found()));
     };
     if is_document(&found) {
-        return Ok(plan);
+        return Ok(plan.answered(Reply::Place(None)));
     }
     plan.read_edge(alloc, at, Side::Next)?;
     let sibling = next_sibling(alloc, at, seq)?;
     plan.read_found(alloc, &sibling)?;
-    Ok(plan)
+    Ok(plan.answered(Reply::Place(sibling)))
 }
 
-/// The requests of `prev`. Two reads.
-pub fn prev<S: NodeRead>(alloc: Global, at: &Label, seq: &mut S) -> Result<Plan, SeqError>
-    ensures value { OnTree (S.contents seq.old) result (λ t plan. plan ≡ requests (call.Prev at.now) t) }
+/// The requests of `prev`, and its reply. Two reads.
+pub fn prev<S: NodeRead>(alloc: Global, at: &Label, seq: &mut S) -> Result<Planned, SeqError>
+    ensures value { OnTree (S.contents seq.old) result (λ t planned. planned.plan ≡ requests (call.Prev at.now) t) }
+    ensures reply { OnTree (S.contents seq.old) result (λ t planned. planned.reply ≡ Some (dom (call.Prev at.now) t).0) }
     ensures unchanged { S.unchanged seq.old seq.new }
     ensures cause { HasCause SeqError.DiskFault (S.count seq.old) (S.count seq.new) result }
 {
     let mut plan = Plan::new(alloc);
     let Some(found) = plan.see(alloc, at, seq)? else {
-        return Ok(plan);
+        return Ok(plan.answered(not_found()));
     };
     if is_document(&found) {
-        return Ok(plan);
+        return Ok(plan.answered(Reply::Place(None)));
     }
     plan.read_edge(alloc, at, Side::Prev)?;
     let sibling = previous_sibling(alloc, at, seq)?;
     plan.read_found(alloc, &sibling)?;
-    Ok(plan)
+    Ok(plan.answered(Reply::Place(sibling)))
 }
 
 /// The requests of `children`. One read, whatever lies below.

@@ -11,6 +11,8 @@ use Rattle.lock_resources.specs.declared.resource.Side.TheVariants.{First, Last,
 use Rattle.lock_resources.specs.declared.resource.Resource.TheVariants.{Node, Edge}
 use Rattle.lock_resources.specs.declared.request.Request.{Request}
 use Rattle.lock_resources.specs.Intentions.{with_intentions}
+use Rattle.tree_model.specs.declared.dom_call.DomCall.{DomCall}
+use Rattle.tree_model.specs.declared.dom_call.DomCall.TheVariants as call
 use Rattle.tree_model.specs.declared.record.Record.{Record}
 use Rattle.tree_model.specs.declared.record.Record.TheVariants.{Text}
 use Rattle.tree_model.specs.declared.refusal.Refusal.TheVariants.{TooDeep}
@@ -21,6 +23,14 @@ use Rattle.tree_model.specs.Placing.{is_too_deep}
 use Rattle.tree_model.specs.Tree.{Tree, none, node, at, last_child_of, last_label, next_of, prev_of}
 use Rattle.tree_model.specs.ValidTrees.{same_label}
 use Rattle.lock_plans.specs.Plans.{Step, before, end_of, ends, grafted, in_turn, place, refuses, take_edge, take_out, take_right, take_tree}
+
+-- whether a call leads on from a node, to the one that stands first or last below it or beside it
+abbrev pub leads_on : DomCall → Bool
+leads_on (call.First l) = true
+leads_on (call.Last l) = true
+leads_on (call.Next l) = true
+leads_on (call.Prev l) = true
+leads_on c = false
 
 -- the node that was found is read, if one was
 abbrev pub reads_found : Option Label → List Request

@@ -1,11 +1,13 @@
-use Rattle.std.proofs.Common.{◌≡◌, Some, sym, ap, not, ◌++◌, ◌∙◌}
+use Rattle.std.proofs.Common.{◌≡◌, Some, None, sym, ap, not, ◌++◌, ◌∙◌}
 use Rattle.lock_modes.specs.declared.edge_mode.EdgeMode.TheVariants.{ER}
 use Rattle.lock_resources.specs.declared.resource.Side.TheVariants.{Next}
 use Rattle.tree_model.specs.declared.dom_call.DomCall.TheVariants as call
+use Rattle.tree_model.specs.declared.reply.Reply.TheVariants.{Place}
 use Rattle.tree_model.specs.DomCalls.{dom}
+use Rattle.tree_model.specs.Navigation.{unless_document}
 use Rattle.tree_model.specs.Tree.{at, next_of, record_of}
 use Rattle.tree_model.specs.StoredTree.{is_document_record}
-use Rattle.dom_reads.proofs.ReplyLaws.{later}
+use Rattle.dom_reads.proofs.ReplyLaws.{beside_reply, document_reply, later, nothing_seen}
 use Rattle.lock_plans.specs.inside.PlanSteps.{reads_found}
 use Rattle.lock_plans.proofs.Causes.{answer_cause, fault_cause, memory_cause}
 use Rattle.lock_plans.proofs.PlanLaws.{begun, document_is, edge_asks, grown, past, joined, found_at_end, sees, there}
@@ -22,7 +24,28 @@ returns-clause-value g c = λ t stands.
     let asked = grown _ (grown _ (begun _ c.new-plan.ensures c.in_ok-found.ensures.asks) c.in_ok-read_edge.ensures) c.in_ok-read_found.ensures in
     let w = sees l in
     let r = edge_asks l Next ER in
-    past w _ (ap not is_there) (past w _ other (joined w r _ (found_at_end (w ++ r) (next_of (at l t.documents)) (dom (call.Next l) t) (asked ∙ ap (λ o. (w ++ r) ++ reads_found o) sibling))))
+    c.answered-2.ensures.plan ∙ past w _ (ap not is_there) (past w _ other (joined w r _ (found_at_end (w ++ r) (next_of (at l t.documents)) (dom (call.Next l) t) (asked ∙ ap (λ o. (w ++ r) ++ reads_found o) sibling))))
+
+pub returns-clause-reply : goal.returns-clause-reply
+returns-clause-reply g c = λ t stands.
+    let l = c.args.at.now in
+    let node = at l t.documents in
+    let e : Some c.in-Some.found ≡ record_of node = sym c.in-Some.is ∙ c.in_ok-found.ensures.found t stands in
+    let now = later _ _ t (g.met.S.NodeRead.unchanged_contents _ _ c.see.ensures.unchanged) stands in
+    let sibling = c.in_ok-sibling.ensures.found t now (there node c.in-Some.found e) in
+    c.answered-2.ensures.reply ∙ ap Some (ap Place sibling ∙ beside_reply next_of node c.in-Some.found e (sym c.is_document.ensures ∙ c.if-is_document.false))
+
+pub returns-then-is_document-clause-reply : goal.returns-then-is_document-clause-reply
+returns-then-is_document-clause-reply g c = λ t stands.
+    let node = at c.args.at.now t.documents in
+    let e : Some c.in-Some.found ≡ record_of node = sym c.in-Some.is ∙ c.in_ok-found.ensures.found t stands in
+    c.answered-then-is_document.ensures.reply ∙ ap Some (document_reply next_of node c.in-Some.found e (sym c.is_document.ensures ∙ c.if-is_document.true))
+
+pub returns-in_default-clause-reply : goal.returns-in_default-clause-reply
+returns-in_default-clause-reply g c = λ t stands.
+    let node = at c.args.at.now t.documents in
+    let e : None ≡ record_of node = sym c.in_default.is ∙ c.in_ok-found.ensures.found t stands in
+    c.answered.ensures.reply ∙ ap Some (c.not_found.ensures ∙ nothing_seen (λ h. unless_document (next_of h) h) node e)
 
 pub returns-clause-unchanged : goal.returns-clause-unchanged
 returns-clause-unchanged g c = g.met.S.NodeRead.unchanged_onward _ _ _ c.see.ensures.unchanged c.next_sibling.ensures.unchanged
