@@ -1,5 +1,5 @@
 -- What a call means, and the laws by which its transaction can be made again on another tree (docs/PROFILE.md, "Laws of calls").
-use Rattle.std.specs.Prelude.{◌≡◌, ℕ, suc, true, false, List, take}
+use Rattle.std.specs.Prelude.{◌≡◌, ℕ, suc, true, false, List, [], take}
 use Rattle.lock_resources.specs.declared.request.Request.{Request}
 use Rattle.tree_model.specs.declared.reply.Reply.{Reply}
 use Rattle.tree_model.specs.declared.change.Change.{Change}
@@ -20,6 +20,11 @@ pub record CallMeaning (C : Type 0) : Type 0 where
 -- the changes of a call on a tree: one for each key whose record differs after it, and no other
 abbrev pub changes_of : {C : Type 0} → CallMeaning C → C → Tree → List Change
 changes_of m c t = differences (map_of t) (map_of (m.after c t))
+
+-- the call is answered this, and changes nothing
+pub record OnlyAnswers {C : Type 0} (m : CallMeaning C) (c : C) (t : Tree) (answer : Reply) : Type 0 where
+  pub reply : answer ≡ m.reply c t
+  pub changes : changes_of m c t ≡ []
 
 -- the form of the requests, and four laws; what is covered is covered by the call's own requests on the first tree
 pub record CallLaws (C : Type 0) (is_valid : C → Type 0) (m : CallMeaning C) : Type 0 where

@@ -1,12 +1,12 @@
 //! The trait of calls, with the laws that each implementation proves.
-ghost use Rattle.std.specs.Prelude.{◌≡◌, ◌++◌, [], OnErr};
+ghost use Rattle.std.specs.Prelude.{◌≡◌, ◌++◌, [], IfSome, OnErr};
 ghost use Rattle.std.specs.List.{AllByRecursion};
 ghost use Rattle.lock_resources.specs.Resources.{Fits};
 ghost use Rattle.outside_traits.specs.Faults.{HasCause};
 ghost use Rattle.node_seq.specs.declared.node_read.SeqError.TheVariants.{DiskFault};
 ghost use Rattle.node_seq.specs.ChangeLists.{IsChangeList};
 ghost use Rattle.node_seq.specs.Trees.{OnTree};
-ghost use Rattle.call_contract.specs.Calls.{CallMeaning, CallLaws, changes_of};
+ghost use Rattle.call_contract.specs.Calls.{CallMeaning, CallLaws, OnlyAnswers, changes_of};
 
 use dewey_labels::List;
 use lock_resources::Request;
@@ -25,13 +25,15 @@ pub trait TreeCall {
     ghost is_valid: { Self → Type 0 };
 
     /// Adds what the call asks for on the tree, each request with its intentions before it.
+    /// Where that shows the reply of a call that changes nothing, it is answered, and `apply` would answer the same.
     fn requests<S: NodeRead>(
         &self,
         alloc: Global,
         seq: &mut S,
         out: &mut List<Request>,
-    ) -> Result<(), SeqError>
+    ) -> Result<Option<Reply>, SeqError>
         ensures value { OnTree (S.contents seq.old) result (λ t _. out.new ≡ out.old ++ meaning.requests self.now t) }
+        ensures known { OnTree (S.contents seq.old) result (λ t known. IfSome known (OnlyAnswers meaning self.now t)) }
         ensures fits { AllByRecursion Fits out.old → AllByRecursion Fits out.new }
         ensures err { OnErr result (out.new ≡ out.old) }
         ensures valid { is_valid self.now }

@@ -122,10 +122,9 @@ fn fails_at_each(
     for read in 1..=plan_reads {
         map.count_anew(read);
         let mut requests = List::new(alloc);
-        if op.requests(alloc, map, &mut requests) != Err(SeqError::DiskFault)
-            || !requests.is_empty()
-        {
-            return Ok(false);
+        match op.requests(alloc, map, &mut requests) {
+            Err(SeqError::DiskFault) if requests.is_empty() => (),
+            _ => return Ok(false),
         }
     }
     for read in 1..=call_reads {

@@ -1,15 +1,20 @@
 -- Calls that read alone leave the tree, and have no changes.
-use Rattle.std.specs.Prelude.{Result, Ok, Err, IfOk}
+use Rattle.std.specs.Prelude.{Option, Some, None, Result, Ok, Err, IfOk, IfSome, IsSome, IsTrue}
 use Rattle.std.proofs.Common.{◌≡◌, [], ap, refl, sym, ◌∙◌, true, true≢false}
 use Rattle.tree_model.specs.declared.dom_call.DomCall.{DomCall}
 use Rattle.tree_model.specs.declared.dom_call.DomCall.TheVariants as call
 use Rattle.tree_model.specs.DomCalls.{dom}
+use Rattle.tree_model.specs.Entries.{Entries}
+use Rattle.tree_model.specs.declared.reply.Reply.{Reply}
 use Rattle.tree_model.specs.Changes.{differences}
 use Rattle.tree_model.specs.Tree.{Tree, map_of}
 use Rattle.tree_model.specs.ValidTrees.{IsValidTree}
 use Rattle.tree_model.proofs.WholeTree.{map_sorted}
 use Rattle.tree_changes.proofs.ChangeLists.{no_differences}
+use Rattle.node_seq.specs.Trees.{OnTree}
 use Rattle.dom_reads.specs.Reading.{is_reading}
+use Rattle.call_contract.specs.Calls.{OnlyAnswers}
+use Rattle.dom_laws.specs.Meaning.{dom_meaning}
 
 pub reading_leaves : (c : DomCall) (t : Tree) → is_reading c ≡ true → (dom c t).1 ≡ t
 reading_leaves call.Docs t reads = refl
@@ -54,3 +59,11 @@ reading_changes_nothing c t w reads = ap (λ u. differences (map_of t) (map_of u
 pub of_every_answer : {A E : Type 0} (r : Result A E) (P : A → Type 0) → ((x : A) → P x) → IfOk r P
 of_every_answer (Ok x) P all = all x
 of_every_answer (Err e) P all = tt
+
+-- a reply of a call that reads alone is all that the call does
+pub only_answers : {E : Type 0} (told : Option Entries) (c : DomCall) (r : Result (Option Reply) E)
+    → OnTree told r (λ t known. IfSome known (λ answer. answer ≡ (dom c t).0)) → IfOk r (λ known. IsSome known → IsTrue (is_reading c))
+    → OnTree told r (λ t known. IfSome known (OnlyAnswers dom_meaning c t))
+only_answers told c (Err e) replies reads = tt
+only_answers told c (Ok None) replies reads = λ t stands. tt
+only_answers told c (Ok (Some answer)) replies reads = λ t stands. record { reply = replies t stands; changes = reading_changes_nothing c t stands.valid (reads refl) }

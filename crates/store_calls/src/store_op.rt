@@ -87,7 +87,7 @@ impl TreeCall for StoreOp {
         alloc: Global,
         seq: &mut S,
         out: &mut List<Request>,
-    ) -> Result<(), SeqError> {
+    ) -> Result<Option<Reply>, SeqError> {
         dom_requests(alloc, self.dom(), seq, out)
     }
 

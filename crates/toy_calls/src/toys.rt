@@ -95,10 +95,10 @@ impl TreeCall for Look {
         alloc: Global,
         _seq: &mut S,
         out: &mut List<Request>,
-    ) -> Result<(), SeqError> {
+    ) -> Result<Option<Reply>, SeqError> {
         let _divisions = self.at.divisions();
         ask_node(alloc, &self.at, Mode::NR, out)?;
-        Ok(())
+        Ok(None)
     }
 
     fn apply<S: NodeRead>(
@@ -136,10 +136,10 @@ impl TreeCall for Clear {
         alloc: Global,
         _seq: &mut S,
         out: &mut List<Request>,
-    ) -> Result<(), SeqError> {
+    ) -> Result<Option<Reply>, SeqError> {
         let _divisions = self.at.divisions();
         ask_node(alloc, &self.at, Mode::SX, out)?;
-        Ok(())
+        Ok(None)
     }
 
     fn apply<S: NodeRead>(
@@ -225,9 +225,9 @@ impl TreeCall for Never {
         _alloc: Global,
         _seq: &mut S,
         _out: &mut List<Request>,
-    ) -> Result<(), SeqError> {
+    ) -> Result<Option<Reply>, SeqError> {
         let _divisions = self.at.divisions();
-        Ok(())
+        Ok(None)
     }
 
     fn apply<S: NodeRead>(

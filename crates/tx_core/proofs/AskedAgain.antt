@@ -32,6 +32,7 @@ use Rattle.tx_core.specs.declared.parts.Seat.{Seat}
 use Rattle.tx_core.specs.declared.asking.Got.{Got}
 use Rattle.tx_core.specs.declared.asking.Got.TheVariants.{All, Barred, NoMemory}
 use Rattle.tx_core.specs.declared.asking.Outcome.{Outcome}
+use Rattle.tx_core.specs.declared.asking.Wanted.{Wanted}
 use Rattle.tx_core.specs.inside.Asking.{AreGranted, IsGot, granted_in}
 use Rattle.tx_core.specs.inside.Standing.{Stands, seat_in, grants_of}
 use Rattle.tx_core.specs.inside.Goes.{IsMade}
@@ -85,12 +86,12 @@ module _ {C B : Type 0} (is_valid : C → Type 0) (m : CallMeaning C) (told : B 
   same_call p s book x c same is waits = ap (λ (o : Option C). unwrap_or o x) (is ∙ ap (λ (b : Book C). call_in b (seat_in (tree.get nat_cmp p.places s))) same ∙ waits)
 
   -- what a call that waits asks for
-  pub asked_again : (laws : CallLaws C is_valid m) (p : Parts C B) (s : ℕ) (seat : Seat) (book : Book C) (x : C) (r : Result (List Request) SeqError)
+  pub asked_again : (laws : CallLaws C is_valid m) (p : Parts C B) (s : ℕ) (seat : Seat) (book : Book C) (x : C) (r : Result Wanted SeqError)
       → seat_in (tree.get nat_cmp p.places s) ≡ Some seat → book ≡ p.book.items → Some x ≡ call_in book (seat_in (tree.get nat_cmp p.places s))
-      → OnTree (contents_after seat.own (contents_after p.layers.changes (told p.base))) r (λ t asks. asks ≡ m.requests x t)
-      → IfOk r (λ asks. (c : C) → waiting_call p s ≡ Some c → (st : State C) (t : Live C) → Stands is_valid m told p st → of_session s st.live ≡ Some t → asks ≡ machine.asked m st t c)
+      → OnTree (contents_after seat.own (contents_after p.layers.changes (told p.base))) r (λ t wanted. wanted.requests ≡ m.requests x t)
+      → IfOk r (λ wanted. (c : C) → waiting_call p s ≡ Some c → (st : State C) (t : Live C) → Stands is_valid m told p st → of_session s st.live ≡ Some t → wanted.requests ≡ machine.asked m st t c)
   asked_again laws p s seat book x (Err e) there same is value = tt
-  asked_again laws p s seat book x (Ok asks) there same is value = λ c waits st t stands found.
+  asked_again laws p s seat book x (Ok wanted) there same is value = λ c waits st t stands found.
       value (view m t.calls st.tree) (sees is_valid m told laws p st s seat t stands there found) ∙ ap (λ y. m.requests y (view m t.calls st.tree)) (same_call p s book x c same is waits)
 
   pub made_again : (laws : CallLaws C is_valid m) (p : Parts C B) (s : ℕ) (seat : Seat) (book : Book C) (x : C) (r : Result Outcome SeqError)

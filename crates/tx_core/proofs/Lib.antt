@@ -10,6 +10,7 @@ pub mod Holders
 pub mod Holding
 pub mod Kept
 pub mod KeptAgain
+pub mod Known
 pub mod Merged
 pub mod Moves
 pub mod Reached

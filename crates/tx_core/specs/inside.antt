@@ -3,6 +3,7 @@ pub mod Asking
 pub mod Committing
 pub mod Goes
 pub mod Kept
+pub mod Known
 pub mod Retrying
 pub mod Standing
 pub mod Sessions

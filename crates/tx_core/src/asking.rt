@@ -1,12 +1,12 @@
 //! What a call asks for and answers on what a transaction sees, and how far its requests are granted.
 
-ghost use Rattle.std.specs.Prelude.{◌≡◌, IfOk};
+ghost use Rattle.std.specs.Prelude.{◌≡◌, IfOk, IfSome};
 ghost use Rattle.outside_traits.specs.Faults.{HasCause};
 ghost use Rattle.node_seq.specs.declared.node_read.SeqError.TheVariants.{DiskFault};
 ghost use Rattle.node_seq.specs.ChangeLists.{IsChangeList};
 ghost use Rattle.node_seq.specs.Trees.{OnTree};
 ghost use Rattle.overlays.specs.Views.{contents_after};
-ghost use Rattle.call_contract.specs.Calls.{changes_of};
+ghost use Rattle.call_contract.specs.Calls.{OnlyAnswers, changes_of};
 ghost use Rattle.tx_core.specs.inside.Asking.{IsGot};
 
 use call_contract::TreeCall;
@@ -43,6 +43,13 @@ pub fn ask_all(alloc: Global, table: &mut LockTable, owner: u32, requests: &[Req
     Got::All
 }
 
+/// What a call asks for, and its reply where that is known by then and the call changes nothing.
+#[derive(Drop)]
+pub struct Wanted {
+    pub requests: List<Request>,
+    pub reply: Option<Reply>,
+}
+
 /// What a call asks for on what a transaction sees.
 pub fn asked<C: TreeCall, B: NodeRead>(
     alloc: Global,
@@ -50,17 +57,19 @@ pub fn asked<C: TreeCall, B: NodeRead>(
     layers: &Layers,
     own: &Overlay,
     call: &C,
-) -> Result<List<Request>, SeqError>
-    ensures value { OnTree (contents_after own.now (contents_after layers.now.changes (B.contents base.old))) result (λ t asks.
-        asks ≡ C.meaning.requests call.now t) }
+) -> Result<Wanted, SeqError>
+    ensures value { OnTree (contents_after own.now (contents_after layers.now.changes (B.contents base.old))) result (λ t wanted.
+        wanted.requests ≡ C.meaning.requests call.now t) }
+    ensures known { OnTree (contents_after own.now (contents_after layers.now.changes (B.contents base.old))) result (λ t wanted.
+        IfSome wanted.reply (OnlyAnswers C.meaning call.now t)) }
     ensures valid { C.is_valid call.now }
     ensures unchanged { B.unchanged base.old base.new }
     ensures cause { HasCause DiskFault (B.count base.old) (B.count base.new) result }
 {
-    let mut out = List::new(alloc);
+    let mut requests = List::new(alloc);
     let mut view = View { base, layers, own };
-    call.requests(alloc, &mut view, &mut out)?;
-    Ok(out)
+    let reply = call.requests(alloc, &mut view, &mut requests)?;
+    Ok(Wanted { requests, reply })
 }
 
 /// A reply, and the changes that go with it.

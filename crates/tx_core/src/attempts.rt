@@ -9,6 +9,7 @@ ghost use Rattle.call_contract.specs.States.{State, Live, of_session};
 ghost use Rattle.call_contract.specs.Waits.{cycle_through};
 ghost use Rattle.call_contract.specs.Books.{IsAbove, latest as latest_of};
 ghost use Rattle.tx_core.specs.inside.Asking.{granted_in, IsInside};
+ghost use Rattle.tx_core.specs.inside.Known.{IsKnown, seen_by};
 ghost use Rattle.outside_traits.specs.Faults.{HasCause};
 ghost use Rattle.node_seq.specs.declared.node_read.SeqError.TheVariants.{DiskFault};
 ghost use Rattle.call_contract.specs.Sessions.{live_in};
@@ -18,7 +19,7 @@ ghost use Rattle.tx_core.specs.inside.Sessions.{HasRoom, IsSeated, IsSeatedAs, w
 ghost use Rattle.tx_core.specs.inside.Standing.{Stands, seat_in, ordinal_in};
 ghost use Rattle.tx_core.specs.inside.Goes.{Stays, Goes, Reaches, IsAsked, IsMade, IsAccepted, IsAnswered, IsClosed, IsFailed, IsPut, IsStopped, IsGivenUp, IsLeft, IsSettled, IsUnanswered, call_entry, fail_entry, shown_wait, with_wait};
 
-use crate::asking::{Got, Outcome, ask_all, asked, made};
+use crate::asking::{Got, Outcome, Wanted, ask_all, asked, made};
 use crate::ends::{make_room, note, stop_waiting};
 use crate::errors::{CallError, SessionError};
 use crate::parts::{Parts, Seat};
@@ -30,15 +31,17 @@ use node_seq::{NodeRead, SeqError};
 use std::alloc::Global;
 use tree_model::Reply;
 
-/// What a call of a session asks for.
+/// What a call of a session asks for, and its reply where that is known by then.
 pub fn requests_of<C: TreeCall + Drop, B: NodeRead>(
     alloc: Global,
     parts: &mut Parts<C, B>,
     session: u32,
     call: &C,
-) -> Result<List<Request>, CallError>
+) -> Result<Wanted, CallError>
     requires { IsSeated parts.old }
-    ensures value { IfOk result (λ asks. (st : State C) → Stands C.is_valid C.meaning B.contents parts.old st → IsAsked C.meaning st session call.now asks) }
+    ensures value { IfOk result (λ wanted. (st : State C) → Stands C.is_valid C.meaning B.contents parts.old st
+        → IsAsked C.meaning st session call.now wanted.requests) }
+    ensures known { IfOk result (λ wanted. IsKnown C.is_valid C.meaning (seen_by B.contents parts.new session) call.now wanted.reply) }
     ensures valid { OnOk result (C.is_valid call.now) }
     ensures ready { OnOk result (wait_in (get nat_cmp parts.old.places session) ≡ Some None) }
     ensures refused { shown_call_refusal result ≡ refused_call (live_in parts.old.book.items session) }
@@ -55,20 +58,22 @@ pub fn requests_of<C: TreeCall + Drop, B: NodeRead>(
         return Err(CallError::Session(SessionError::IsWaiting));
     }
     match asked(alloc, &mut parts.base, &parts.layers, &seat.own, call) {
-        Ok(requests) => Ok(requests),
+        Ok(wanted) => Ok(wanted),
         Err(SeqError::DiskFault) => Err(CallError::DiskFault),
         Err(SeqError::NoMemory) => Err(CallError::NoMemory),
     }
 }
 
-/// What the call answers, and what it changes.
+/// What the call answers, and what it changes. Nothing is read where its reply is known.
 pub fn outcome_of<C: TreeCall + Drop, B: NodeRead>(
     alloc: Global,
     parts: &mut Parts<C, B>,
     session: u32,
     call: &C,
+    known: Option<Reply>,
 ) -> Result<Outcome, SeqError>
     requires seated { IsSome (seat_in (get nat_cmp parts.old.places session)) }
+    requires known { IsKnown C.is_valid C.meaning (seen_by B.contents parts.old session) call.now known }
     ensures value { IfOk result (λ outcome. (st : State C) → Stands C.is_valid C.meaning B.contents parts.old st
         → IsMade C.meaning st session call.now outcome) }
     ensures rise { IfOk result (λ outcome. IsChangeList outcome.changes) }
@@ -78,6 +83,10 @@ pub fn outcome_of<C: TreeCall + Drop, B: NodeRead>(
     ensures unchanged { B.unchanged parts.old.base parts.new.base }
     ensures cause { HasCause DiskFault (B.count parts.old.base) (B.count parts.new.base) result }
 {
+    if let Some(reply) = known {
+        let changes = List::new(alloc);
+        return Ok(Outcome { reply, changes });
+    }
     match seat_at(&parts.places, session) {
         Some(seat) => made(alloc, &mut parts.base, &parts.layers, &seat.own, call),
         None => unreachable!(),
@@ -200,10 +209,12 @@ pub fn answer<C: TreeCall + Drop, B: NodeRead>(
     parts: &mut Parts<C, B>,
     session: u32,
     call: C,
+    known: Option<Reply>,
 ) -> Result<Answer, (SeqError, C)>
     requires seated { IsSeated parts.old }
     requires ready { wait_in (get nat_cmp parts.old.places session) ≡ Some None }
     requires room { HasRoom 2 parts.old }
+    requires known { IsKnown C.is_valid C.meaning (seen_by B.contents parts.old session) call known }
     ensures ok { IfOk result (λ a. IsAnswered C.is_valid C.meaning B.contents parts.old session call a parts.new) }
     ensures err { OnErr result (Stays C.is_valid C.meaning B.contents parts.old parts.new) }
     ensures call { IfErr result (λ e. e.1 ≡ call) }
@@ -212,7 +223,7 @@ pub fn answer<C: TreeCall + Drop, B: NodeRead>(
     ensures unchanged { B.unchanged parts.old.base parts.new.base }
     ensures cause { HasCause (DiskFault, call) (B.count parts.old.base) (B.count parts.new.base) result }
 {
-    let outcome = match outcome_of(alloc, parts, session, &call) {
+    let outcome = match outcome_of(alloc, parts, session, &call, known) {
         Ok(outcome) => outcome,
         Err(error) => return Err((error, call)),
     };
@@ -500,11 +511,13 @@ fn settle<C: TreeCall + Drop, B: NodeRead>(
     session: u32,
     call: C,
     requests: &[Request],
+    known: Option<Reply>,
     got: Got,
 ) -> Result<Answer, CallError>
     requires seated { IsSeated parts.old }
     requires ready { wait_in (get nat_cmp parts.old.places session) ≡ Some None }
     requires room { HasRoom 2 parts.old }
+    requires known { IsKnown C.is_valid C.meaning (seen_by B.contents parts.old session) call known }
     requires inside { IsInside requests.now got }
     requires fits { granted_in requests.now got ≤ 4_294_967_295 }
     ensures ok { IfOk result (λ a. IsSettled C.is_valid C.meaning B.contents parts.old session call requests.now got a parts.new) }
@@ -515,7 +528,7 @@ fn settle<C: TreeCall + Drop, B: NodeRead>(
     ensures cause { HasCause call_error.DiskFault (B.count parts.old.base) (B.count parts.new.base) result }
 {
     match got {
-        Got::All => match answer(alloc, parts, session, call) {
+        Got::All => match answer(alloc, parts, session, call, known) {
             Ok(answer) => Ok(answer),
             Err((error, call)) => Err(give_up(parts, session, call, requests.len(), error)),
         },
@@ -547,7 +560,7 @@ pub fn attempt<C: TreeCall + Drop, B: NodeRead>(
     ensures unchanged { B.unchanged parts.old.base parts.new.base }
     ensures cause { HasCause call_error.DiskFault (B.count parts.old.base) (B.count parts.new.base) result }
 {
-    let requests = requests_of(alloc, parts, session, &call)?;
+    let Wanted { requests, reply } = requests_of(alloc, parts, session, &call)?;
     if requests.len() > MOST_REQUESTS {
         return Err(CallError::NoMemory);
     }
@@ -555,5 +568,13 @@ pub fn attempt<C: TreeCall + Drop, B: NodeRead>(
         return Err(CallError::NoMemory);
     };
     let got = ask_in_turn(alloc, parts, session, requests.as_slice());
-    settle(alloc, parts, session, call, requests.as_slice(), got)
+    settle(
+        alloc,
+        parts,
+        session,
+        call,
+        requests.as_slice(),
+        reply,
+        got,
+    )
 }

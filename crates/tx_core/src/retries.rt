@@ -21,7 +21,7 @@ ghost use Rattle.tx_core.specs.inside.Standing.{Stands, seat_in, ordinal_in};
 ghost use Rattle.tx_core.specs.inside.Goes.{Stays, Reaches, IsMade, unqueued, with_wait};
 ghost use Rattle.tx_core.specs.inside.Retrying.{call_at, call_in, waiting_call, first_at, retry_entry, failed_retry, at_rest, waits_for_it, GoesAgain, IsAgain, IsAnsweredAgain, IsPutAgain, WaitsAgain, IsClosedAgain, IsStoppedAgain, IsFailedAgain, IsSettledAgain, AreAsked};
 
-use crate::asking::{Got, Outcome, ask_all, asked, made};
+use crate::asking::{Got, Outcome, Wanted, ask_all, asked, made};
 use crate::attempts::{
     Copies, MOST_REQUESTS, accept, answer_of, copies_of, cycle_of, later_fault, latest,
 };
@@ -69,10 +69,10 @@ fn requests_again<C: TreeCall + Drop, B: NodeRead>(
     alloc: Global,
     parts: &mut Parts<C, B>,
     session: u32,
-) -> Result<List<Request>, SeqError>
+) -> Result<Wanted, SeqError>
     requires waits { IsSome (waiting_call parts.old session) }
-    ensures value { IfOk result (λ asks. (c : C) → waiting_call parts.old session ≡ Some c → (st : State C) (t : Live C)
-        → Stands C.is_valid C.meaning B.contents parts.old st → of_session session st.live ≡ Some t → asks ≡ asked_of C.meaning st t c) }
+    ensures value { IfOk result (λ wanted. (c : C) → waiting_call parts.old session ≡ Some c → (st : State C) (t : Live C)
+        → Stands C.is_valid C.meaning B.contents parts.old st → of_session session st.live ≡ Some t → wanted.requests ≡ asked_of C.meaning st t c) }
     ensures stays { Stays C.is_valid C.meaning B.contents parts.old parts.new }
     ensures same { parts.new ≡ record parts.old { base = parts.new.base } }
     ensures unchanged { B.unchanged parts.old.base parts.new.base }
@@ -473,8 +473,8 @@ fn retry_in_room<C: TreeCall + Drop, B: NodeRead>(
     ensures unchanged { B.unchanged parts.old.base parts.new.base }
     ensures cause { HasCause CallError.DiskFault (B.count parts.old.base) (B.count parts.new.base) result }
 {
-    let requests = match requests_again(alloc, parts, session) {
-        Ok(requests) => requests,
+    let Wanted { requests, .. } = match requests_again(alloc, parts, session) {
+        Ok(wanted) => wanted,
         Err(error) => return Err(fail_again(parts, session, 0, error)),
     };
     if requests.len() > MOST_REQUESTS {

@@ -1,4 +1,4 @@
-use Rattle.std.proofs.Common.{refl, sym, ◌≡◌, ap, ◌∙◌, subst, List}
+use Rattle.std.proofs.Common.{refl, sym, ◌≡◌, ap, ◌∙◌, subst, List, Option}
 use Rattle.std.proofs.lemmas.Result.{on_err_weaker, IfOk-weaker}
 use Rattle.lock_resources.specs.declared.request.Request.{Request}
 use Rattle.tx_core.specs.inside.Asking.{IsInside, granted_in}
@@ -6,6 +6,8 @@ use Rattle.tx_core.specs.inside.Goes.{Reaches, IsSettled, IsLeft}
 use Rattle.std.specs.Ordering.{nat_cmp}
 use Rattle.std.specs.BTreeMap as tree
 use Rattle.tx_core.specs.declared.parts.Parts.{Parts}
+use Rattle.tree_model.specs.Entries.{Entries}
+use Rattle.tx_core.specs.inside.Known.{IsKnown, seen_by}
 use Rattle.tx_core.specs.inside.Standing.{Stands}
 use Rattle.tx_core.specs.inside.Sessions.{wait_in}
 use Rattle.tx_core.proofs.Told.{asked_seated, asked_room, roomy_seated, based_seated, seated_on, cause_on}
@@ -29,7 +31,7 @@ returns-clause-ok g c =
     let p2 = c.ask_in_turn-got.new.parts in
     let got = c.ask_in_turn-got.result in
     let s = c.args.session in
-    IfOk-weaker c.settle.result _ _ (λ a is. settled_goes v m told p p1 p2 c.settle.new.parts s c.args.call c.in_ok-requests.requests got a
+    IfOk-weaker c.settle.result _ _ (λ a is. settled_goes v m told p p1 p2 c.settle.new.parts s c.args.call c.in_ok-requests.field-0.requests got a
     c.in_ok-requests.ensures.valid
     c.in_ok-requests.ensures.value
     (λ st stands. subst (λ (x : Parts _ _). Stands v m told x st) (sym e1) (stands_same v m told p0 (record p0 { book = p1.book }) (record { base = refl; layers = refl; opened = refl; limit = refl; number = refl }) refl refl (λ grants is. is) (λ o. refl) refl st (c.requests_of.ensures.stays.state st stands)))
@@ -53,7 +55,7 @@ returns-clause-err g c =
     let p2 = c.ask_in_turn-got.new.parts in
     let got = c.ask_in_turn-got.result in
     let s = c.args.session in
-    on_err_weaker c.settle.result (λ is. left_goes v m told p p1 p2 c.settle.new.parts s c.args.call c.in_ok-requests.requests got
+    on_err_weaker c.settle.result (λ is. left_goes v m told p p1 p2 c.settle.new.parts s c.args.call c.in_ok-requests.field-0.requests got
     c.in_ok-requests.ensures.valid
     c.in_ok-requests.ensures.value
     (λ st stands. subst (λ (x : Parts _ _). Stands v m told x st) (sym e1) (stands_same v m told p0 (record p0 { book = p1.book }) (record { base = refl; layers = refl; opened = refl; limit = refl; number = refl }) refl refl (λ grants is. is) (λ o. refl) refl st (c.requests_of.ensures.stays.state st stands)))
@@ -114,7 +116,7 @@ pub returns-clause-cause : goal.returns-clause-cause
 returns-clause-cause g c =
     let p0 = c.requests_of.new.parts in
     let same : c.ask_in_turn-got.new.parts.base ≡ p0.base = ap (λ (x : Parts _ _). x.base) c.ask_in_turn-got.ensures.same ∙ ap (λ (x : Parts _ _). x.base) c.make_room.ensures.same in
-    cause_on DiskFault DiskFault (g.B.NodeRead.count c.args.parts.now.base) (g.B.NodeRead.count p0.base) (g.B.NodeRead.count c.settle.new.parts.base) c.in_ok-requests.requests c.settle.result c.in_ok-requests.ensures.cause
+    cause_on DiskFault DiskFault (g.B.NodeRead.count c.args.parts.now.base) (g.B.NodeRead.count p0.base) (g.B.NodeRead.count c.settle.new.parts.base) c.in_ok-requests.field-0 c.settle.result c.in_ok-requests.ensures.cause
     (subst (λ b. HasCause DiskFault (g.B.NodeRead.count b) (g.B.NodeRead.count c.settle.new.parts.base) c.settle.result) same c.settle.ensures.cause)
 
 pub returns-in_err-requests-clause-seated : goal.returns-in_err-requests-clause-seated
@@ -127,3 +129,12 @@ pub returns-in_default-clause-seated : goal.returns-in_default-clause-seated
 returns-in_default-clause-seated g c =
     let zero = based_seated c.args.parts.now c.requests_of.new.parts c.requires c.requests_of.ensures.same in
     seated_on c.args.parts.now c.requests_of.new.parts c.make_room.new.parts zero (roomy_seated c.requests_of.new.parts c.make_room.new.parts zero.seated c.make_room.ensures.same c.make_room.ensures.book c.make_room.ensures.room)
+
+pub settle-requires-clause-known : goal.settle-requires-clause-known
+settle-requires-clause-known g c =
+    let told = g.B.NodeRead.contents in
+    let s = c.args.session in
+    let e1 = c.make_room.ensures.same in
+    let e2 = c.ask_in_turn-got.ensures.same in
+    subst (λ (x : Option Entries). IsKnown g.C.TreeCall.is_valid g.C.TreeCall.meaning x c.args.call c.in_ok-requests.field-0.reply)
+    (sym (ap (λ (x : Parts _ _). seen_by told x s) e2 ∙ ap (λ (x : Parts _ _). seen_by told x s) e1)) c.in_ok-requests.ensures.known

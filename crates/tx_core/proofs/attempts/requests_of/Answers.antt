@@ -1,9 +1,10 @@
-use Rattle.std.proofs.Common.{sym, ap, ◌∙◌, Bool, cond, Some, None}
+use Rattle.std.proofs.Common.{refl, sym, ap, ◌∙◌, Bool, cond, Some, None}
 use Rattle.call_contract.specs.States.{view}
 use Rattle.tx_core.specs.declared.errors.SessionError.TheVariants.{IsWaiting}
 use Rattle.tx_core.specs.inside.Sessions.{wait_of}
 use Rattle.tx_core.proofs.Told.{call_refused}
 use Rattle.tx_core.proofs.Moves.{is_live}
+use Rattle.tx_core.proofs.Known.{known_then}
 use Rattle.tx_core.proofs.Reached.{sees, ready}
 use Rattle.tx_core.proofs.attempts.requests_of.Goals as goal
 
@@ -29,3 +30,8 @@ pub returns-in-Ok-clause-refused : goal.returns-in-Ok-clause-refused
 returns-in-Ok-clause-refused g c =
     sym (call_refused c.args.parts.now c.args.session c.in-Some.seat.now.waiting c.requires (ap wait_of (sym c.in-Some.ensures))
     ∙ ap (λ (b : Bool). cond b (Some IsWaiting) None) (sym c.if-is_some.ensures))
+
+pub returns-in-Ok-clause-known : goal.returns-in-Ok-clause-known
+returns-in-Ok-clause-known g c =
+    known_then g.C.TreeCall.is_valid g.C.TreeCall.meaning g.B.NodeRead.contents c.args.parts.now _ c.args.session c.in-Some.seat.now c.args.call.now _
+    refl (g.met.B.NodeRead.unchanged_contents _ _ c.asked.ensures.unchanged) (sym c.in-Some.ensures) c.asked.ensures.valid c.in-Ok.ensures.known

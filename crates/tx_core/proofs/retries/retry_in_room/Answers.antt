@@ -52,10 +52,10 @@ returns-clause-ok g c =
     let got = c.ask_again-got.result.got in
     let more = c.ask_again-got.result.more in
     let s = c.args.session in
-    IfOk-weaker c.settle_again.result _ _ (λ a is call waits. settled_again v m told p p2 q s call c.in-Ok.requests got more a
+    IfOk-weaker c.settle_again.result _ _ (λ a is call waits. settled_again v m told p p2 q s call c.in-Ok.wanted.requests got more a
     (c.in-Ok.ensures.value call waits)
     (λ st t stands found. subst (λ (xs : List Request). Reaches v m told st t xs p2 got) c.as_slice.ensures (c.ask_again-got.ensures.got st t (c.requests_again.ensures.stays.state st stands) found))
-    (asked_after v m told p p1 p2 s c.in-Ok.requests got more c.requests_again.ensures.stays (subst (λ (xs : List Request). AreAsked v m told p1 s xs got more p2) c.as_slice.ensures c.ask_again-got.ensures.asked))
+    (asked_after v m told p p1 p2 s c.in-Ok.wanted.requests got more c.requests_again.ensures.stays (subst (λ (xs : List Request). AreAsked v m told p1 s xs got more p2) c.as_slice.ensures c.ask_again-got.ensures.asked))
     (subst (λ (xs : List Request). IsInside xs got) c.as_slice.ensures c.ask_again-got.ensures.inside)
     (ap (λ (x : Parts g.row.C.Denot g.row.B.Denot). x.book.items) c.ask_again-got.ensures.same ∙ ap (λ (x : Parts g.row.C.Denot g.row.B.Denot). x.book.items) c.requests_again.ensures.same)
     (ap (λ (x : Parts g.row.C.Denot g.row.B.Denot). x.faults) c.ask_again-got.ensures.same ∙ ap (λ (x : Parts g.row.C.Denot g.row.B.Denot). x.faults) c.requests_again.ensures.same)
@@ -77,9 +77,9 @@ returns-clause-err g c =
     let got = c.ask_again-got.result.got in
     let s = c.args.session in
     on_err_weaker c.settle_again.result (λ is call waits. (
-      granted_in c.in-Ok.requests got,
+      granted_in c.in-Ok.wanted.requests got,
       is.0,
-      left_again v m told p p2 q s call c.in-Ok.requests got is.0
+      left_again v m told p p2 q s call c.in-Ok.wanted.requests got is.0
           (c.in-Ok.ensures.value call waits)
           (λ st t stands found. subst (λ (xs : List Request). Reaches v m told st t xs p2 got) c.as_slice.ensures (c.ask_again-got.ensures.got st t (c.requests_again.ensures.stays.state st stands) found))
           (ap (λ (x : Parts g.row.C.Denot g.row.B.Denot). x.book.items) c.ask_again-got.ensures.same ∙ ap (λ (x : Parts g.row.C.Denot g.row.B.Denot). x.book.items) c.requests_again.ensures.same)
