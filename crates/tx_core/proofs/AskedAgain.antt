@@ -57,15 +57,20 @@ both_on false b e = absurd (true≢false (sym e))
 is_self : (o p : ℕ) → (o == p) ≡ true → o ≡ p
 is_self o p e = grind (arith, nat_tests, e)
 
--- a grant of what is held changes nothing
-covered_same : (t v : Table) (owner : ℕ) (q : Request) → IsGranted t owner q v → Covers (held t owner q.resource) q.ask → IsSame t v
-covered_same t v owner q granted covers o r = granted o r ∙ go ((owner == o) && same_resource q.resource r) refl
+-- with a grant of what is held all is held as before
+pub covered_then : (t : Table) (owner : ℕ) (q : Request) → Covers (held t owner q.resource) q.ask
+    → (o : ℕ) (r : Resource) → cond ((owner == o) && same_resource q.resource r) (Some (join_with q.ask (held t owner q.resource))) (held t o r) ≡ held t o r
+covered_then t owner q covers o r = go ((owner == o) && same_resource q.resource r) refl
   where
     go : (b : Bool) → ((owner == o) && same_resource q.resource r) ≡ b → cond b (Some (join_with q.ask (held t owner q.resource))) (held t o r) ≡ held t o r
     go true e =
         let both = both_on (owner == o) (same_resource q.resource r) e in
         sym covers ∙ ap₂ (λ (x : ℕ) (y : Resource). held t x y) (is_self owner o both.0) (exact_resources q.resource r both.1)
     go false e = refl
+
+-- a grant of what is held changes nothing
+covered_same : (t v : Table) (owner : ℕ) (q : Request) → IsGranted t owner q v → Covers (held t owner q.resource) q.ask → IsSame t v
+covered_same t v owner q granted covers o r = granted o r ∙ covered_then t owner q covers o r
 
 repeated : (t : Table) (owner : ℕ) (qs : List Request) (u : Table) → AreGranted t owner qs u → list_any (λ g. not (has_mode (held t owner g.resource) g.ask)) qs ≡ false → IsSame t u
 repeated t owner [] u same none = same

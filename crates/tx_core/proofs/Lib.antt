@@ -18,6 +18,7 @@ pub mod Repeated
 pub mod Rested
 pub mod Retried
 pub mod Seats
+pub mod Spared
 pub mod Told
 pub mod ToldAgain
 pub mod Waited

@@ -156,13 +156,34 @@ joined_itself : (a : Ask) → join_asks a a ≡ a
 joined_itself (ask.Node m) = ap ask.Node (join_idempotent m)
 joined_itself (ask.Edge e) = ap ask.Edge (edge_itself e)
 
+edge_grouped : (e f g : EdgeMode) → edge_join (edge_join e f) g ≡ edge_join e (edge_join f g)
+edge_grouped ER f g = refl
+edge_grouped EX f g = refl
+
+joins_grouped : (a b h : Ask) → join_asks (join_asks a b) h ≡ join_asks a (join_asks b h)
+joins_grouped (ask.Node m) (ask.Node n) (ask.Node k) = ap ask.Node (join_associative m n k)
+joins_grouped (ask.Node m) (ask.Node n) (ask.Edge g) = sym (ap ask.Node (top m))
+joins_grouped (ask.Node m) (ask.Edge f) (ask.Node k) = sym (ap ask.Node (top m))
+joins_grouped (ask.Node m) (ask.Edge f) (ask.Edge g) = refl
+joins_grouped (ask.Edge e) (ask.Node n) (ask.Node k) = refl
+joins_grouped (ask.Edge e) (ask.Node n) (ask.Edge g) = refl
+joins_grouped (ask.Edge e) (ask.Edge f) (ask.Node k) = refl
+joins_grouped (ask.Edge e) (ask.Edge f) (ask.Edge g) = ap ask.Edge (edge_grouped e f g)
+
+-- what covers a mode covers all that this one does
+pub covers_through : (a b : Ask) (h : Option Ask) → Covers (Some b) a → Covers h b → Covers h a
+covers_through a b None within e = nothing_held b e
+covers_through a b (Some h) within e =
+    let same = injected h (join_asks b h) e in
+    ap Some (same ∙ ap (λ x. join_asks x h) (injected b (join_asks a b) within) ∙ joins_grouped a b h ∙ ap (join_asks a) (sym same))
+
 -- what was granted is held
-granted_covers : (a : Ask) (h : Option Ask) → Covers (Some (join_with a h)) a
+pub granted_covers : (a : Ask) (h : Option Ask) → Covers (Some (join_with a h)) a
 granted_covers a None = ap Some (sym (joined_itself a))
 granted_covers a (Some h) = ap Some (sym (joined_again a h))
 
 -- and stays so by a further grant
-covers_more : (a b : Ask) (h : Option Ask) → Covers h a → Covers (Some (join_with b h)) a
+pub covers_more : (a b : Ask) (h : Option Ask) → Covers h a → Covers (Some (join_with b h)) a
 covers_more a b None e = nothing_held a e
 covers_more a b (Some h) e = ap Some (ap (join_asks b) (injected h (join_asks a h) e) ∙ joins_turned b a h)
 

@@ -1,17 +1,19 @@
 //! What a call asks for and answers on what a transaction sees, and how far its requests are granted.
 
-ghost use Rattle.std.specs.Prelude.{◌≡◌, IfOk, IfSome};
+ghost use Rattle.std.specs.Prelude.{◌≡◌, ◌≤◌, IsTrue, IfOk, IfSome, OnErr};
 ghost use Rattle.outside_traits.specs.Faults.{HasCause};
 ghost use Rattle.node_seq.specs.declared.node_read.SeqError.TheVariants.{DiskFault};
 ghost use Rattle.node_seq.specs.ChangeLists.{IsChangeList};
 ghost use Rattle.node_seq.specs.Trees.{OnTree};
 ghost use Rattle.overlays.specs.Views.{contents_after};
 ghost use Rattle.call_contract.specs.Calls.{OnlyAnswers, changes_of};
-ghost use Rattle.tx_core.specs.inside.Asking.{IsGot};
+ghost use Rattle.lock_table.specs.Tables.{Table, Answers, IsSame};
+ghost use Rattle.tx_core.specs.inside.Asking.{AreGranted, IsGot, IsCovered};
 
+use crate::modes::has;
 use call_contract::TreeCall;
-use dewey_labels::List;
-use lock_resources::Request;
+use dewey_labels::{List, NoMemory};
+use lock_resources::{Request, Resource};
 use lock_table::{Asked, LockTable};
 use node_seq::{NodeRead, SeqError};
 use overlays::{Layers, Overlay, View};
@@ -28,13 +30,81 @@ pub enum Got {
     NoMemory { granted: usize },
 }
 
+/// Requests come as ways, each from the root down. These are the ways up to one of them.
+#[derive(Drop, Clone, Copy)]
+struct Ways {
+    /// Where the present way begins.
+    start: usize,
+    /// How long the way before it is.
+    before: usize,
+}
+
+impl Ways {
+    /// The ways up to the request at this index. One on the root's node begins a way.
+    fn reach(self, index: usize, request: &Request) -> Ways
+        requires start { self.start ≤ index }
+        requires before { self.before ≤ index }
+        ensures start { result.start ≤ index }
+        ensures before { result.before ≤ index }
+    {
+        match &request.resource {
+            Resource::Node(label) if label.divisions().len() == 1 => Ways {
+                start: index,
+                before: index - self.start,
+            },
+            _ => self,
+        }
+    }
+}
+
+/// Whether the request at this index is an earlier one that covers this one: it is at the same resource, and its mode has this one's.
+fn is_covered(earlier: &[Request], index: usize, request: &Request) -> bool
+    ensures { IsTrue result → IsCovered earlier.now request.now }
+{
+    match earlier.get(index) {
+        Some(one) => {
+            one.resource.cmp(&request.resource).is_eq() && has(Some(one.ask), request.ask)
+        }
+        None => false,
+    }
+}
+
+/// Asks for the request that comes after these, which were granted.
+/// The table isn't asked where the one at this index covers it.
+fn ask_next(
+    alloc: Global,
+    table: &mut LockTable,
+    owner: u32,
+    earlier: &[Request],
+    index: usize,
+    request: &Request,
+) -> Result<Asked, NoMemory>
+    requires granted { (t : Table) × AreGranted t owner earlier.now table.old }
+    ensures answer { IfOk result (Answers table.old owner request.now table.new) }
+    ensures err { OnErr result (IsSame table.old table.new) }
+{
+    if is_covered(earlier, index, request) {
+        return Ok(Asked::Granted);
+    }
+    table.ask(alloc, owner, request)
+}
+
 /// Asks for each in its turn, up to the first that is barred.
+/// A way begins mostly as the one before it, so the table isn't asked for what the request as far down that one covers.
 pub fn ask_all(alloc: Global, table: &mut LockTable, owner: u32, requests: &[Request]) -> Got
     ensures { IsGot table.old owner requests.now table.new result }
 {
     let mut granted = 0;
+    let mut ways = Ways {
+        start: 0,
+        before: 0,
+    };
     while granted < requests.len() {
-        match table.ask(alloc, owner, &requests[granted]) {
+        let request = &requests[granted];
+        let earlier = &requests[..granted];
+        ways = ways.reach(granted, request);
+        let twin = granted - ways.before;
+        match ask_next(alloc, table, owner, earlier, twin, request) {
             Ok(Asked::Granted) => granted += 1,
             Ok(Asked::Conflict { holders }) => return Got::Barred { granted, holders },
             Err(_) => return Got::NoMemory { granted },

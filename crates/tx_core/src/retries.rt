@@ -1,10 +1,9 @@
 //! A further attempt of the call with which a session waits.
 
-ghost use Rattle.std.specs.Prelude.{◌≡◌, ◌↔◌, ℕ, ◌+◌, ◌≤◌, ◌<◌, not, false, [], ◌∷◌, ◌++◌, Some, None, Option, IfOk, IfErr, OnOk, OnErr, IsSome, IsTrue, cond, ◌==◌, length, vec_capacity, option_copied};
+ghost use Rattle.std.specs.Prelude.{◌≡◌, ℕ, ◌+◌, ◌≤◌, ◌<◌, not, false, [], ◌∷◌, ◌++◌, Some, None, Option, IfOk, IfErr, OnOk, OnErr, IsSome, cond, ◌==◌, length, vec_capacity, option_copied};
 ghost use Rattle.std.specs.Ordering.{nat_cmp};
 ghost use Rattle.std.specs.BTreeMap.{get};
 ghost use Rattle.outside_traits.specs.Faults.{HasCause};
-ghost use Rattle.lock_table.specs.Asks.{join_asks, Covers};
 ghost use Rattle.lock_table.specs.Tables.{held as held_by};
 ghost use Rattle.node_seq.specs.ChangeLists.{IsChangeList};
 ghost use Rattle.node_seq.specs.declared.node_read.SeqError.TheVariants as seq_error;
@@ -27,11 +26,11 @@ use crate::attempts::{
 };
 use crate::ends::{make_room, note, stop_waiting};
 use crate::errors::CallError;
+use crate::modes::has;
 use crate::parts::{Parts, Places, Seat};
 use crate::places::{seat_again, seat_at, unseat};
 use call_contract::{Answer, Event, EventAnswer, Noted, TreeCall};
 use dewey_labels::{List, NoMemory};
-use lock_modes::{Ask, Mode};
 use lock_resources::Request;
 use lock_table::LockTable;
 use node_seq::{NodeRead, SeqError};
@@ -109,27 +108,6 @@ fn outcome_again<C: TreeCall + Drop, B: NodeRead>(
             None => unreachable!(),
         },
         None => unreachable!(),
-    }
-}
-
-/// The join of two modes.
-fn join(one: Ask, other: Ask) -> Ask
-    ensures { result ≡ join_asks one other }
-{
-    match (one, other) {
-        (Ask::Node(mode), Ask::Node(held)) => Ask::Node(mode.join(held)),
-        (Ask::Edge(mode), Ask::Edge(held)) => Ask::Edge(mode.join(held)),
-        _ => Ask::Node(Mode::SX),
-    }
-}
-
-/// Whether what is held has the mode already.
-fn has(held: Option<Ask>, ask: Ask) -> bool
-    ensures { IsTrue result ↔ Covers held ask }
-{
-    match held {
-        Some(mode) => mode == join(ask, mode),
-        None => false,
     }
 }
 
