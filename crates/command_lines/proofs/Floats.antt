@@ -1,13 +1,10 @@
 -- A reply has no number that is a float, so its text is the compact one.
-use Rattle.std.proofs.Common.{◌≡◌, ℕ, false, true, Bool, ◌||◌, List, [], ◌∷◌, ◌++◌, map, codes, Option, Some, None, Less, Equal, Greater, nat_cmp, refl, ap, ap₂, ◌∙◌, sym}
+use Rattle.std.proofs.Common.{◌≡◌, ℕ, false, ◌||◌, List, [], ◌∷◌, map, Option, Some, None, refl, ap, ap₂, ◌∙◌, sym}
 use Rattle.std.proofs.lemmas.Bool.{or_parts}
-use Rattle.std.specs.Cmp.Lexicographic.{slice_cmp}
-use Rattle.std.specs.Ordering.{match_ordering}
-use Rattle.serde_json.specs.Data.{Data, Members, no_members, member, put}
+use Rattle.serde_json.specs.Data.{Data, no_members}
 use Rattle.serde_json.specs.View.{items_of}
 use Rattle.serde_json.specs.Written.{has_float, items_have_float, members_have_float}
 use Rattle.tree_model.specs.Tree.{Attributes}
-use Rattle.tree_model.specs.declared.fragment.Fragment.{Fragment}
 use Rattle.tree_model.specs.declared.fragment.Fragment.TheVariants.{Element}
 use Rattle.tree_model.specs.declared.refusal.Refusal.{Refusal}
 use Rattle.tree_model.specs.declared.refusal.Refusal.TheVariants.{Dom, DocumentExists, TooDeep, TextLimit, LabelLimit}
@@ -15,27 +12,16 @@ use Rattle.tree_model.specs.declared.reply.Reply.{Reply}
 use Rattle.tree_model.specs.declared.reply.Reply.TheVariants as reply
 use Rattle.jsonml_io.specs.Written.{with_members}
 use Rattle.jsonml_io.proofs.Values.{no_float, json_of-Element}
-use Rattle.command_lines.specs.declared.line_reply.LineReply.{LineReply}
-use Rattle.command_lines.specs.declared.line_reply.LineReply.TheVariants.{Said, Bad, Order}
 use Rattle.command_lines.specs.declared.line_reply.LineAnswer.{LineAnswer}
 use Rattle.command_lines.specs.declared.line_reply.LineAnswer.TheVariants as answer
-use Rattle.command_lines.specs.ReplyValues.{number_value, commit_value, array_of, or_null, attributes_value, refusal_value, reply_value}
-use Rattle.command_lines.specs.Replies.{if_woke, said, answer_key, answer_value, line_value}
+use Rattle.command_lines.specs.ReplyValues.{number_value, commit_value, or_null, attributes_value, refusal_value, reply_value}
+use Rattle.command_lines.specs.Replies.{answer_value, order_value}
 
 -- ---- lists and objects
 
 no_float_items : {A : Type 0} (value : A → Data) → ((x : A) → has_float (value x) ≡ false) → (xs : List A) → items_have_float (items_of (map value xs)) ≡ false
 no_float_items value h [] = refl
 no_float_items value h (x ∷ xs) = ap₂ (λ a b. a || b) (h x) (no_float_items value h xs)
-
-no_float_put : (k : List ℕ) (v : Data) (ms : Members) → has_float v ≡ false → members_have_float ms ≡ false → members_have_float (put k v ms) ≡ false
-no_float_put k v no_members e h = ap (λ b. b || false) e
-no_float_put k v (member l d ms) e h =
-    elim (slice_cmp nat_cmp k l) as (λ o. members_have_float (match_ordering o (member k v (member l d ms)) (member l v ms) (member l d (put k v ms))) ≡ false) [
-      | Less ↦ ap₂ (λ a b. a || b) e h
-      | Equal ↦ ap₂ (λ a b. a || b) e (or_parts (has_float d) _ h).1
-      | Greater ↦ let p = or_parts (has_float d) _ h in ap₂ (λ a b. a || b) p.0 (no_float_put k v ms e p.1)
-    ]
 
 -- the attributes of an element are an object in its value
 no_float_attributes : (ats : Attributes) → members_have_float (with_members no_members ats) ≡ false
@@ -70,20 +56,11 @@ no_float_reply (reply.Replaced new old) = ap (λ b. b || false) (no_float old)
 no_float_reply (reply.Found hits) = no_float_items _ (λ x. refl) hits
 no_float_reply (reply.Refused why) = no_float_refusal why
 
-no_float_answer : (a : LineAnswer) → has_float (answer_value a) ≡ false
+pub no_float_answer : (a : LineAnswer) → has_float (answer_value a) ≡ false
 no_float_answer (answer.Reply r) = no_float_reply r
 no_float_answer (answer.Session why) = refl
 no_float_answer (answer.Wait on asks by) = ap (λ b. b || false) (no_float_items number_value (λ x. refl) by)
 no_float_answer (answer.Deadlock cycle) = no_float_items number_value (λ x. refl) cycle
 
-no_float_woke : (woke : Bool) (ms : Members) → members_have_float ms ≡ false → members_have_float (if_woke woke ms) ≡ false
-no_float_woke true ms h = no_float_put _ _ ms refl h
-no_float_woke false ms h = h
-
-pub no_float_line : (r : LineReply) → has_float (line_value r) ≡ false
-no_float_line (Said session woke a) =
-    let answered = put (answer_key a) (answer_value a) no_members in
-    let h = no_float_put (answer_key a) (answer_value a) no_members (no_float_answer a) refl in
-    no_float_woke woke (put (codes "s") (number_value session) answered) (no_float_put (codes "s") (number_value session) answered refl h)
-no_float_line (Bad why line) = refl
-no_float_line (Order commits) = ap (λ b. b || false) (no_float_items commit_value (λ x. refl) commits)
+pub no_float_order : (commits : List (ℕ × ℕ)) → has_float (order_value commits) ≡ false
+no_float_order commits = ap (λ b. b || false) (no_float_items commit_value (λ x. refl) commits)

@@ -7,3 +7,5 @@ pub mod ReplyValues
 pub mod Taking
 pub mod ValidCommands
 pub mod Words
+-- words that private functions alone use
+pub mod inside

@@ -1,16 +1,19 @@
 //! Replies as lines.
-ghost use Rattle.std.specs.Prelude.{◌≡◌, ◌++◌, false, IfOk, OnOk, OnErr};
+ghost use Rattle.std.specs.Prelude.{◌≡◌, [], ◌∷◌, ◌++◌, false, option_map, IfOk, OnOk, OnErr};
 ghost use Rattle.serde_json.specs.View.{view};
-ghost use Rattle.command_lines.specs.Replies.{said, answer_key, answer_value, wait_value, bad_value, order_value, line_value, reply_text};
+ghost use Rattle.serde_json.specs.Written.{has_float, compact_text};
+ghost use Rattle.command_lines.specs.Replies.{answer_value, wait_value, bad_value, order_value, reply_text};
+ghost use Rattle.command_lines.specs.inside.SaidText.{start, end, key_first, session_first, said_text};
 
 use crate::json_value::{ToJson, array_of};
 use crate::reply_values::{named, refusal_value, reply_value};
 use crate::resource_text::resource_text;
 use crate::{LineAnswer, LineReply};
 use dewey_labels::{List, NoMemory, Text};
+use itoa::Buffer;
 use lock_modes::Ask;
 use lock_resources::Resource;
-use serde_json::{Map, Value, json, put};
+use serde_json::{Value, json};
 use std::alloc::Global;
 use tree_model::Reply;
 
@@ -20,23 +23,118 @@ pub fn write_reply(alloc: Global, reply: &LineReply, out: &mut List<u8>) -> Resu
     ensures ok { OnOk result (out.new ≡ out.old ++ reply_text reply.now) }
     ensures err { OnErr result (out.new ≡ out.old) }
 {
-    let mut text = line_value(alloc, reply)?.to_vec(alloc)?;
-    text.push(b'\n')?;
-    out.extend_from_slice(alloc, &text)
-}
-
-fn line_value(alloc: Global, reply: &LineReply) -> Result<Value, NoMemory>
-    ensures { IfOk result (λ value. view value ≡ line_value reply.now) }
-{
     match reply {
         LineReply::Said {
             session,
             woke,
             answer,
-        } => said_value(alloc, *session, *woke, answer),
-        LineReply::Bad { why, line } => bad_value(alloc, why, *line),
-        LineReply::Order(commits) => order_value(alloc, commits),
+        } => write_said(alloc, *session, *woke, answer, out),
+        LineReply::Bad { why, line } => write_value(alloc, bad_value(alloc, why, *line)?, out),
+        LineReply::Order(commits) => write_value(alloc, order_value(alloc, commits)?, out),
     }
+}
+
+/// Puts a value's text and LF at the end of `out`.
+fn write_value(alloc: Global, value: Value, out: &mut List<u8>) -> Result<(), NoMemory>
+    requires { has_float (view value) ≡ false }
+    ensures ok { OnOk result (out.new ≡ out.old ++ (compact_text (view value) ++ 10 ∷ [])) }
+    ensures err { OnErr result (out.new ≡ out.old) }
+{
+    let mut text = value.to_vec(alloc)?;
+    text.push(b'\n')?;
+    out.extend_from_slice(alloc, &text)
+}
+
+/// Puts the line of an answer at the end of `out`. Its value alone is built as one: the object around it is text.
+fn write_said(
+    alloc: Global,
+    session: u32,
+    woke: bool,
+    answer: &LineAnswer,
+    out: &mut List<u8>,
+) -> Result<(), NoMemory>
+    ensures ok { OnOk result (out.new ≡ out.old ++ said_text session woke answer.now) }
+    ensures err { OnErr result (out.new ≡ out.old) }
+{
+    let value = answer_value(alloc, answer)?.to_vec(alloc)?;
+    match start(answer) {
+        Some(start) => write_key_first(alloc, start, value, session, woke, out),
+        None => write_wait(alloc, value, session, woke, out),
+    }
+}
+
+/// `{KEY:V,"s":S}`, given how it begins and the text of the value.
+fn write_key_first(
+    alloc: Global,
+    start: &str,
+    value: Vec<u8>,
+    session: u32,
+    woke: bool,
+    out: &mut List<u8>,
+) -> Result<(), NoMemory>
+    ensures ok { OnOk result (out.new ≡ out.old ++ key_first start.now value.items session woke) }
+    ensures err { OnErr result (out.new ≡ out.old) }
+{
+    let mut text = value;
+    text.extend_from_slice(b",\"s\":")?;
+    text.extend_from_slice(Buffer::new().format(session).as_bytes())?;
+    text.extend_from_slice(end(woke).as_bytes())?;
+    extend_by_both(alloc, start.as_bytes(), &text, out)
+}
+
+/// `{"s":S,"wait":V}`, given the text of the value.
+fn write_wait(
+    alloc: Global,
+    value: Vec<u8>,
+    session: u32,
+    woke: bool,
+    out: &mut List<u8>,
+) -> Result<(), NoMemory>
+    ensures ok { OnOk result (out.new ≡ out.old ++ session_first value.items session woke) }
+    ensures err { OnErr result (out.new ≡ out.old) }
+{
+    let mut text = value;
+    text.extend_from_slice(end(woke).as_bytes())?;
+    let start = format!(in alloc; "{{\"s\":{session},\"wait\":")?;
+    extend_by_both(alloc, start.as_bytes(), &text, out)
+}
+
+/// How the line of an answer begins whose key stands ahead of `s`: all but `wait`.
+fn start(answer: &LineAnswer) -> Option<&'static str>
+    ensures { option_map (λ s. s.now) result ≡ start answer.now }
+{
+    match answer {
+        LineAnswer::Reply(Reply::Refused(_)) | LineAnswer::Session(_) => Some("{\"err\":"),
+        LineAnswer::Reply(_) => Some("{\"ok\":"),
+        LineAnswer::Wait { .. } => None,
+        LineAnswer::Deadlock(_) => Some("{\"deadlock\":"),
+    }
+}
+
+/// How the line of an answer ends, LF included.
+fn end(woke: bool) -> &'static str
+    ensures { result.now ≡ end woke }
+{
+    if woke { ",\"woke\":true}\n" } else { "}\n" }
+}
+
+/// Puts both at the end of `out`, or none of them.
+fn extend_by_both(
+    alloc: Global,
+    first: &[u8],
+    second: &[u8],
+    out: &mut List<u8>,
+) -> Result<(), NoMemory>
+    ensures ok { OnOk result (out.new ≡ out.old ++ (first.now ++ second.now)) }
+    ensures err { OnErr result (out.new ≡ out.old) }
+{
+    let before = out.len();
+    out.extend_from_slice(alloc, first)?;
+    let result = out.extend_from_slice(alloc, second);
+    if result.is_err() {
+        out.truncate(before);
+    }
+    result
 }
 
 /// `{"bad":WHY,"line":N}`
@@ -52,43 +150,6 @@ fn order_value(alloc: Global, commits: &List<(u32, u32)>) -> Result<Value, NoMem
 {
     let commits = array_of(alloc, commits.as_slice())?;
     Ok(json!(in alloc; {"order": commits})?)
-}
-
-/// The answer under its key, beside its session and whether it had waited.
-fn said_value(
-    alloc: Global,
-    session: u32,
-    woke: bool,
-    answer: &LineAnswer,
-) -> Result<Value, NoMemory>
-    ensures { IfOk result (λ value. view value ≡ said session woke (answer_key answer.now) (answer_value answer.now)) }
-{
-    let value = answer_value(alloc, answer)?;
-    said(alloc, session, woke, answer_key(answer), value)
-}
-
-fn said(alloc: Global, session: u32, woke: bool, key: &str, value: Value) -> Result<Value, NoMemory>
-    ensures { IfOk result (λ all. view all ≡ said session woke key.now (view value)) }
-{
-    let mut members = Map::new(alloc);
-    put(&mut members, alloc, key, value)?;
-    put(&mut members, alloc, "s", Value::from(session))?;
-    if woke {
-        put(&mut members, alloc, "woke", Value::Bool(true))?;
-    }
-    Ok(Value::Object(members))
-}
-
-/// The key under which an answer stands.
-fn answer_key(answer: &LineAnswer) -> &'static str
-    ensures { result.now ≡ answer_key answer.now }
-{
-    match answer {
-        LineAnswer::Reply(Reply::Refused(_)) | LineAnswer::Session(_) => "err",
-        LineAnswer::Reply(_) => "ok",
-        LineAnswer::Wait { .. } => "wait",
-        LineAnswer::Deadlock(_) => "deadlock",
-    }
 }
 
 fn answer_value(alloc: Global, answer: &LineAnswer) -> Result<Value, NoMemory>

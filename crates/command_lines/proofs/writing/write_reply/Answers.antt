@@ -1,15 +1,16 @@
-use Rattle.std.proofs.Common.{◌≡◌, ◌++◌, ◌∷◌, [], ap, ◌∙◌}
+use Rattle.std.proofs.Common.{◌++◌, ap, sym, ◌∙◌}
 use Rattle.std.proofs.lemmas.Result.{on_ok_weaker}
-use Rattle.serde_json.specs.Written.{has_float, compact_text}
-use Rattle.command_lines.specs.Replies.{line_value, reply_text}
-use Rattle.command_lines.proofs.Floats.{no_float_line}
+use Rattle.serde_json.specs.Written.{has_float}
+use Rattle.command_lines.specs.Replies.{reply_text}
+use Rattle.command_lines.proofs.Floats.{no_float_order}
+use Rattle.command_lines.proofs.SaidTexts.{has_pieces}
 use Rattle.command_lines.proofs.writing.write_reply.Goals as goal
 
-pub returns-clause-ok : goal.returns-clause-ok
+pub write_value-requires-in-Order : goal.write_value-requires-in-Order
+write_value-requires-in-Order c = ap has_float c.in_ok-order_value-in-Order.ensures ∙ no_float_order c.in-Order.commits
+
+pub returns-in-Said-clause-ok : goal.returns-in-Said-clause-ok
 unfolding reply_text
-returns-clause-ok c =
-    let r = c.args.reply.now in
-    let seen = c.in_ok-line_value.ensures in
-    let text = c.in_ok-text.ensures.text (ap has_float seen ∙ no_float_line r) ∙ ap compact_text seen in
-    let line = c.in_ok-push.ensures.items ∙ ap (λ s. s ++ 10 ∷ []) text in
-    on_ok_weaker c.extend_from_slice.result (λ e. e ∙ ap (λ s. c.args.out.now ++ s) (c.deref.ensures.value ∙ line)) c.extend_from_slice.ensures.ok
+returns-in-Said-clause-ok c =
+    let line = sym (has_pieces c.in-Said.session c.in-Said.woke c.in-Said.answer) ∙ ap reply_text (sym c.in-Said.is) in
+    on_ok_weaker c.write_said.result (λ e. e ∙ ap (λ s. c.args.out.now ++ s) line) c.write_said.ensures.ok

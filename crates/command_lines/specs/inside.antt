@@ -1,0 +1,2 @@
+-- Words of private functions: no public clause has them.
+pub mod SaidText
