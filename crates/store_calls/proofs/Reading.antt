@@ -1,6 +1,6 @@
 -- Calls that read alone leave the tree, and have no changes.
 use Rattle.std.specs.Prelude.{Option, Some, None, Result, Ok, Err, IfOk, IfSome, IsSome, IsTrue}
-use Rattle.std.proofs.Common.{◌≡◌, [], ap, refl, sym, ◌∙◌, true, true≢false}
+use Rattle.std.proofs.Common.{◌≡◌, [], ap, refl, sym, subst, ◌∙◌, true, true≢false}
 use Rattle.tree_model.specs.declared.dom_call.DomCall.{DomCall}
 use Rattle.tree_model.specs.declared.dom_call.DomCall.TheVariants as call
 use Rattle.tree_model.specs.DomCalls.{dom}
@@ -14,7 +14,8 @@ use Rattle.tree_changes.proofs.ChangeLists.{no_differences}
 use Rattle.node_seq.specs.Trees.{OnTree}
 use Rattle.dom_reads.specs.Reading.{is_reading}
 use Rattle.call_contract.specs.Calls.{OnlyAnswers}
-use Rattle.dom_laws.specs.Meaning.{dom_meaning}
+use Rattle.command_lines.specs.declared.command.StoreCall.{StoreCall}
+use Rattle.store_calls.specs.StoreCalls.{dom_call, store_meaning}
 
 pub reading_leaves : (c : DomCall) (t : Tree) → is_reading c ≡ true → (dom c t).1 ≡ t
 reading_leaves call.Docs t reads = refl
@@ -61,9 +62,12 @@ of_every_answer (Ok x) P all = all x
 of_every_answer (Err e) P all = tt
 
 -- a reply of a call that reads alone is all that the call does
-pub only_answers : {E : Type 0} (told : Option Entries) (c : DomCall) (r : Result (Option Reply) E)
+pub only_answers : {E : Type 0} (told : Option Entries) (x : StoreCall) (c : DomCall) (r : Result (Option Reply) E) → c ≡ dom_call x
     → OnTree told r (λ t known. IfSome known (λ answer. answer ≡ (dom c t).0)) → IfOk r (λ known. IsSome known → IsTrue (is_reading c))
-    → OnTree told r (λ t known. IfSome known (OnlyAnswers dom_meaning c t))
-only_answers told c (Err e) replies reads = tt
-only_answers told c (Ok None) replies reads = λ t stands. tt
-only_answers told c (Ok (Some answer)) replies reads = λ t stands. record { reply = replies t stands; changes = reading_changes_nothing c t stands.valid (reads refl) }
+    → OnTree told r (λ t known. IfSome known (OnlyAnswers store_meaning x t))
+only_answers told x c (Err e) same replies reads = tt
+only_answers told x c (Ok None) same replies reads = λ t stands. tt
+only_answers told x c (Ok (Some answer)) same replies reads = λ t stands. record {
+  reply = replies t stands ∙ ap (λ (d : DomCall). (dom d t).0) same;
+  changes = reading_changes_nothing (dom_call x) t stands.valid (subst (λ (d : DomCall). is_reading d ≡ true) same (reads refl));
+}
