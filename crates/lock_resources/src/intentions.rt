@@ -3,7 +3,7 @@ ghost use Rattle.std.specs.Prelude.{◌≡◌, ◌++◌, [], ◌∷◌, IsTrue, 
 ghost use Rattle.std.specs.List.{AllByRecursion};
 ghost use Rattle.lock_resources.specs.Resources.{label_of, Fits};
 ghost use Rattle.dewey_labels.specs.Ancestors.{ancestors, IsWayDown};
-ghost use Rattle.lock_resources.specs.Intentions.{has_row, on_node, on_attr_root, on_ancestors, directly_above, further_above, intentions, with_intentions, nodes_of};
+ghost use Rattle.lock_resources.specs.Intentions.{has_row, request, on_node, on_attr_root, on_ancestors, directly_above, further_above, intentions, with_intentions, nodes_of};
 ghost use Rattle.lock_resources.specs.inside.Gained.{GoesOn};
 
 use crate::{Request, Resource};
@@ -47,7 +47,7 @@ fn push_row(
     ensures err { OnErr result (GoesOn out.old out.new) }
 {
     push_intentions(alloc, &resource, ask, out)?;
-    out.push(Request { resource, ask })
+    push_own(resource, ask, out)
 }
 
 /// Adds the intentions that a request owes.
@@ -160,4 +160,11 @@ fn push_attr_root(
         resource,
         ask: Ask::Node(mode),
     })
+}
+
+fn push_own(resource: Resource, ask: Ask, out: &mut List<Request>) -> Result<(), NoMemory>
+    ensures ok { OnOk result (out.new ≡ out.old ++ request resource ask ∷ []) }
+    ensures err { OnErr result (out.new ≡ out.old) }
+{
+    out.push(Request { resource, ask })
 }

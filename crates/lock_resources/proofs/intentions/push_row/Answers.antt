@@ -9,12 +9,12 @@ returns-clause-ok c =
     let old = c.args.out.now in
     let whole = intentions c.args.resource c.args.ask in
     let own = request c.args.resource c.args.ask ∷ [] in
-    on_ok_then c.push.result (c.push.new.self ≡ c.push_intentions.new.out ++ own) (c.push.new.self ≡ old ++ with_intentions c.args.resource c.args.ask)
+    on_ok_then c.push_own.result (c.push_own.new.out ≡ c.push_intentions.new.out ++ own) (c.push_own.new.out ≡ old ++ with_intentions c.args.resource c.args.ask)
     (λ e. e ∙ ap (λ v. v ++ own) c.in_ok-push_intentions.ensures.ok ∙ append_assoc old whole own)
-    c.push.ensures.ok
+    c.push_own.ensures.ok
 
 pub returns-clause-err : goal.returns-clause-err
 returns-clause-err c =
-    on_err_then c.push.result (c.push.new.self ≡ c.push_intentions.new.out) (GoesOn c.args.out.now c.push.new.self)
+    on_err_then c.push_own.result (c.push_own.new.out ≡ c.push_intentions.new.out) (GoesOn c.args.out.now c.push_own.new.out)
     (λ e. goes_on_by _ _ _ (e ∙ c.in_ok-push_intentions.ensures.ok))
-    c.push.ensures.err
+    c.push_own.ensures.err
