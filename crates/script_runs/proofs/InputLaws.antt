@@ -1,6 +1,6 @@
 -- How a step follows an input that was taken so far, for any machine: what was written before the last read was asked for stays written.
 use Rattle.std.proofs.Common.{◌≡◌, ℕ, ◌+◌, ◌-◌, ◌≤◌, List, [], ◌++◌, length, take, refl, sym, ap, ◌∙◌, subst, arith, append-nil}
-use Rattle.std.specs.Prelude.{Option, Result, Ok, Err, IfSome, OnOk}
+use Rattle.std.specs.Prelude.{Option, Result, Ok, Err, IfSome, IsErrAnd}
 use Rattle.std.proofs.Math.Seq.{take-append_seam}
 use Rattle.outside_kinds.specs.Bounds.{input_limit}
 use Rattle.outside_traits.specs.Bytes.{Gave}
@@ -16,6 +16,7 @@ use Rattle.script_runs.specs.declared.halt.Halt.TheVariants.{DiskFault}
 use Rattle.script_runs.specs.declared.running.Input.{Input}
 use Rattle.script_runs.specs.declared.running.Input.TheVariants.{Ended, Fault}
 use Rattle.script_runs.proofs.LogLaws.{leaves_none, leaves_on, flushed_on}
+use Rattle.script_runs.proofs.AnswerLaws.{as_stop, stopped_at}
 use Rattle.script_runs.proofs.RunLaws.{prompt_later, prompt_nothing, prompt_here, prompt_before}
 
 -- where a read was asked for behind these bytes
@@ -60,14 +61,18 @@ module _ {M : Type 0} (m : Machine M) (limit : ℕ) where
               (prompt_later m limit s read h i j _ (prompt_here m limit s a new h read b i p written short) (q fed.0 fed.1).does.wrote);
         }
 
+-- a write that failed lets nothing go on
+pub stops_unwritten : (P : Type 0) (e : Stop) → as_stop e ≡ Err WriteFault → IfGoesOn P (Err e)
+stops_unwritten P e is = subst (IfGoesOn P) (sym is) tt
+
+-- a count that has not changed before
+pub counted_from : (P : Type 0) (before then now : ℕ) → then ≡ before → CountedWhere P then now → CountedWhere P before now
+counted_from P before then now same c = subst (λ (n : ℕ). CountedWhere P n now) same c
+
 -- a step's answer as an input's
 abbrev pub came : Result (Unit {0}) Stop → Result Input Stop
 came (Ok done) = Ok Ended
 came (Err stop) = Err stop
-
--- a stop, as a step's answer
-abbrev pub as_stop : Stop → Result (Unit {0}) Stop
-as_stop e = Err e
 
 module _ {S K M : Type 0} (m : Machine M) (left : S → Option (List ℕ)) (given asked faults : S → ℕ) (held : K → Option (List ℕ)) (write_faults : K → ℕ) (old new : Script M) (source source_now : S) (sink sink_now : K) where
   -- bytes were read, and what taking them leaves
@@ -79,9 +84,9 @@ module _ {S K M : Type 0} (m : Machine M) (left : S → Option (List ℕ)) (give
   Taken r = TakesInput m left given asked faults held write_faults old new source source_now sink sink_now r
 
   -- a step stopped
-  pub input_stopped : (r : Result Input Stop) (e : Stop) → r ≡ Err e → Takes (Err e) → IfGoesOn (IsReady m new.machine) (Err e) → new.lines ≤ input_limit → faults source_now ≡ faults source
+  pub input_stopped : (r : Result Input Stop) (e : Stop) → IsErrAnd r (λ x. x ≡ e) → Takes (Err e) → IfGoesOn (IsReady m new.machine) (Err e) → new.lines ≤ input_limit → faults source_now ≡ faults source
       → CountedWhere (as_stop e ≡ Err WriteFault) (write_faults sink) (write_faults sink_now) → DisksCountedWhere (as_stop e ≡ Err (Halted DiskFault)) (m.faults old.machine) (m.faults new.machine) → Taken r
-  input_stopped r e is takes ready lines none write disk = subst Taken (sym is) (record {
+  input_stopped r e is takes ready lines none write disk = subst Taken (sym (stopped_at r e is)) (record {
     takes = takes;
     ready = ready;
     lines = lines;

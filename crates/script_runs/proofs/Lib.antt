@@ -1,3 +1,5 @@
+pub mod AnswerLaws
+pub mod EndLaws
 pub mod FeedingLaws
 pub mod InputLaws
 pub mod LineEnds

@@ -47,9 +47,6 @@ lines_in_line : (line part more : List ℕ) → IsInLine part → lines_from lin
 lines_in_line line part more h =
     (λ i. (ended_on line part more ∙ (λ j. ended_in_line line part h j ++ ended (unended_in_line line part h j) more)) i ++ last_line ((unended_on line part more ∙ ap (λ l. unended l more) (unended_in_line line part h)) i))
 
-abbrev as_error : Stop → Result (Unit {0}) Stop
-as_error e = Err e
-
 stopped_slack : (e : Stop) → (e ≡ stop.LineTooLong → ⊥) → slack_of (Err e) ≡ slack_at (stopped e)
 stopped_slack stop.LineTooLong apart = absurd (apart refl)
 stopped_slack stop.WriteFault apart = refl

@@ -5,17 +5,18 @@ use Rattle.outside_traits.specs.Bytes.{Gave}
 use Rattle.outside_traits.proofs.Laws.{gave_none, gave_on}
 use Rattle.script_runs.specs.Lines.{line_limit}
 use Rattle.script_runs.specs.Machine.{IsReady}
-use Rattle.script_runs.specs.inside.Feeding.{IfGoesOn}
 use Rattle.script_runs.proofs.LogLaws.{flushed_on}
-use Rattle.script_runs.specs.Counts.{CountedWhere, DisksCountedWhere}
+use Rattle.script_runs.specs.Counts.{DisksCountedWhere}
+use Rattle.script_runs.specs.declared.feeding.Stop.{Stop}
 use Rattle.script_runs.specs.declared.feeding.Stop.TheVariants.{WriteFault, Halted}
 use Rattle.script_runs.specs.declared.halt.Halt.TheVariants.{DiskFault}
-use Rattle.script_runs.proofs.InputLaws.{takes_none, takes_flushed, takes_fault, takes_end, takes_piece, as_stop, input_stopped, input_failed, input_ended}
+use Rattle.script_runs.proofs.AnswerLaws.{as_stop, step_is_no_stop}
+use Rattle.script_runs.proofs.InputLaws.{takes_none, takes_flushed, takes_fault, takes_end, takes_piece, counted_from, stops_unwritten, input_stopped, input_failed, input_ended}
 use Rattle.script_runs.proofs.running.take_pieces.Goals as goal
 
 -- a failed write is no failed disk
-write_is_no_halt : as_stop WriteFault ≡ Err (Halted DiskFault) → ⊥
-write_is_no_halt it = cc
+write_is_no_halt : (e : Stop) → as_stop e ≡ Err WriteFault → as_stop e ≡ Err (Halted DiskFault) → ⊥
+write_is_no_halt e is it = cc
 
 -- one piece more was given
 gave_piece : (a b c : Option (List ℕ)) (read piece prefix : List ℕ) → Gave a b read → piece ≡ prefix → Gave b c prefix → Gave a c (read ++ piece)
@@ -43,14 +44,13 @@ returns-in_err-flush-clause-takes g c =
     let so = invariant.so_far in
     let f = c.in_err-flush.ensures in
     let e = c.in_err-flush.field-0.0 in
-    let is : c.from_residual.result ≡ Err e = search rules in
-    input_stopped m g.S.Source.left g.S.Source.given g.S.Source.asked g.S.Source.faults g.K.Sink.held g.K.Sink.faults _ _ _ _ _ _ c.from_residual.result e is
+    input_stopped m g.S.Source.left g.S.Source.given g.S.Source.asked g.S.Source.faults g.K.Sink.held g.K.Sink.faults _ _ _ _ _ _ c.from_residual.result e c.from_residual.ensures.1
     (so.0, so.1, so.2, λ s stands. takes_flushed m line_limit s c.args.script.now c.loop-source.script c.flush.new.self _ _ _ so.0 _ (Err e) (so.3 s stands) f.leaves)
-    (subst (IfGoesOn (IsReady m c.flush.new.self.machine)) (sym f.error) tt)
+    (stops_unwritten (IsReady m c.flush.new.self.machine) e f.error)
     (omega (arith, invariant.lines, f.lines))
     invariant.no_read_fault
-    (subst (λ n. CountedWhere (as_stop e ≡ Err WriteFault) n (g.K.Sink.faults c.flush.new.sink)) invariant.no_write_fault f.write)
-    (record { counted = λ it. absurd (write_is_no_halt (sym f.error ∙ it)); exact = λ other. ap m.faults f.machine ∙ invariant.no_disk_fault })
+    (counted_from (as_stop e ≡ Err WriteFault) (g.K.Sink.faults c.args.sink.now) (g.K.Sink.faults c.loop-source.sink) (g.K.Sink.faults c.flush.new.sink) invariant.no_write_fault f.write)
+    (record { counted = λ it. absurd (write_is_no_halt e f.error it); exact = λ other. ap m.faults f.machine ∙ invariant.no_disk_fault })
 
 pub returns-in-Err-clause-takes : goal.returns-in-Err-clause-takes
 returns-in-Err-clause-takes g c =
@@ -70,7 +70,7 @@ returns-in-Err-clause-takes g c =
     f.empty
     f.short
     (search rules)
-    (f.write.exact (λ e. cc) ∙ invariant.no_write_fault)
+    (f.write.exact (step_is_no_stop _) ∙ invariant.no_write_fault)
     (ap m.faults f.machine ∙ invariant.no_disk_fault)
 
 pub returns-then-count-eq0-clause-takes : goal.returns-then-count-eq0-clause-takes
@@ -98,7 +98,7 @@ returns-then-count-eq0-clause-takes g c =
     f.short
     (search rules)
     (r.below.exact ∙ invariant.no_read_fault)
-    (f.write.exact (λ e. cc) ∙ invariant.no_write_fault)
+    (f.write.exact (step_is_no_stop _) ∙ invariant.no_write_fault)
     (ap m.faults f.machine ∙ invariant.no_disk_fault)
 
 pub returns-in_err-feed-clause-takes : goal.returns-in_err-feed-clause-takes
@@ -111,8 +111,7 @@ returns-in_err-feed-clause-takes g c =
     let fed = c.in_err-feed.ensures in
     let piece = c.split_at.result.0.now in
     let e = c.in_err-feed.field-0.0 in
-    let is : c.from_residual-in_err-feed.result ≡ Err e = search rules in
-    input_stopped m g.S.Source.left g.S.Source.given g.S.Source.asked g.S.Source.faults g.K.Sink.held g.K.Sink.faults _ _ _ _ _ _ c.from_residual-in_err-feed.result e is (
+    input_stopped m g.S.Source.left g.S.Source.given g.S.Source.asked g.S.Source.faults g.K.Sink.held g.K.Sink.faults _ _ _ _ _ _ c.from_residual-in_err-feed.result e c.from_residual-in_err-feed.ensures.1 (
       so.0 ++ piece,
       gave_piece _ _ _ so.0 piece (take c.in-Ok.count c.read.new.buf) so.1 c.split_at.ensures.front r.bytes,
       omega (arith, so.2, r.count, c.split_at.ensures.front_len, length-append so.0 piece),
@@ -123,7 +122,7 @@ returns-in_err-feed-clause-takes g c =
     fed.ready
     (omega (arith, invariant.lines, fed.lines, f.lines, c.split_at.ensures.front_len, r.count, r.room))
     (r.below.exact ∙ invariant.no_read_fault)
-    (subst (λ n. CountedWhere (as_stop e ≡ Err WriteFault) n (g.K.Sink.faults c.feed.new.sink)) (f.write.exact (λ e. cc) ∙ invariant.no_write_fault) fed.write)
+    (counted_from (as_stop e ≡ Err WriteFault) (g.K.Sink.faults c.args.sink.now) (g.K.Sink.faults c.flush.new.sink) (g.K.Sink.faults c.feed.new.sink) (f.write.exact (step_is_no_stop _) ∙ invariant.no_write_fault) fed.write)
     (subst (λ n. DisksCountedWhere (as_stop e ≡ Err (Halted DiskFault)) n (m.faults c.feed.new.self.machine)) (ap m.faults f.machine ∙ invariant.no_disk_fault) fed.disk)
 
 pub loop-source-preserved : goal.loop-source-preserved
@@ -148,6 +147,6 @@ loop-source-preserved g c =
       used = omega (arith, invariant.used, c.in-Ok.ensures.room);
       lines = omega (arith, invariant.lines, fed.lines, f.lines, c.split_at.ensures.front_len, c.in-Ok.ensures.count, c.in-Ok.ensures.room);
       no_read_fault = c.in-Ok.ensures.below.exact ∙ invariant.no_read_fault;
-      no_write_fault = fed.write.exact (λ e. cc) ∙ f.write.exact (λ e. cc) ∙ invariant.no_write_fault;
-      no_disk_fault = fed.disk.exact (λ e. cc) ∙ ap m.faults f.machine ∙ invariant.no_disk_fault;
+      no_write_fault = fed.write.exact (step_is_no_stop _) ∙ f.write.exact (step_is_no_stop _) ∙ invariant.no_write_fault;
+      no_disk_fault = fed.disk.exact (step_is_no_stop _) ∙ ap m.faults f.machine ∙ invariant.no_disk_fault;
     }
