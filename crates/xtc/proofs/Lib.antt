@@ -1,5 +1,6 @@
 pub mod AskedLaws
 pub mod AskingLaws
+pub mod CommandRunLaws
 pub mod CommitCounts
 pub mod CommitLaws
 pub mod DocumentLaws

@@ -1,3 +1,4 @@
 -- Words of private functions and of the proof.
+pub mod CommandRuns
 pub mod Stores
 pub mod Asking

@@ -2,6 +2,7 @@
 ghost use Rattle.std.specs.Prelude.{◌≡◌, ◌++◌, ◌∷◌, [], false, None, Err, IfOk, IfErr, IfSome, OnOk};
 ghost use Rattle.call_contract.specs.States.{State};
 ghost use Rattle.command_lines.specs.declared.command.StoreCall.{StoreCall};
+ghost use Rattle.command_lines.specs.declared.line_reply.LineAnswer.TheVariants as line_answer;
 ghost use Rattle.serde_json.specs.Data.{null};
 ghost use Rattle.serde_json.specs.View.{view};
 ghost use Rattle.serde_json.specs.Written.{has_float, compact_text};
@@ -94,10 +95,27 @@ fn reason_of_answer(answer: &LineAnswer) -> Option<Reason>
     ensures { result ≡ reason_of_answer answer.now }
 {
     match answer {
-        LineAnswer::Reply(Reply::Refused(why)) => Some(Reason::Call(*why)),
-        LineAnswer::Session(SessionRefusal::TxLimit | SessionRefusal::CommitLimit) => {
-            Some(Reason::Limit)
-        }
+        LineAnswer::Reply(reply) => reason_of_reply(reply),
+        LineAnswer::Session(refusal) => reason_of_session(*refusal),
+        LineAnswer::Wait { .. } | LineAnswer::Deadlock(_) => None,
+    }
+}
+
+fn reason_of_reply(reply: &Reply) -> Option<Reason>
+    ensures { result ≡ reason_of_answer (line_answer.Reply reply.now) }
+{
+    match reply {
+        Reply::Refused(why) => Some(Reason::Call(*why)),
+        _ => None,
+    }
+}
+
+/// No number is left for the transaction that a session begins, or no room for its commit.
+fn reason_of_session(refusal: SessionRefusal) -> Option<Reason>
+    ensures { result ≡ reason_of_answer (line_answer.Session refusal) }
+{
+    match refusal {
+        SessionRefusal::TxLimit | SessionRefusal::CommitLimit => Some(Reason::Limit),
         _ => None,
     }
 }

@@ -1,16 +1,13 @@
 // The commands of one document over a store that was opened.
-ghost use Rattle.std.specs.Prelude.{◌≡◌, ◌≢◌, ◌+◌, ◌-◌, ◌≤◌, ℕ, List, [], length, Option, None, Some, Ok, Err, IsTrue, IfOk, IfErr, OnOk, IfSome};
+ghost use Rattle.std.specs.Prelude.{◌≡◌, ◌≢◌, ◌+◌, ◌≤◌, ℕ, List, [], length, None, Some, Ok, Err, IfOk, IfErr, OnOk, IfSome};
 ghost use Rattle.outside_traits.specs.Bytes.{Gave};
-ghost use Rattle.outside_traits.specs.DiskPairs.{Pair, pair_of};
-ghost use Rattle.outside_traits.specs.Disks.{all_synced};
-ghost use Rattle.outside_traits.specs.Moments.{IsAllSynced};
+ghost use Rattle.outside_traits.specs.DiskPairs.{pair_of};
 ghost use Rattle.tree_model.specs.Fragments.{IsValid, plain, is_text_fragment};
 ghost use Rattle.tree_model.specs.StoredTree.{IsStoredTree};
 ghost use Rattle.tree_model.specs.Tree.{Tree};
 ghost use Rattle.node_seq.specs.Trees.{StandsFor};
-ghost use Rattle.recovery.specs.Opened.{contents_of_files};
 ghost use Rattle.recovery.specs.Openings.{TakesBehind};
-ghost use Rattle.script_runs.specs.Counts.{CountedWhere, DisksCountedWhere};
+ghost use Rattle.script_runs.specs.Counts.{CountedWhere};
 ghost use Rattle.call_contract.specs.States.{State, start};
 ghost use Rattle.command_lines.specs.declared.command.StoreCall.{StoreCall};
 ghost use Rattle.command_lines.specs.ValidCommands.{IsValidWhat};
@@ -23,8 +20,9 @@ ghost use Rattle.jsonml_io.specs.declared.fragment_error.FragmentError.TheVarian
 ghost use Rattle.xtc.specs.Commands.{put as put_command, get as get_command};
 ghost use Rattle.xtc.specs.Documents.{element_in, find_asks, dump_asks, put_asks, label_in, reason_in, tree_in, tree_line};
 ghost use Rattle.xtc.specs.StoreMachine.{Stands};
-ghost use Rattle.xtc.specs.TopCall.{DocumentRan, IsSilent, IsOfOpened, WroteWhole, tx_limit, whole_limit};
+ghost use Rattle.xtc.specs.TopCall.{WroteWhole, tx_limit, whole_limit};
 ghost use Rattle.xtc.specs.inside.Asking.{all_asks, AreValidAsks, AskedInTurn, DocumentDone, IsReadElement, IsStop, IsUnwritten, IsWriteEnd};
+ghost use Rattle.xtc.specs.inside.CommandRuns.{Input, RunsCommand};
 ghost use Rattle.xtc.specs.inside.Stores.{MayBeAsked, Counts};
 
 use crate::asking::{ask_in_turn, label_in, label_line, tree_line};
@@ -57,27 +55,18 @@ pub fn run_put<S: Source, K: Sink, J: Disk, P: Disk>(
 ) -> Finish<J, P>
     requires tree { IsStoredTree store.base }
     requires next { TakesBehind store.journal store.number }
-    ensures ran { (read : List ℕ) × Gave (S.left source.old) (S.left source.new) read × (S.given source.new ≡ S.given source.old + length read)
-        × (IsTrue J.is_known → IsTrue P.is_known → IsAllSynced store.journal.history → (P.history store.pages).now ≡ all_synced []
-        → contents_of_files store.journal.history.now.reads [] ≡ Ok (record { entries = store.base; number = store.number })
-        → (t : Tree) → StandsFor (Some store.base) t → (old : Pair)
-        → DocumentRan t store.number tx_limit (put_command name.now) result.status (pair_of store.journal.history (P.history store.pages)) (record {
-          read = read;
-          asked = S.asked source.new - S.given source.old;
-          left = S.left source.new;
-          before = K.held sink.old;
-          now = K.held sink.new;
-          old = old;
-          new = pair_of (J.history result.journal) (P.history result.pages);
-        })) }
-    ensures whole { result.status ≡ Status.Done → IfSome (S.left source.new) (λ rest. rest ≡ []) }
-    ensures silent { IsSilent (Some (put_command name.now)) result.status (K.held sink.new ≡ K.held sink.old) }
-    ensures status { IsOfOpened result.status }
-    ensures read { CountedWhere (result.status ≡ Status.ReadFault) (S.faults source.old) (S.faults source.new) }
-    ensures write { CountedWhere (result.status ≡ Status.WriteFault) (K.faults sink.old) (K.faults sink.new) }
-    ensures disk { DisksCountedWhere (result.status ≡ Status.DiskFault)
-        (record { journal = store.journal.faults; pages = P.faults store.pages })
-        (record { journal = J.faults result.journal; pages = P.faults result.pages }) }
+    ensures { RunsCommand J.is_known P.is_known store.base store.number (put_command name.now) result.status
+        (record { left = S.left source.old; given = S.given source.old; asked = S.asked source.old; faults = S.faults source.old })
+        (record { left = S.left source.new; given = S.given source.new; asked = S.asked source.new; faults = S.faults source.new })
+        (record { held = K.held sink.old; faults = K.faults sink.old }) (record { held = K.held sink.new; faults = K.faults sink.new })
+        (record {
+          files = pair_of store.journal.history (P.history store.pages);
+          faults = record { journal = store.journal.faults; pages = P.faults store.pages };
+        })
+        (record {
+          files = pair_of (J.history result.journal) (P.history result.pages);
+          faults = record { journal = J.faults result.journal; pages = P.faults result.pages };
+        }) }
 {
     let Opened {
         mut journal,
@@ -98,25 +87,16 @@ pub fn run_get<K: Sink, J: Disk, P: Disk>(
 ) -> Finish<J, P>
     requires tree { IsStoredTree store.base }
     requires next { TakesBehind store.journal store.number }
-    ensures ran { IsTrue J.is_known → IsTrue P.is_known → IsAllSynced store.journal.history → (P.history store.pages).now ≡ all_synced []
-        → contents_of_files store.journal.history.now.reads [] ≡ Ok (record { entries = store.base; number = store.number })
-        → (t : Tree) → StandsFor (Some store.base) t → (asked : ℕ) (left : Option (List ℕ)) (old : Pair)
-        → DocumentRan t store.number tx_limit (get_command name.now) result.status (pair_of store.journal.history (P.history store.pages)) (record {
-          read = [];
-          asked = asked;
-          left = left;
-          before = K.held sink.old;
-          now = K.held sink.new;
-          old = old;
-          new = pair_of (J.history result.journal) (P.history result.pages);
+    ensures { (input : Input) → RunsCommand J.is_known P.is_known store.base store.number (get_command name.now) result.status input input
+        (record { held = K.held sink.old; faults = K.faults sink.old }) (record { held = K.held sink.new; faults = K.faults sink.new })
+        (record {
+          files = pair_of store.journal.history (P.history store.pages);
+          faults = record { journal = store.journal.faults; pages = P.faults store.pages };
+        })
+        (record {
+          files = pair_of (J.history result.journal) (P.history result.pages);
+          faults = record { journal = J.faults result.journal; pages = P.faults result.pages };
         }) }
-    ensures silent { IsSilent (Some (get_command name.now)) result.status (K.held sink.new ≡ K.held sink.old) }
-    ensures status { IsOfOpened result.status }
-    ensures read { result.status ≢ Status.ReadFault }
-    ensures write { CountedWhere (result.status ≡ Status.WriteFault) (K.faults sink.old) (K.faults sink.new) }
-    ensures disk { DisksCountedWhere (result.status ≡ Status.DiskFault)
-        (record { journal = store.journal.faults; pages = P.faults store.pages })
-        (record { journal = J.faults result.journal; pages = P.faults result.pages }) }
 {
     let Opened {
         mut journal,
@@ -161,6 +141,26 @@ fn put_input<S: Source, J: Disk>(
     ensures counts { Counts (result ≡ Err Status.DiskFault) journal.old.faults journal.new.faults }
 {
     let element = read_element(alloc, source)?;
+    put_element(alloc, name, element, base, number, journal)
+}
+
+/// Makes a document of an element, and answers the line to write.
+fn put_element<J: Disk>(
+    alloc: Global,
+    name: &str,
+    element: Fragment,
+    base: SortedSeq,
+    number: u32,
+    journal: &mut Journal<J>,
+) -> Result<Vec<u8>, Status>
+    requires tree { IsStoredTree base }
+    requires next { TakesBehind journal.old number }
+    requires valid { IsValid (plain element) }
+    ensures done { (read : List ℕ) → element_in read ≡ Ok element → length read ≤ whole_limit → (t : Tree) → StandsFor (Some base) t
+        → DocumentDone J.is_known (start t number tx_limit) (put_command name.now) read journal.old.history journal.new.history (λ text. text.items) result }
+    ensures stops { IfErr result IsStop }
+    ensures counts { Counts (result ≡ Err Status.DiskFault) journal.old.faults journal.new.faults }
+{
     let mut core = open_core(alloc, base, number)?;
     put(alloc, &mut core, journal, name, element)
 }

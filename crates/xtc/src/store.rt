@@ -1,5 +1,5 @@
 // A store's sessions over its two disks, as a machine that does the lines of a script.
-ghost use Rattle.std.specs.Prelude.{◌≡◌, ◌<◌, ◌++◌, length, Some, Err, OnOk, vec_capacity};
+ghost use Rattle.std.specs.Prelude.{◌≡◌, ◌<◌, ◌++◌, ◌∷◌, [], length, Some, Err, OnOk, vec_capacity};
 ghost use Rattle.call_contract.specs.States.{State};
 ghost use Rattle.command_lines.specs.Replies.{reply_text};
 ghost use Rattle.command_lines.specs.declared.command.StoreCall.{StoreCall};
@@ -192,9 +192,10 @@ fn commit<J: Disk>(
 
 /// Adds the reply to a line that is no command.
 fn write_bad(alloc: Global, why: Text, line: u64, out: &mut Vec<u8>) -> Result<(), NoMemory>
-    ensures { OnOk result (out.new.items ≡ out.old.items ++ reply_text (line_reply.Bad why line)) }
+    ensures { OnOk result (out.new.items ≡ out.old.items ++ replies_text (line_reply.Bad why line ∷ [])) }
 {
-    write_line(alloc, &LineReply::Bad { why, line }, out)
+    let replies = vec![in alloc; LineReply::Bad { why, line }]?;
+    write_replies(alloc, replies.as_slice(), out)
 }
 
 /// Adds a reply.

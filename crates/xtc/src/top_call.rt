@@ -1,20 +1,16 @@
 // The program's one call: it tests the words, opens the store, and runs the script of the source over it.
-ghost use Rattle.std.specs.Prelude.{◌≡◌, ◌↔◌, ◌+◌, ℕ, List, [], ◌-◌, length, IsTrue, false, IfSome, Some, Ok};
+ghost use Rattle.std.specs.Prelude.{◌≡◌, ◌↔◌, ◌+◌, ℕ, List, [], ◌-◌, length, IsTrue, IfSome, None};
 ghost use Rattle.outside_traits.specs.Bytes.{Gave};
 ghost use Rattle.outside_traits.specs.CrashImages.{IsImage};
-ghost use Rattle.outside_traits.specs.DiskPairs.{Pair, pair_of};
-ghost use Rattle.outside_traits.specs.Disks.{all_synced};
-ghost use Rattle.outside_traits.specs.Moments.{IsAllSynced};
+ghost use Rattle.outside_traits.specs.DiskPairs.{pair_of};
 ghost use Rattle.tree_model.specs.StoredTree.{IsStoredTree};
-ghost use Rattle.tree_model.specs.Tree.{Tree};
 ghost use Rattle.node_records.specs.declared.open_error.Place.{Place};
-ghost use Rattle.node_seq.specs.Trees.{StandsFor};
-ghost use Rattle.recovery.specs.Opened.{contents_of_files};
 ghost use Rattle.recovery.specs.Openings.{FoundDamaged, TakesBehind};
 ghost use Rattle.script_runs.specs.Counts.{CountedWhere, DisksCountedWhere, ReadCountedWhere};
 ghost use Rattle.outside_kinds.specs.Bounds.{input_limit};
-ghost use Rattle.xtc.specs.Commands.{command_of, meant, reads_input};
-ghost use Rattle.xtc.specs.TopCall.{Leaves, CommandRan, ScriptRan, IsSilent, IsUnread, IsOfRun, IsOfOpened, tx_limit};
+ghost use Rattle.xtc.specs.Commands.{command_of, meant, reads_input, run};
+ghost use Rattle.xtc.specs.TopCall.{Leaves, IsSilent, IsUnread, tx_limit};
+ghost use Rattle.xtc.specs.inside.CommandRuns.{RunsCommand};
 
 use crate::command::{Command, command_of};
 use crate::document::{run_get, run_put};
@@ -109,28 +105,18 @@ fn run_command<S: Source, K: Sink, J: Disk, P: Disk>(
 ) -> Finish<J, P>
     requires tree { IsStoredTree store.base }
     requires next { TakesBehind store.journal store.number }
-    ensures ran { (read : List ℕ) × Gave (S.left source.old) (S.left source.new) read × (S.given source.new ≡ S.given source.old + length read)
-        × (IsTrue J.is_known → IsTrue P.is_known → IsAllSynced store.journal.history → (P.history store.pages).now ≡ all_synced []
-        → contents_of_files store.journal.history.now.reads [] ≡ Ok (record { entries = store.base; number = store.number })
-        → (t : Tree) → StandsFor (Some store.base) t → (old : Pair)
-        → CommandRan t store.number tx_limit (Some (meant command.entry)) result.status (pair_of store.journal.history (P.history store.pages)) (record {
-          read = read;
-          asked = S.asked source.new - S.given source.old;
-          left = S.left source.new;
-          before = K.held sink.old;
-          now = K.held sink.new;
-          old = old;
-          new = pair_of (J.history result.journal) (P.history result.pages);
-        })) }
-    ensures whole { IsTrue (reads_input (Some (meant command.entry))) → result.status ≡ Status.Done → IfSome (S.left source.new) (λ rest. rest ≡ []) }
-    ensures silent { IsSilent (Some (meant command.entry)) result.status (K.held sink.new ≡ K.held sink.old) }
-    ensures status { IsOfOpened result.status }
-    ensures read { ReadCountedWhere (result.status ≡ Status.ReadFault) input_limit
-        (S.faults source.old) (S.faults source.new) (S.given source.old) (S.given source.new) }
-    ensures write { CountedWhere (result.status ≡ Status.WriteFault) (K.faults sink.old) (K.faults sink.new) }
-    ensures disk { DisksCountedWhere (result.status ≡ Status.DiskFault)
-        (record { journal = store.journal.faults; pages = P.faults store.pages })
-        (record { journal = J.faults result.journal; pages = P.faults result.pages }) }
+    ensures { RunsCommand J.is_known P.is_known store.base store.number (meant command.entry) result.status
+        (record { left = S.left source.old; given = S.given source.old; asked = S.asked source.old; faults = S.faults source.old })
+        (record { left = S.left source.new; given = S.given source.new; asked = S.asked source.new; faults = S.faults source.new })
+        (record { held = K.held sink.old; faults = K.faults sink.old }) (record { held = K.held sink.new; faults = K.faults sink.new })
+        (record {
+          files = pair_of store.journal.history (P.history store.pages);
+          faults = record { journal = store.journal.faults; pages = P.faults store.pages };
+        })
+        (record {
+          files = pair_of (J.history result.journal) (P.history result.pages);
+          faults = record { journal = J.faults result.journal; pages = P.faults result.pages };
+        }) }
 {
     match command {
         Command::Run => run_store(alloc, source, sink, store),
@@ -148,27 +134,18 @@ fn run_store<S: Source, K: Sink, J: Disk, P: Disk>(
 ) -> Finish<J, P>
     requires tree { IsStoredTree store.base }
     requires next { TakesBehind store.journal store.number }
-    ensures ran { (read : List ℕ) × Gave (S.left source.old) (S.left source.new) read × (S.given source.new ≡ S.given source.old + length read)
-        × (IsTrue J.is_known → IsTrue P.is_known → IsAllSynced store.journal.history → (P.history store.pages).now ≡ all_synced []
-        → contents_of_files store.journal.history.now.reads [] ≡ Ok (record { entries = store.base; number = store.number })
-        → (t : Tree) → StandsFor (Some store.base) t → (old : Pair)
-        → ScriptRan t store.number tx_limit result.status (pair_of store.journal.history (P.history store.pages)) (record {
-          read = read;
-          asked = S.asked source.new - S.given source.old;
-          left = S.left source.new;
-          before = K.held sink.old;
-          now = K.held sink.new;
-          old = old;
-          new = pair_of (J.history result.journal) (P.history result.pages);
-        })) }
-    ensures whole { result.status ≡ Status.Done → IfSome (S.left source.new) (λ rest. rest ≡ []) }
-    ensures status { IsOfRun result.status }
-    ensures read { ReadCountedWhere (result.status ≡ Status.ReadFault) input_limit
-        (S.faults source.old) (S.faults source.new) (S.given source.old) (S.given source.new) }
-    ensures write { CountedWhere (result.status ≡ Status.WriteFault) (K.faults sink.old) (K.faults sink.new) }
-    ensures disk { DisksCountedWhere (result.status ≡ Status.DiskFault)
-        (record { journal = store.journal.faults; pages = P.faults store.pages })
-        (record { journal = J.faults result.journal; pages = P.faults result.pages }) }
+    ensures { RunsCommand J.is_known P.is_known store.base store.number run result.status
+        (record { left = S.left source.old; given = S.given source.old; asked = S.asked source.old; faults = S.faults source.old })
+        (record { left = S.left source.new; given = S.given source.new; asked = S.asked source.new; faults = S.faults source.new })
+        (record { held = K.held sink.old; faults = K.faults sink.old }) (record { held = K.held sink.new; faults = K.faults sink.new })
+        (record {
+          files = pair_of store.journal.history (P.history store.pages);
+          faults = record { journal = store.journal.faults; pages = P.faults store.pages };
+        })
+        (record {
+          files = pair_of (J.history result.journal) (P.history result.pages);
+          faults = record { journal = J.faults result.journal; pages = P.faults result.pages };
+        }) }
 {
     let Opened {
         journal,

@@ -78,7 +78,7 @@ returns-in-Ok-clause-leaves g c =
             until_open = c.in-Ok.ensures.any_moment kj kp;
             ran = run.3 kj kp (c.in-Ok.ensures.synced.journal kj).synced none (beside_none _ _ _ opens.stands) t is old;
           } in
-          opened_leaves tx_limit (command_of c.args.words.now.items) status o c.run_command.ensures.status
+          opened_leaves tx_limit (command_of c.args.words.now.items) status o c.run_command.ensures.opened
           (subst (λ (command : Option Command). OpenedStoreLeaves tx_limit command status o) c.in-Some.ensures leaves),
     )
 
@@ -90,10 +90,10 @@ returns-in-Ok-clause-silent g c =
     subst (λ (command : Option Command). IsSilent command c.run_command.result.status (g.K.Sink.held c.run_command.new.sink ≡ g.K.Sink.held c.args.sink.now)) c.in-Some.ensures c.run_command.ensures.silent
 
 pub returns-in-Ok-clause-unread : goal.returns-in-Ok-clause-unread
-returns-in-Ok-clause-unread g c = opened_unread c.run_command.result.status _ c.run_command.ensures.status
+returns-in-Ok-clause-unread g c = opened_unread c.run_command.result.status _ c.run_command.ensures.opened
 
 pub returns-in-Ok-clause-damaged : goal.returns-in-Ok-clause-damaged
-returns-in-Ok-clause-damaged g c = λ place is. absurd (opened_not_damaged c.run_command.result.status place c.run_command.ensures.status is)
+returns-in-Ok-clause-damaged g c = λ place is. absurd (opened_not_damaged c.run_command.result.status place c.run_command.ensures.opened is)
 
 -- ---- the counts of faults
 

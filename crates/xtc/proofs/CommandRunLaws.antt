@@ -1,0 +1,227 @@
+-- What a command that ran over a store that was opened leaves, by what its parts leave.
+use Rattle.std.proofs.Common.{◌≡◌, ◌-◌, ℕ, Bool, [], refl, sym, ap, subst, ◌∙◌, inl, add-zero, arith}
+use Rattle.std.specs.Prelude.{Some, Result, Ok, Err, IfOk, IfErr, IfSome, OnOk, IsTrue}
+use Rattle.outside_kinds.specs.Bounds.{input_limit}
+use Rattle.outside_traits.specs.DiskPairs.{Pair}
+use Rattle.outside_traits.specs.Disks.{all_synced}
+use Rattle.outside_traits.specs.Moments.{IsAllSynced}
+use Rattle.outside_traits.proofs.Laws.{gave_none}
+use Rattle.tree_model.specs.Entries.{Entries}
+use Rattle.tree_model.specs.Tree.{Tree}
+use Rattle.node_seq.specs.Trees.{StandsFor}
+use Rattle.recovery.specs.Opened.{contents_of_files}
+use Rattle.script_runs.specs.Counts as counts
+use Rattle.script_runs.specs.Counts.{CountedWhere, DisksCountedWhere, ReadCountedWhere, counted}
+use Rattle.script_runs.specs.declared.halt.Halt.TheVariants as halt
+use Rattle.script_runs.specs.declared.running.End.{End}
+use Rattle.script_runs.specs.declared.running.End.TheVariants as end
+use Rattle.xtc.specs.Commands.{Command, run, put, get, reads_input}
+use Rattle.xtc.specs.Statuses.{status_of_end}
+use Rattle.xtc.specs.TopCall.{IsOfOpened, IsSilent, ScriptRan, tx_limit}
+use Rattle.xtc.specs.declared.status.Status.{Status}
+use Rattle.xtc.specs.declared.status.Status.TheVariants.{Done, Usage, LineTooLong, Damaged, ReadFault, WriteFault, DiskFault, NoMemory, NotJsonMl, DocumentRefused}
+use Rattle.xtc.specs.inside.Asking.{IsUnwritten, IsWriteEnd}
+use Rattle.xtc.specs.inside.CommandRuns.{Input, Output, Disks, RanOver, RunsCommand}
+use Rattle.xtc.specs.inside.Stores.{Counts}
+use Rattle.xtc.proofs.StatusLaws.{is_of_run, run_not_silent, of_run_opened}
+
+-- ---- the counts of faults
+
+-- where one thing is so exactly where another is, a fault is counted for either
+counted_as : {P Q : Type 0} → (P → Q) → (Q → P) → (before now : ℕ) → CountedWhere Q before now → CountedWhere P before now
+counted_as there back before now c = record { counted = λ p. c.counted (there p); exact = λ no. c.exact (λ q. no (back q)) }
+
+disks_counted_as : {P Q : Type 0} → (P → Q) → (Q → P) → (before now : counts.Counts) → DisksCountedWhere Q before now → DisksCountedWhere P before now
+disks_counted_as there back before now c = record { counted = λ p. c.counted (there p); exact = λ no. c.exact (λ q. no (back q)) }
+
+read_counted_as : {P Q : Type 0} → (P → Q) → (Q → P) → (most before now given given_now : ℕ) → ReadCountedWhere Q most before now given given_now → ReadCountedWhere P most before now given given_now
+read_counted_as there back most before now given given_now c = record { cause = λ p. c.cause (there p); exact = λ no. c.exact (λ q. no (back q)) }
+
+-- no read failed, and none was made
+pub read_never : {P : Type 0} (most faults given : ℕ) → (P → ⊥) → ReadCountedWhere P most faults faults given given
+read_never most faults given never = record { cause = λ p. absurd (never p); exact = λ no. refl }
+
+-- the counts are told by other values
+pub disks_moved : {P : Type 0} (before before_now now now_now : counts.Counts) → before_now ≡ before → now_now ≡ now → DisksCountedWhere P before_now now → DisksCountedWhere P before now_now
+disks_moved {P} before before_now now now_now first last c = subst (λ (x : counts.Counts × counts.Counts). DisksCountedWhere P x.0 x.1) (λ i. (first i, sym last i)) c
+
+-- ---- a script
+
+done_end : (e : End) → status_of_end e ≡ Done → e ≡ end.Done
+done_end end.Done it = refl
+done_end (end.LineTooLong line) it = absurd cc
+done_end end.ReadFault it = absurd cc
+done_end end.WriteFault it = absurd cc
+done_end (end.Halted halt.DiskFault) it = absurd cc
+done_end (end.Halted halt.NoMemory) it = absurd cc
+
+read_end : (e : End) → status_of_end e ≡ ReadFault → e ≡ end.ReadFault
+read_end end.Done it = absurd cc
+read_end (end.LineTooLong line) it = absurd cc
+read_end end.ReadFault it = refl
+read_end end.WriteFault it = absurd cc
+read_end (end.Halted halt.DiskFault) it = absurd cc
+read_end (end.Halted halt.NoMemory) it = absurd cc
+
+write_end : (e : End) → status_of_end e ≡ WriteFault → e ≡ end.WriteFault
+write_end end.Done it = absurd cc
+write_end (end.LineTooLong line) it = absurd cc
+write_end end.ReadFault it = absurd cc
+write_end end.WriteFault it = refl
+write_end (end.Halted halt.DiskFault) it = absurd cc
+write_end (end.Halted halt.NoMemory) it = absurd cc
+
+disk_end : (e : End) → status_of_end e ≡ DiskFault → e ≡ end.Halted halt.DiskFault
+disk_end end.Done it = absurd cc
+disk_end (end.LineTooLong line) it = absurd cc
+disk_end end.ReadFault it = absurd cc
+disk_end end.WriteFault it = absurd cc
+disk_end (end.Halted halt.DiskFault) it = refl
+disk_end (end.Halted halt.NoMemory) it = absurd cc
+
+-- the script's end is the status
+pub script_runs : (journal_known pages_known : Bool) (base : Entries) (number : ℕ) (e : End) (input input_now : Input) (output output_now : Output) (disks disks_now : Disks)
+    → RanOver journal_known pages_known base number run (status_of_end e) input input_now output output_now disks.files disks_now.files
+    → (e ≡ end.Done → IfSome input_now.left (λ rest. rest ≡ []))
+    → ReadCountedWhere (e ≡ end.ReadFault) input_limit input.faults input_now.faults input.given input_now.given
+    → CountedWhere (e ≡ end.WriteFault) output.faults output_now.faults
+    → DisksCountedWhere (e ≡ end.Halted halt.DiskFault) disks.faults disks_now.faults
+    → RunsCommand journal_known pages_known base number run (status_of_end e) input input_now output output_now disks disks_now
+script_runs journal_known pages_known base number e input input_now output output_now disks disks_now ran whole read write disk = record {
+  ran = ran;
+  whole = λ reads is. whole (done_end e is);
+  silent = run_not_silent (status_of_end e) _ (is_of_run e);
+  opened = of_run_opened (status_of_end e) (is_of_run e);
+  read = read_counted_as (read_end e) (ap status_of_end) _ _ _ _ _ read;
+  write = counted_as (write_end e) (ap status_of_end) _ _ write;
+  disk = disks_counted_as (disk_end e) (ap status_of_end) _ _ disk;
+}
+
+-- there was no memory to begin, and nothing was read or written
+pub nothing_runs : (journal_known pages_known : Bool) (base : Entries) (number : ℕ) (input : Input) (output : Output) (disks disks_now : Disks)
+    → (IsTrue journal_known → IsTrue pages_known → IsAllSynced disks.files.journal → disks.files.pages.now ≡ all_synced []
+    → contents_of_files disks.files.journal.now.reads [] ≡ Ok (record { entries = base; number = number }) → (t : Tree) → StandsFor (Some base) t → (old : Pair)
+    → ScriptRan t number tx_limit NoMemory disks.files (record { read = []; asked = input.asked - input.given; left = input.left; before = output.held; now = output.held; old = old; new = disks_now.files }))
+    → disks_now.faults ≡ disks.faults
+    → RunsCommand journal_known pages_known base number run NoMemory input input output output disks disks_now
+nothing_runs journal_known pages_known base number input output disks disks_now ran same = record {
+  ran = ([], gave_none input.left, sym (add-zero input.given), ran);
+  whole = λ reads is. absurd cc;
+  silent = tt;
+  opened = tt;
+  read = read_never input_limit input.faults input.given (λ it. cc);
+  write = record { counted = λ it. absurd cc; exact = λ no. refl };
+  disk = record { counted = λ it. absurd cc; exact = λ no. same };
+}
+
+-- ---- a command of one document
+
+-- an answer that there is no text
+abbrev as_error : (T : Type 0) → Status → Result T Status
+as_error T e = Err e
+
+-- where nothing was written
+silent_as : (c : Command) (status : Status) (P : Type 0) → P → IsSilent (Some c) status P
+silent_as c Done P p = tt
+silent_as c WriteFault P p = tt
+silent_as c DiskFault P p = tt
+silent_as c NoMemory P p = tt
+silent_as c Usage P p = p
+silent_as c (Damaged place) P p = p
+silent_as c (NotJsonMl why) P p = p
+silent_as c (DocumentRefused why) P p = p
+silent_as run (LineTooLong line) P p = tt
+silent_as (put name) (LineTooLong line) P p = p
+silent_as (get name) (LineTooLong line) P p = p
+silent_as run ReadFault P p = tt
+silent_as (put name) ReadFault P p = p
+silent_as (get name) ReadFault P p = p
+
+-- a status with which writing ends asks for no silence, and a store was opened
+write_end_is : (c : Command) (status : Status) (P : Type 0) → IsWriteEnd status → IsSilent (Some c) status P × IsOfOpened status
+write_end_is c Done P is = (tt, tt)
+write_end_is c WriteFault P is = (tt, tt)
+write_end_is c Usage P is = absurd is
+write_end_is c (LineTooLong line) P is = absurd is
+write_end_is c (Damaged place) P is = absurd is
+write_end_is c ReadFault P is = absurd is
+write_end_is c DiskFault P is = absurd is
+write_end_is c NoMemory P is = absurd is
+write_end_is c (NotJsonMl why) P is = absurd is
+write_end_is c (DocumentRefused why) P is = absurd is
+
+unwritten_opened : (status : Status) → IsUnwritten status → IsOfOpened status
+unwritten_opened Done is = tt
+unwritten_opened WriteFault is = tt
+unwritten_opened Usage is = is
+unwritten_opened (Damaged place) is = is
+unwritten_opened (LineTooLong line) is = tt
+unwritten_opened ReadFault is = tt
+unwritten_opened DiskFault is = tt
+unwritten_opened NoMemory is = tt
+unwritten_opened (NotJsonMl why) is = tt
+unwritten_opened (DocumentRefused why) is = tt
+
+-- how a command ends, by the text that there is to write: as writing it ends, or as there is none
+abbrev pub EndsBy : {T : Type 0} → Result T Status → Status → Type 0 → Type 0
+EndsBy (Ok text) status silent = IsWriteEnd status
+EndsBy (Err why) status silent = IsUnwritten why × (status ≡ why) × silent
+
+pub ends_by : {T : Type 0} (r : Result T Status) (status : Status) (silent : Type 0) (W : T → Type 0)
+    → IfErr r IsUnwritten → IfOk r (λ text. IsWriteEnd status × W text) → IfErr r (λ why. (status ≡ why) × silent) → EndsBy r status silent
+ends_by (Ok text) status silent W unwritten written none = written.0
+ends_by (Err why) status silent W unwritten written none = (unwritten, none.0, none.1)
+
+ends_silent : {T : Type 0} (c : Command) (r : Result T Status) (status : Status) (P : Type 0) → EndsBy r status P → IsSilent (Some c) status P
+ends_silent c (Ok text) status P is = (write_end_is c status P is).0
+ends_silent c (Err why) status P is = silent_as c status P is.2
+
+ends_opened : {T : Type 0} (c : Command) (r : Result T Status) (status : Status) (P : Type 0) → EndsBy r status P → IsOfOpened status
+ends_opened c (Ok text) status P is = (write_end_is c status P is).1
+ends_opened c (Err why) status P is = subst IsOfOpened (sym is.1) (unwritten_opened why is.0)
+
+-- what holds where there is a text holds at the end of the command
+ends_done : {T : Type 0} (r : Result T Status) (status : Status) (P W : Type 0) → EndsBy r status P → OnOk r W → status ≡ Done → W
+ends_done (Ok text) status P W is holds done = holds
+ends_done (Err why) status P W is holds done = absurd (subst IsUnwritten (sym is.1 ∙ done) is.0)
+
+error_of : {T : Type 0} {e f : Status} → as_error T e ≡ as_error T f → e ≡ f
+error_of it = cc
+
+-- a status with which no writing ends is that of a text that isn't there
+ends_there : {T : Type 0} (r : Result T Status) (status x : Status) (P : Type 0) → (IsWriteEnd x → ⊥) → EndsBy r status P → status ≡ x → r ≡ Err x
+ends_there (Ok text) status x P apart is it = absurd (apart (subst IsWriteEnd it is))
+ends_there {T} (Err why) status x P apart is it = ap (as_error T) (sym is.1 ∙ it)
+
+ends_back : {T : Type 0} (r : Result T Status) (status x : Status) (P : Type 0) → EndsBy r status P → r ≡ Err x → status ≡ x
+ends_back (Ok text) status x P is it = absurd cc
+ends_back (Err why) status x P is it = is.1 ∙ error_of it
+
+-- the count of a source's faults alone says why a read failed
+pub by_count : {P : Type 0} (most before now given given_now : ℕ) → CountedWhere P before now → ReadCountedWhere P most before now given given_now
+by_count most before now given given_now c = record { cause = λ p. counted (c.counted p); exact = c.exact }
+
+pub document_runs : {T : Type 0} (journal_known pages_known : Bool) (base : Entries) (number : ℕ) (c : Command) (r : Result T Status) (status : Status)
+    (input input_now : Input) (output output_now : Output) (disks disks_now : Disks)
+    → EndsBy r status (output_now.held ≡ output.held)
+    → RanOver journal_known pages_known base number c status input input_now output output_now disks.files disks_now.files
+    → (IsTrue (reads_input (Some c)) → OnOk r (IfSome input_now.left (λ rest. rest ≡ [])))
+    → ReadCountedWhere (r ≡ Err ReadFault) input_limit input.faults input_now.faults input.given input_now.given
+    → CountedWhere (status ≡ WriteFault) output.faults output_now.faults
+    → Counts (r ≡ Err DiskFault) disks.faults.journal disks_now.faults.journal
+    → disks_now.faults.pages ≡ disks.faults.pages
+    → RunsCommand journal_known pages_known base number c status input input_now output output_now disks disks_now
+document_runs journal_known pages_known base number c r status input input_now output output_now disks disks_now ends ran whole read write journal pages =
+    let P : Type 0 = output_now.held ≡ output.held in
+    record {
+      ran = ran;
+      whole = λ reads is. ends_done r status P _ ends (whole reads) is;
+      silent = ends_silent c r status P ends;
+      opened = ends_opened c r status P ends;
+      read = read_counted_as (ends_there r status ReadFault P (λ no. no) ends) (ends_back r status ReadFault P ends) _ _ _ _ _ read;
+      write = write;
+      disk = record {
+        counted = λ is. record { one = inl (journal.cause.counted (ends_there r status DiskFault P (λ no. no) ends is)); journal = journal.later; pages = omega (arith, pages) };
+        exact = λ no. let same = journal.cause.exact (λ it. no (ends_back r status DiskFault P ends it)) in λ i. record { journal = same i; pages = pages i };
+      };
+    }

@@ -1,0 +1,61 @@
+-- What running a command over a store that was opened leaves.
+use Rattle.std.specs.Prelude.{◌≡◌, ℕ, ◌+◌, ◌-◌, Bool, IsTrue, List, [], length, Option, Some, Ok, IfSome}
+use Rattle.outside_kinds.specs.Bounds.{input_limit}
+use Rattle.outside_traits.specs.Bytes.{Gave}
+use Rattle.outside_traits.specs.DiskPairs.{Pair}
+use Rattle.outside_traits.specs.Disks.{all_synced}
+use Rattle.outside_traits.specs.Moments.{IsAllSynced}
+use Rattle.tree_model.specs.Entries.{Entries}
+use Rattle.tree_model.specs.Tree.{Tree}
+use Rattle.node_seq.specs.Trees.{StandsFor}
+use Rattle.recovery.specs.Opened.{contents_of_files}
+use Rattle.script_runs.specs.Counts.{Counts, CountedWhere, DisksCountedWhere, ReadCountedWhere}
+use Rattle.xtc.specs.Commands.{Command, reads_input}
+use Rattle.xtc.specs.TopCall.{CommandRan, IsOfOpened, IsSilent, tx_limit}
+use Rattle.xtc.specs.declared.status.Status.{Status}
+use Rattle.xtc.specs.declared.status.Status.TheVariants.{Done, ReadFault, WriteFault, DiskFault}
+
+-- what is told of a source: what is left of it, how many bytes it gave and had given at the last read, and its faults
+pub record Input : Type 0 where
+  pub left : Option (List ℕ)
+  pub given : ℕ
+  pub asked : ℕ
+  pub faults : ℕ
+
+-- of a sink: what it holds, and its faults
+pub record Output : Type 0 where
+  pub held : Option (List ℕ)
+  pub faults : ℕ
+
+-- of the two disks: their files, and their faults
+pub record Disks : Type 0 where
+  pub files : Pair
+  pub faults : Counts
+
+-- the command ran, where both disks are known and the files stand for the map and the number
+abbrev pub RanOver : Bool → Bool → Entries → ℕ → Command → Status → Input → Input → Output → Output → Pair → Pair → Type 0
+RanOver journal_known pages_known base number c status input input_now output output_now files files_now =
+    (read : List ℕ) × Gave input.left input_now.left read × (input_now.given ≡ input.given + length read)
+    × (IsTrue journal_known → IsTrue pages_known → IsAllSynced files.journal → files.pages.now ≡ all_synced []
+    → contents_of_files files.journal.now.reads [] ≡ Ok (record { entries = base; number = number })
+    → (t : Tree) → StandsFor (Some base) t → (old : Pair)
+    → CommandRan t number tx_limit (Some c) status files (record {
+      read = read;
+      asked = input_now.asked - input.given;
+      left = input_now.left;
+      before = output.held;
+      now = output_now.held;
+      old = old;
+      new = files_now;
+    }))
+
+-- what it leaves, by its status
+pub record RunsCommand (journal_known pages_known : Bool) (base : Entries) (number : ℕ) (c : Command) (status : Status)
+    (input input_now : Input) (output output_now : Output) (disks disks_now : Disks) : Type 0 where
+  pub ran : RanOver journal_known pages_known base number c status input input_now output output_now disks.files disks_now.files
+  pub whole : IsTrue (reads_input (Some c)) → status ≡ Done → IfSome input_now.left (λ rest. rest ≡ [])
+  pub silent : IsSilent (Some c) status (output_now.held ≡ output.held)
+  pub opened : IsOfOpened status
+  pub read : ReadCountedWhere (status ≡ ReadFault) input_limit input.faults input_now.faults input.given input_now.given
+  pub write : CountedWhere (status ≡ WriteFault) output.faults output_now.faults
+  pub disk : DisksCountedWhere (status ≡ DiskFault) disks.faults disks_now.faults
