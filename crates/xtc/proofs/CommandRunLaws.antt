@@ -23,7 +23,7 @@ use Rattle.xtc.specs.declared.status.Status.TheVariants.{Done, Usage, LineTooLon
 use Rattle.xtc.specs.inside.Asking.{IsUnwritten, IsWriteEnd}
 use Rattle.xtc.specs.inside.CommandRuns.{Input, Output, Disks, RanOver, RunsCommand}
 use Rattle.xtc.specs.inside.Stores.{Counts}
-use Rattle.xtc.proofs.StatusLaws.{is_of_run, run_not_silent, of_run_opened}
+use Rattle.xtc.proofs.StatusLaws.{script_not_silent, script_opened}
 
 -- ---- the counts of faults
 
@@ -90,8 +90,8 @@ pub script_runs : (journal_known pages_known : Bool) (base : Entries) (number : 
 script_runs journal_known pages_known base number e input input_now output output_now disks disks_now ran whole read write disk = record {
   ran = ran;
   whole = λ reads is. whole (done_end e is);
-  silent = run_not_silent (status_of_end e) _ (is_of_run e);
-  opened = of_run_opened (status_of_end e) (is_of_run e);
+  silent = script_not_silent e _;
+  opened = script_opened e;
   read = read_counted_as (read_end e) (ap status_of_end) _ _ _ _ _ read;
   write = counted_as (write_end e) (ap status_of_end) _ _ write;
   disk = disks_counted_as (disk_end e) (ap status_of_end) _ _ disk;

@@ -14,7 +14,7 @@ use Rattle.xtc.specs.declared.status.Status.{Status}
 use Rattle.xtc.specs.declared.status.Status.TheVariants.{Done, Usage, LineTooLong, Damaged, ReadFault, WriteFault, DiskFault, NoMemory, NotJsonMl, DocumentRefused}
 use Rattle.xtc.specs.Statuses.{status_of, status_of_end}
 use Rattle.xtc.specs.Commands.{Command, run}
-use Rattle.xtc.specs.TopCall.{Outcome, Leaves, UnopenedStoreLeaves, OpenedStoreLeaves, IsSilent, IsUnread, IsOfRun, IsOfOpened}
+use Rattle.xtc.specs.TopCall.{Outcome, Leaves, UnopenedStoreLeaves, OpenedStoreLeaves, IsSilent, IsUnread, IsOfOpened}
 
 -- ---- a store that wasn't opened
 
@@ -31,41 +31,24 @@ unopened_silent command error.NoMemory P p = tt
 
 -- ---- a script that ran
 
-pub is_of_run : (e : End) → IsOfRun (status_of_end e)
-is_of_run end.Done = tt
-is_of_run (end.LineTooLong n) = tt
-is_of_run end.ReadFault = tt
-is_of_run end.WriteFault = tt
-is_of_run (end.Halted halt.DiskFault) = tt
-is_of_run (end.Halted halt.NoMemory) = tt
+-- its status asks for no silence
+pub script_not_silent : (e : End) (P : Type 0) → IsSilent (Some run) (status_of_end e) P
+script_not_silent end.Done P = tt
+script_not_silent (end.LineTooLong n) P = tt
+script_not_silent end.ReadFault P = tt
+script_not_silent end.WriteFault P = tt
+script_not_silent (end.Halted halt.DiskFault) P = tt
+script_not_silent (end.Halted halt.NoMemory) P = tt
 
--- the status asks for no silence
-pub run_not_silent : (status : Status) (P : Type 0) → IsOfRun status → IsSilent (Some run) status P
-run_not_silent Done P is = tt
-run_not_silent (LineTooLong line) P is = tt
-run_not_silent ReadFault P is = tt
-run_not_silent WriteFault P is = tt
-run_not_silent DiskFault P is = tt
-run_not_silent NoMemory P is = tt
-run_not_silent Usage P is = absurd is
-run_not_silent (Damaged place) P is = absurd is
-run_not_silent (NotJsonMl why) P is = absurd is
-run_not_silent (DocumentRefused why) P is = absurd is
+pub script_opened : (e : End) → IsOfOpened (status_of_end e)
+script_opened end.Done = tt
+script_opened (end.LineTooLong n) = tt
+script_opened end.ReadFault = tt
+script_opened end.WriteFault = tt
+script_opened (end.Halted halt.DiskFault) = tt
+script_opened (end.Halted halt.NoMemory) = tt
 
 -- ---- a command that ran over a store that was opened
-
--- as a script does
-pub of_run_opened : (status : Status) → IsOfRun status → IsOfOpened status
-of_run_opened Done is = tt
-of_run_opened (LineTooLong line) is = tt
-of_run_opened ReadFault is = tt
-of_run_opened WriteFault is = tt
-of_run_opened DiskFault is = tt
-of_run_opened NoMemory is = tt
-of_run_opened Usage is = is
-of_run_opened (Damaged place) is = is
-of_run_opened (NotJsonMl why) is = tt
-of_run_opened (DocumentRefused why) is = tt
 
 pub opened_leaves : (limit : ℕ) (command : Option Command) (status : Status) (o : Outcome) → IsOfOpened status → OpenedStoreLeaves limit command status o → Leaves limit command status o
 opened_leaves limit command Done o is h = h

@@ -239,14 +239,6 @@ IsSilent command (LineTooLong line) P = OfDocument command P
 IsSilent command ReadFault P = OfDocument command P
 IsSilent command status P = Unit {0}
 
--- the statuses with which a script ends
-abbrev pub IsOfRun : Status → Type 0
-IsOfRun Usage = ⊥
-IsOfRun (Damaged place) = ⊥
-IsOfRun (NotJsonMl why) = ⊥
-IsOfRun (DocumentRefused why) = ⊥
-IsOfRun status = Unit {0}
-
 -- the statuses with which a command ends over a store that was opened
 abbrev pub IsOfOpened : Status → Type 0
 IsOfOpened Usage = ⊥

@@ -1,4 +1,4 @@
-use Rattle.std.proofs.Common.{◌≡◌, ap, subst, sym}
+use Rattle.std.proofs.Common.{ap, subst, sym}
 use Rattle.outside_traits.specs.DiskPairs.{pair_of}
 use Rattle.xtc.specs.Commands.{Command, meant}
 use Rattle.xtc.specs.inside.CommandRuns.{Input, Output, Disks, RunsCommand}

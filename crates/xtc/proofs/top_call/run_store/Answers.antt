@@ -1,11 +1,7 @@
-use Rattle.std.proofs.Common.{◌≡◌, ◌&&◌, [], refl, sym, subst, ap, ◌∙◌, add-zero}
+use Rattle.std.proofs.Common.{◌≡◌, ◌&&◌, refl, sym, subst, ap, ◌∙◌}
 use Rattle.std.specs.Prelude.{Some}
 use Rattle.outside_traits.specs.DiskPairs.{pair_of}
-use Rattle.outside_traits.proofs.Laws.{gave_none}
 use Rattle.script_runs.specs.Machine.{IsReady}
-use Rattle.script_runs.specs.declared.halt.Halt.TheVariants as halt
-use Rattle.script_runs.specs.declared.running.End.{End}
-use Rattle.script_runs.specs.declared.running.End.TheVariants as end
 use Rattle.xtc.specs.Commands.{run}
 use Rattle.xtc.specs.StoreMachine.{KeptStore, store_machine}
 use Rattle.xtc.specs.TopCall.{tx_limit}
