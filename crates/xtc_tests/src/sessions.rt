@@ -605,16 +605,20 @@ fn run_both(
     run_then(rt, alloc, &left, then)
 }
 
-fn run_rows(rt: &impl Abort, alloc: Global) -> Result<(), Fail> {
-    for row in ROWS {
-        run_both(rt, alloc, row.tree, row.script, row.then)?;
+fn run_row(rt: &impl Abort, alloc: Global, row: &Row<'_>) -> Result<(), Fail> {
+    run_both(rt, alloc, row.tree, row.script, row.then)
+}
+
+fn run_rows(rt: &impl Abort, alloc: Global, rows: &[Row<'_>]) -> Result<(), Fail> {
+    for row in rows {
+        run_row(rt, alloc, row)?;
     }
     Ok(())
 }
 
 #[test]
 fn each_line_of_several_sessions_is_answered(rt: HostRuntime) -> Result<(), Fail> {
-    run_rows(&rt, rt.alloc())
+    run_rows(&rt, rt.alloc(), ROWS)
 }
 
 /// Inserts before the first child, as the two lines of a row, one after another until its code is 3.

@@ -55,30 +55,27 @@ pub const PLAIN: Case<'static> = Case {
     then: "",
 };
 
-/// What a run of the program gives.
+/// What a run of the program gives: how it ended and then what it has written, and its files.
 #[derive(Drop)]
 pub struct Outcome {
-    pub status: Status,
-    pub text: Vec<u8>,
+    pub told: Vec<u8>,
     pub journal: MemDisk,
     pub pages: MemDisk,
 }
 
-impl Outcome {
-    fn ended(&self, alloc: Global) -> Result<String, AllocError> {
-        match &self.status {
-            Status::NotJsonMl(why) => format!(in alloc; "9 {} at {}", why.name(), why.path()),
-            Status::DocumentRefused(why) => format!(in alloc; "10 {why:?}"),
-            other => format!(in alloc; "{} {other}", other.number()),
-        }
+fn ended(alloc: Global, status: &Status) -> Result<String, AllocError> {
+    match status {
+        Status::NotJsonMl(why) => format!(in alloc; "9 {} at {}", why.name(), why.path()),
+        Status::DocumentRefused(why) => format!(in alloc; "10 {why:?}"),
+        other => format!(in alloc; "{} {other}", other.number()),
     }
+}
 
-    /// How the run ended, and then what it has written.
-    fn told(&self, alloc: Global) -> Result<Vec<u8>, AllocError> {
-        let mut told = Vec::from_slice(alloc, self.ended(alloc)?.as_bytes())?;
-        told.extend_from_slice(&self.text)?;
-        Ok(told)
-    }
+/// How a run ended, and then what it has written.
+fn told(alloc: Global, status: &Status, text: &[u8]) -> Result<Vec<u8>, AllocError> {
+    let mut told = ended(alloc, status)?.into_bytes();
+    told.extend_from_slice(text)?;
+    Ok(told)
 }
 
 /// A text as it is meant: `@COUNT PIECE@` stands for so many of the piece.
@@ -142,36 +139,50 @@ fn words_of(alloc: Global, text: &str) -> Result<Vec<String>, AllocError> {
 
 /// Runs the program, where this call of the journal's file fails.
 fn run(alloc: Global, case: &Case<'_>, call: u64) -> Result<Outcome, AllocError> {
-    let journal = disk(alloc, case.journal, call)?;
-    let pages = disk(alloc, case.pages, case.pages_call)?;
-    run_over(alloc, case, journal, pages)
+    let words = words_of(alloc, case.words)?;
+    run_words(alloc, case, call, &words)
 }
 
-/// Runs the program over these files.
-fn run_over(
+fn run_words(
     alloc: Global,
     case: &Case<'_>,
-    journal: MemDisk,
-    pages: MemDisk,
+    call: u64,
+    words: &Vec<String>,
 ) -> Result<Outcome, AllocError> {
-    let words = words_of(alloc, case.words)?;
     let mut source = source_of(alloc, case)?;
     let mut sink = sink_of(alloc, case)?;
-    let finish = xtc(alloc, &words, &mut source, &mut sink, journal, pages);
-    outcome_of(alloc, finish, &sink.inner)
+    let finish = finish_of(alloc, case, call, words, &mut source, &mut sink)?;
+    outcome_of(alloc, finish, sink.inner.bytes())
+}
+
+fn finish_of(
+    alloc: Global,
+    case: &Case<'_>,
+    call: u64,
+    words: &Vec<String>,
+    source: &mut InPieces<MemSource>,
+    sink: &mut InPieces<MemSink>,
+) -> Result<Finish<MemDisk, MemDisk>, AllocError> {
+    let journal = disk(alloc, case.journal, call)?;
+    let pages = disk(alloc, case.pages, case.pages_call)?;
+    Ok(xtc(alloc, words, source, sink, journal, pages))
 }
 
 fn outcome_of(
     alloc: Global,
     finish: Finish<MemDisk, MemDisk>,
-    sink: &MemSink,
+    text: &[u8],
 ) -> Result<Outcome, AllocError> {
-    let text = Vec::from_slice(alloc, sink.bytes())?;
+    let Finish {
+        status,
+        journal,
+        pages,
+    } = finish;
+    let told = told(alloc, &status, text)?;
     Ok(Outcome {
-        status: finish.status,
-        text,
-        journal: finish.journal,
-        pages: finish.pages,
+        told,
+        journal,
+        pages,
     })
 }
 
@@ -212,10 +223,15 @@ fn wanted(alloc: Global, case: &Case<'_>) -> Result<Vec<u8>, AllocError> {
     Ok(wanted)
 }
 
+/// Runs the program, where the calls that the case says fail.
+fn run_as(alloc: Global, case: &Case<'_>) -> Result<Outcome, AllocError> {
+    let later = behind_opening(alloc, case.journal, case.later_call)?;
+    run(alloc, case, case.journal_call.max(later))
+}
+
 /// Runs the program: it ends, writes and leaves what the case says.
 pub fn run_case(rt: &impl Abort, alloc: Global, case: &Case<'_>) -> Result<Outcome, Fail> {
-    let later = behind_opening(alloc, case.journal, case.later_call)?;
-    let outcome = run(alloc, case, case.journal_call.max(later))?;
+    let outcome = run_as(alloc, case)?;
     agree_on_end(rt, alloc, case, &outcome)?;
     Ok(outcome)
 }
@@ -226,7 +242,7 @@ fn agree_on_end(
     case: &Case<'_>,
     outcome: &Outcome,
 ) -> Result<(), AllocError> {
-    agree(rt, case, &outcome.told(alloc)?, &wanted(alloc, case)?);
+    agree(rt, case, &outcome.told, &wanted(alloc, case)?);
     agree(rt, case, outcome.pages.bytes(), case.pages);
     if let Some(now) = case.now {
         agree(rt, case, outcome.journal.bytes(), now);
@@ -234,33 +250,34 @@ fn agree_on_end(
     Ok(())
 }
 
-/// What `get x` tells of a store.
-fn got(alloc: Global, journal: &[u8]) -> Result<Vec<u8>, AllocError> {
+/// Runs `get x` on a journal.
+fn get_x(alloc: Global, journal: &[u8]) -> Result<Outcome, AllocError> {
     let case = Case {
         words: "get x",
         journal,
         ..PLAIN
     };
-    run(alloc, &case, 0)?.told(alloc)
+    run(alloc, &case, 0)
 }
 
 fn run_and_get(rt: &impl Abort, alloc: Global, case: &Case<'_>) -> Result<(), Fail> {
     let outcome = run_case(rt, alloc, case)?;
-    if !case.then.is_empty() {
-        agree_then(rt, alloc, case, outcome.journal.bytes())?;
-    }
-    Ok(())
+    Ok(agree_then(rt, alloc, case, outcome.journal.bytes())?)
 }
 
+/// Where the case asks it, `get x` tells of the journal what the case says.
 fn agree_then(
     rt: &impl Abort,
     alloc: Global,
     case: &Case<'_>,
     journal: &[u8],
 ) -> Result<(), AllocError> {
-    let told = got(alloc, journal)?;
+    if case.then.is_empty() {
+        return Ok(());
+    }
     let then = written_out(alloc, case.then)?;
-    agree(rt, case, &told, then.as_bytes());
+    let found = get_x(alloc, journal)?;
+    agree(rt, case, &found.told, then.as_bytes());
     Ok(())
 }
 
@@ -564,25 +581,35 @@ fn found_at(text: &[u8]) -> Option<usize> {
     FOUND.iter().position(|found| *found == text)
 }
 
-/// How many of the commits a journal holds.
+/// How many of the commits a journal holds, if it holds a prefix of them.
+fn found_in(alloc: Global, journal: &[u8]) -> Result<Option<usize>, AllocError> {
+    let outcome = run_on(alloc, WHICH, journal, 0)?;
+    Ok(outcome.told.strip_prefix(b"0 ").and_then(found_at))
+}
+
 fn commits_in(alloc: Global, journal: &[u8]) -> Result<usize, Fail> {
-    let text = run_on(alloc, WHICH, journal, 0)?.text;
-    match found_at(&text) {
+    match found_in(alloc, journal)? {
         Some(count) => Ok(count),
         None => Err(Fail::from("the files hold no prefix of the commits")),
     }
 }
 
-/// The fewest and the most commits that a crash in a call of the journal's disk leaves.
-fn commits_after_stop(alloc: Global, journal: &MemDisk, call: u64) -> Result<(usize, usize), Fail> {
+/// The fewest and the most commits that images of a journal hold.
+fn commits_among(alloc: Global, images: &[List<u8>]) -> Result<(usize, usize), Fail> {
     let mut least = usize::MAX;
     let mut most = 0;
-    for image in journal.stop_images(alloc, call)?.as_slice() {
+    for image in images {
         let count = commits_in(alloc, image.as_slice())?;
         least = least.min(count);
         most = most.max(count);
     }
     Ok((least, most))
+}
+
+/// The fewest and the most commits that a crash in a call of the journal's disk leaves.
+fn commits_after_stop(alloc: Global, journal: &MemDisk, call: u64) -> Result<(usize, usize), Fail> {
+    let images = journal.stop_images(alloc, call)?;
+    commits_among(alloc, images.as_slice())
 }
 
 /// A call behind those of the opening, four a commit, and how few and many commits are found where it doesn't come to its end.
@@ -640,27 +667,35 @@ fn crash_leaves(
 
 fn fault_leaves(rt: &impl Abort, alloc: Global, call: u64, stop: &Stop) -> Result<(), Fail> {
     let failed = run_on(alloc, THREE, NEW, call)?;
-    assert_eq!(rt; failed.status.number(), 7);
+    assert_eq!(rt; failed.told.first(), Some(&b'7'));
     let after = failed.journal.calls().saturating_add(1);
     crash_leaves(rt, alloc, &failed.journal, after, stop)
 }
 
 /// A crash in the call, or behind it where it fails, leaves as many commits as the row says.
+fn run_stop(rt: &impl Abort, alloc: Global, whole: &MemDisk, stop: &Stop) -> Result<(), Fail> {
+    let call = behind_opening(alloc, NEW, stop.call)?;
+    crash_leaves(rt, alloc, whole, call, stop)?;
+    fault_leaves(rt, alloc, call, stop)
+}
+
 fn run_stops(rt: &impl Abort, alloc: Global, whole: &MemDisk) -> Result<(), Fail> {
     for stop in STOPS {
-        let call = behind_opening(alloc, NEW, stop.call)?;
-        crash_leaves(rt, alloc, whole, call, stop)?;
-        fault_leaves(rt, alloc, call, stop)?;
+        run_stop(rt, alloc, whole, stop)?;
     }
     Ok(())
+}
+
+fn run_three(rt: &impl Abort, alloc: Global) -> Result<(), Fail> {
+    let calls = behind_opening(alloc, NEW, 12)?;
+    let whole = run_on(alloc, THREE, NEW, 0)?;
+    assert_eq!(rt; whole.journal.calls(), calls);
+    run_stops(rt, alloc, &whole.journal)
 }
 
 #[test]
 fn a_stop_or_a_fault_in_a_commit_leaves_it_whole_or_not_at_all(
     rt: HostRuntime,
 ) -> Result<(), Fail> {
-    let whole = run_on(rt.alloc(), THREE, NEW, 0)?;
-    let calls = behind_opening(rt.alloc(), NEW, 12)?;
-    assert_eq!(rt; whole.journal.calls(), calls);
-    run_stops(&rt, rt.alloc(), &whole.journal)
+    run_three(&rt, rt.alloc())
 }
