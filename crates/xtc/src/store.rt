@@ -31,6 +31,8 @@ pub struct Store<J: Disk, P> {
     core: Core<StoreOp, SortedSeq>,
     journal: Journal<J>,
     pages: P,
+    /// The replies to the last line, whose room the next one uses.
+    replies: Vec<LineReply>,
 }
 
 impl<J: Disk, P> Model for Store<J, P> {
@@ -46,13 +48,19 @@ impl<J: Disk, P> Model for Store<J, P> {
 }
 
 impl<J: Disk, P> Store<J, P> {
-    pub fn new(core: Core<StoreOp, SortedSeq>, journal: Journal<J>, pages: P) -> Store<J, P>
+    pub fn new(
+        alloc: Global,
+        core: Core<StoreOp, SortedSeq>,
+        journal: Journal<J>,
+        pages: P,
+    ) -> Store<J, P>
         ensures { result ≡ record { core = core; journal = journal; pages = pages } }
     {
         Store {
             core,
             journal,
             pages,
+            replies: Vec::new(alloc),
         }
     }
 }
@@ -69,11 +77,12 @@ impl<J: Disk, P: Disk> Store<J, P> {
     }
 }
 
-/// Does a line that was read, by its number from 1, and adds its replies to `out`.
+/// Does a line that was read, by its number from 1, and adds its replies to `out`. They are made in `replies`.
 fn do_line<J: Disk>(
     alloc: Global,
     core: &mut Core<StoreOp, SortedSeq>,
     journal: &mut Journal<J>,
+    replies: &mut Vec<LineReply>,
     number: u64,
     line: ReadLine,
     out: &mut Vec<u8>,
@@ -91,15 +100,18 @@ fn do_line<J: Disk>(
     match line {
         ReadLine::Nothing => Ok(()),
         ReadLine::Bad(why) => Ok(write_bad(alloc, why, number, out)?),
-        ReadLine::Asked(session, doing) => ask(alloc, core, journal, session, doing, out),
+        ReadLine::Asked(session, doing) => {
+            ask(alloc, core, journal, replies, session, doing, out)
+        }
     }
 }
 
-/// Does what a session is asked, and adds the replies to `out`.
+/// Does what a session is asked, and adds the replies to `out`. They are made in `replies`.
 fn ask<J: Disk>(
     alloc: Global,
     core: &mut Core<StoreOp, SortedSeq>,
     journal: &mut Journal<J>,
+    replies: &mut Vec<LineReply>,
     session: u32,
     doing: Doing<StoreOp>,
     out: &mut Vec<u8>,
@@ -114,8 +126,8 @@ fn ask<J: Disk>(
         → LeavesEither J.is_known journal.old.history journal.new.history s (asked_from s session doing).state }
     ensures counts { Counts (result ≡ Err Halt.DiskFault) journal.old.faults journal.new.faults }
 {
-    let mut replies = Vec::new(alloc);
-    answer(alloc, core, journal, session, doing, &mut replies)?;
+    replies.clear();
+    answer(alloc, core, journal, session, doing, replies)?;
     Ok(write_replies(alloc, replies.as_slice(), out)?)
 }
 
@@ -234,7 +246,15 @@ impl<J: Disk, P: Disk> LineMachine for Store<J, P> {
         let Ok(line) = read_line(alloc, line) else {
             return Err(script_runs::Halt::NoMemory);
         };
-        match do_line(alloc, &mut self.core, &mut self.journal, number, line, out) {
+        match do_line(
+            alloc,
+            &mut self.core,
+            &mut self.journal,
+            &mut self.replies,
+            number,
+            line,
+            out,
+        ) {
             Ok(()) => Ok(()),
             Err(Halt::DiskFault) => Err(script_runs::Halt::DiskFault),
             Err(Halt::NoMemory) => Err(script_runs::Halt::NoMemory),

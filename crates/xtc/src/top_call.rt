@@ -156,7 +156,7 @@ fn run_store<S: Source, K: Sink, J: Disk, P: Disk>(
     let Ok(core) = Core::new(alloc, base, number, TX_LIMIT) else {
         return with_disks(Status::NoMemory, journal.into_disk(), pages);
     };
-    let run = script_runs::run(alloc, Store::new(core, journal, pages), source, sink);
+    let run = script_runs::run(alloc, Store::new(alloc, core, journal, pages), source, sink);
     let (journal, pages) = run.machine.into_disks();
     with_disks(Status::from(run.end), journal, pages)
 }
