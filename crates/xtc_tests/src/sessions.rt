@@ -590,7 +590,7 @@ fn run_first(rt: &impl Abort, alloc: Global, tree: &str, script: &str) -> Result
 fn run_then(rt: &impl Abort, alloc: Global, left: &Outcome, script: &str) -> Result<(), Fail> {
     let mut then = Script::new(alloc);
     then.add(script)?;
-    let _found = run_answered(rt, alloc, &then, left.journal.bytes())?;
+    let _found = run_answered(rt, alloc, &then, &left.journal)?;
     Ok(())
 }
 

@@ -55,12 +55,14 @@ pub const PLAIN: Case<'static> = Case {
     then: "",
 };
 
-/// What a run of the program gives: how it ended and then what it has written, and its files.
+/// What a run of the program gives: how it ended and then what it has written, and the bytes of its files with the calls of these that it made.
 #[derive(Drop)]
 pub struct Outcome {
     pub told: Vec<u8>,
-    pub journal: MemDisk,
-    pub pages: MemDisk,
+    pub journal: Vec<u8>,
+    pub pages: Vec<u8>,
+    pub journal_calls: u64,
+    pub pages_calls: u64,
 }
 
 fn ended(alloc: Global, status: &Status) -> Result<String, AllocError> {
@@ -152,7 +154,7 @@ fn run_words(
     let mut source = source_of(alloc, case)?;
     let mut sink = sink_of(alloc, case)?;
     let finish = finish_of(alloc, case, call, words, &mut source, &mut sink)?;
-    outcome_of(alloc, finish, sink.inner.bytes())
+    outcome_of(alloc, &finish, sink.inner.bytes())
 }
 
 fn finish_of(
@@ -170,19 +172,15 @@ fn finish_of(
 
 fn outcome_of(
     alloc: Global,
-    finish: Finish<MemDisk, MemDisk>,
+    finish: &Finish<MemDisk, MemDisk>,
     text: &[u8],
 ) -> Result<Outcome, AllocError> {
-    let Finish {
-        status,
-        journal,
-        pages,
-    } = finish;
-    let told = told(alloc, &status, text)?;
     Ok(Outcome {
-        told,
-        journal,
-        pages,
+        told: told(alloc, &finish.status, text)?,
+        journal: Vec::from_slice(alloc, finish.journal.bytes())?,
+        pages: Vec::from_slice(alloc, finish.pages.bytes())?,
+        journal_calls: finish.journal.calls(),
+        pages_calls: finish.pages.calls(),
     })
 }
 
@@ -207,7 +205,7 @@ fn behind_opening(alloc: Global, journal: &[u8], call: u64) -> Result<u64, Alloc
         return Ok(0);
     }
     let opened = run_on(alloc, "", journal, 0)?;
-    Ok(opened.journal.calls().saturating_add(call))
+    Ok(opened.journal_calls.saturating_add(call))
 }
 
 fn agree(rt: &impl Abort, case: &Case<'_>, found: &[u8], wanted: &[u8]) {
@@ -243,9 +241,9 @@ fn agree_on_end(
     outcome: &Outcome,
 ) -> Result<(), AllocError> {
     agree(rt, case, &outcome.told, &wanted(alloc, case)?);
-    agree(rt, case, outcome.pages.bytes(), case.pages);
+    agree(rt, case, &outcome.pages, case.pages);
     if let Some(now) = case.now {
-        agree(rt, case, outcome.journal.bytes(), now);
+        agree(rt, case, &outcome.journal, now);
     }
     Ok(())
 }
@@ -262,7 +260,7 @@ fn get_x(alloc: Global, journal: &[u8]) -> Result<Outcome, AllocError> {
 
 fn run_and_get(rt: &impl Abort, alloc: Global, case: &Case<'_>) -> Result<(), Fail> {
     let outcome = run_case(rt, alloc, case)?;
-    Ok(agree_then(rt, alloc, case, outcome.journal.bytes())?)
+    Ok(agree_then(rt, alloc, case, &outcome.journal)?)
 }
 
 /// Where the case asks it, `get x` tells of the journal what the case says.
@@ -533,7 +531,7 @@ fn is_usage(rt: &impl Abort, alloc: Global, words: &str) -> Result<(), Fail> {
 /// The more calls that a run makes of one of its disks.
 fn calls_of(rt: &impl Abort, alloc: Global, case: &Case<'_>) -> Result<u64, Fail> {
     let outcome = run_case(rt, alloc, case)?;
-    Ok(outcome.journal.calls().max(outcome.pages.calls()))
+    Ok(outcome.journal_calls.max(outcome.pages_calls))
 }
 
 fn run_others(rt: &impl Abort, alloc: Global) -> Result<(), Fail> {
@@ -665,9 +663,22 @@ fn crash_leaves(
     Ok(())
 }
 
+/// Makes the three commits on a new journal, one call of which fails, 0 where none does.
+fn commit_three(alloc: Global, call: u64) -> Result<Finish<MemDisk, MemDisk>, AllocError> {
+    let case = Case {
+        input: THREE,
+        journal: NEW,
+        ..PLAIN
+    };
+    let words = words_of(alloc, case.words)?;
+    let mut source = source_of(alloc, &case)?;
+    let mut sink = sink_of(alloc, &case)?;
+    finish_of(alloc, &case, call, &words, &mut source, &mut sink)
+}
+
 fn fault_leaves(rt: &impl Abort, alloc: Global, call: u64, stop: &Stop) -> Result<(), Fail> {
-    let failed = run_on(alloc, THREE, NEW, call)?;
-    assert_eq!(rt; failed.told.first(), Some(&b'7'));
+    let failed = commit_three(alloc, call)?;
+    assert_eq!(rt; failed.status.number(), 7);
     let after = failed.journal.calls().saturating_add(1);
     crash_leaves(rt, alloc, &failed.journal, after, stop)
 }
@@ -688,7 +699,7 @@ fn run_stops(rt: &impl Abort, alloc: Global, whole: &MemDisk) -> Result<(), Fail
 
 fn run_three(rt: &impl Abort, alloc: Global) -> Result<(), Fail> {
     let calls = behind_opening(alloc, NEW, 12)?;
-    let whole = run_on(alloc, THREE, NEW, 0)?;
+    let whole = commit_three(alloc, 0)?;
     assert_eq!(rt; whole.journal.calls(), calls);
     run_stops(rt, alloc, &whole.journal)
 }
