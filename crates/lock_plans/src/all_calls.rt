@@ -76,7 +76,8 @@ fn plan_of<S: NodeRead>(alloc: Global, call: &DomCall, seq: &mut S) -> Result<Pl
         DomCall::Doc(name) => Ok(doc(alloc, name)?),
         DomCall::Node(at) => Ok(node(alloc, at)?),
         DomCall::Parent(at) => parent(alloc, at, seq),
-        DomCall::First(_) | DomCall::Last(_) | DomCall::Next(_) | DomCall::Prev(_) => unreachable!(),
+        DomCall::First(_) | DomCall::Last(_) | DomCall::Next(_) | DomCall::Prev(_) =>
+            unreachable!(),
         DomCall::Children(at) => children(alloc, at, seq),
         DomCall::Attr(at, name) => attr(alloc, at, name, seq),
         DomCall::HasAttr(at, name) => attr(alloc, at, name, seq),

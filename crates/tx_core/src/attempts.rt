@@ -568,13 +568,5 @@ pub fn attempt<C: TreeCall + Drop, B: NodeRead>(
         return Err(CallError::NoMemory);
     };
     let got = ask_in_turn(alloc, parts, session, requests.as_slice());
-    settle(
-        alloc,
-        parts,
-        session,
-        call,
-        requests.as_slice(),
-        reply,
-        got,
-    )
+    settle(alloc, parts, session, call, requests.as_slice(), reply, got)
 }
