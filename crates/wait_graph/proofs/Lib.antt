@@ -1,6 +1,6 @@
 mod Answered
 mod Closed
-mod Empty
 mod Gathered
 pub mod Kept
+mod Layers
 mod Searching

@@ -4,7 +4,7 @@ ghost use Rattle.std.specs.Prelude.{◌≡◌, ℕ, ◌||◌, ◌==◌, cond, fa
 ghost use Rattle.lock_table.specs.Tables.{Table};
 ghost use Rattle.wait_graph.specs.Graphs.{waits as waits_by, has_place, place as place_by, with_request, ClosesNone, IsClosedCycle, HasNoCycle};
 
-use crate::places::{Places, empty, make, waiters_of, write};
+use crate::places::{Places, any_waits, empty, make, waiters_of, write};
 use crate::search::{put_before, search};
 use dewey_labels::{List, NoMemory};
 use lock_resources::Request;
@@ -82,7 +82,8 @@ impl WaitGraph {
 
     /// The cycle that waiting for the request would close, or None where it closes none: the owner first, each waits for the next and the last for the owner.
     /// It is a shortest one, and among the shortest the least as a list.
-    /// With n owners waiting it costs n look-ups in the table, and for each length up to the cycle's at most n times the number of their holders.
+    /// Where none who bars the request waits, which is looked at first, it costs one look-up for each of these.
+    /// Else, with n owners waiting, it costs n look-ups in the table, and whether one of them waits for another is looked up once at most.
     pub fn cycle_through(
         &self,
         alloc: Global,
@@ -93,8 +94,11 @@ impl WaitGraph {
         ensures { IfOk result (IsClosedCycle self.now owner request.now table.now) }
     {
         let holders = table.barring(alloc, owner, request)?;
+        if !any_waits(&self.places, holders.as_slice()) {
+            return Ok(None);
+        }
         let waiters = waiters_of(alloc, &self.places, owner, table)?;
-        match search(alloc, holders.as_slice(), waiters.as_slice(), owner)? {
+        match search(alloc, holders.as_slice(), waiters, owner)? {
             Some(rest) => Ok(Some(put_before(alloc, owner, rest.as_slice())?)),
             None => Ok(None),
         }

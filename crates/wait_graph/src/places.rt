@@ -3,6 +3,7 @@
 ghost use Rattle.std.specs.Prelude.{◌≡◌, ℕ, ◌||◌, ◌==◌, cond, None, Some, OnOk, OnErr, IfOk, IsTrue, IsSome, is_some};
 ghost use Rattle.std.specs.Ordering.{nat_cmp};
 ghost use Rattle.std.specs.BTreeMap.{get};
+ghost use Rattle.std.specs.List.{list_any};
 ghost use Rattle.wait_graph.specs.Graphs.{request_in, waits, waits_for};
 ghost use Rattle.wait_graph.specs.inside.Waiters.{IsWaiter};
 ghost use Rattle.wait_graph.specs.inside.Search.{AreOf};
@@ -58,6 +59,23 @@ pub fn make(places: &mut Places, owner: u32) -> Result<(), NoMemory>
     }
     places.insert(owner, None)?;
     Ok(())
+}
+
+/// Whether an owner waits.
+fn is_waiting(places: &Places, owner: u32) -> bool
+    ensures { result ≡ is_some (waits places.now.entries owner) }
+{
+    match places.get(&owner) {
+        Some(place) => place.is_some(),
+        None => false,
+    }
+}
+
+/// Whether one of these owners waits.
+pub fn any_waits(places: &Places, owners: &[u32]) -> bool
+    ensures { result ≡ list_any (λ o. is_some (waits places.now.entries o)) owners.now }
+{
+    owners.iter().any(|owner| is_waiting(places, *owner))
 }
 
 /// An owner other than the end, with those that it waits for, if it waits.
