@@ -3,4 +3,4 @@ pub mod Numbers
 mod Passes
 mod StepsKept
 mod PassesKept
-mod Sent
+pub mod Sent

@@ -3,11 +3,13 @@
 //! What the value is, and which entries a thread may add to it, is left to the crates above.
 #![tactic(auto)]
 
+mod crossing;
 mod grows;
 mod lock;
 mod pass;
 mod rule;
 
+pub use crossing::crosses;
 pub use grows::Grows;
 pub use lock::{NoTurn, Turn, TurnLock};
 pub use pass::Pass;
