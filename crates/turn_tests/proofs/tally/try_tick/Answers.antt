@@ -1,0 +1,6 @@
+use Rattle.std.proofs.Common.{rules, ap}
+use Rattle.turn_tests.proofs.Tallies.{ticked}
+use Rattle.turn_tests.proofs.tally.try_tick.Goals as goal
+
+pub give-requires-clause-grew : goal.give-requires-clause-grew
+give-requires-clause-grew g c = ticked c.take-turn.new.pass.has _ _ _ (ap (λ p. p.seen) c.take-turn.ensures.pass) (search rules)
