@@ -4,6 +4,8 @@
 #[cfg(test)]
 mod kinds;
 #[cfg(test)]
+mod opened_files;
+#[cfg(test)]
 mod streams;
 #[cfg(test)]
 mod writing;

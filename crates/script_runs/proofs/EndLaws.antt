@@ -1,5 +1,5 @@
 -- What running a script leaves at each of its ends, and which counts of faults rise there.
-use Rattle.std.proofs.Common.{◌≡◌, ℕ, ◌+◌, ◌-◌, List, [], length, refl, sym, ap, subst}
+use Rattle.std.proofs.Common.{◌≡◌, ◌≤◌, ℕ, ◌+◌, ◌-◌, List, [], length, refl, sym, ap, subst}
 use Rattle.std.specs.Prelude.{Option, Result, Ok, Err, IfSome}
 use Rattle.outside_kinds.specs.Bounds.{input_limit}
 use Rattle.outside_traits.specs.Bytes.{Gave}
@@ -61,9 +61,10 @@ module _ {S K M : Type 0} (m : Machine M) (left : S → Option (List ℕ)) (give
   abbrev Leaves : End → Type 0
   Leaves how = RunsScript m left given asked faults held write_faults old new source source_now sink sink_now how
 
-  pub run_ended : Runs end.Done → IfSome (left source_now) (λ rest. rest ≡ []) → faults source_now ≡ faults source → write_faults sink_now ≡ write_faults sink → m.faults new ≡ m.faults old → Leaves end.Done
-  run_ended ran all none written kept = record {
+  pub run_ended : Runs end.Done → given source_now ≤ given source + input_limit → IfSome (left source_now) (λ rest. rest ≡ []) → faults source_now ≡ faults source → write_faults sink_now ≡ write_faults sink → m.faults new ≡ m.faults old → Leaves end.Done
+  run_ended ran bound all none written kept = record {
     ran = ran;
+    bound = bound;
     whole = λ is. all;
     read = record { cause = λ no. absurd cc; exact = λ other. none };
     write = record { counted = λ no. absurd cc; exact = λ other. written };
@@ -71,9 +72,10 @@ module _ {S K M : Type 0} (m : Machine M) (left : S → Option (List ℕ)) (give
   }
 
   -- a read failed
-  pub run_failed : Runs end.ReadFault → ReadFaultCause input_limit (faults source) (faults source_now) (given source) (given source_now) → write_faults sink_now ≡ write_faults sink → m.faults new ≡ m.faults old → Leaves end.ReadFault
-  run_failed ran cause written kept = record {
+  pub run_failed : Runs end.ReadFault → given source_now ≤ given source + input_limit → ReadFaultCause input_limit (faults source) (faults source_now) (given source) (given source_now) → write_faults sink_now ≡ write_faults sink → m.faults new ≡ m.faults old → Leaves end.ReadFault
+  run_failed ran bound cause written kept = record {
     ran = ran;
+    bound = bound;
     whole = λ no. absurd cc;
     read = record { cause = λ is. cause; exact = λ other. absurd (other refl) };
     write = record { counted = λ no. absurd cc; exact = λ other. written };
@@ -81,10 +83,11 @@ module _ {S K M : Type 0} (m : Machine M) (left : S → Option (List ℕ)) (give
   }
 
   -- a step stopped for good
-  pub run_halted : (how : End) (e : Stop) → how ≡ stopped e → Runs (stopped e) → faults source_now ≡ faults source → CountedWhere (as_stop e ≡ Err stop.WriteFault) (write_faults sink) (write_faults sink_now)
+  pub run_halted : (how : End) (e : Stop) → how ≡ stopped e → Runs (stopped e) → given source_now ≤ given source + input_limit → faults source_now ≡ faults source → CountedWhere (as_stop e ≡ Err stop.WriteFault) (write_faults sink) (write_faults sink_now)
       → DisksCountedWhere (as_stop e ≡ Err (stop.Halted DiskFault)) (m.faults old) (m.faults new) → Leaves how
-  run_halted how e is ran none write disk = subst Leaves (sym is) (record {
+  run_halted how e is ran bound none write disk = subst Leaves (sym is) (record {
     ran = ran;
+    bound = bound;
     whole = λ it. absurd (stop_is_not_done e it);
     read = record { cause = λ it. absurd (stop_is_no_failed_read e it); exact = λ other. none };
     write = record { counted = λ it. write.counted (ap as_stop (stop_of_failed_write e it)); exact = λ other. write.exact (λ it. other (ap stopped (error_of it))) };
@@ -92,9 +95,10 @@ module _ {S K M : Type 0} (m : Machine M) (left : S → Option (List ℕ)) (give
   })
 
   -- a line was too long, and what was pending is written
-  pub run_long : (line : ℕ) → Runs (end.LineTooLong line) → faults source_now ≡ faults source → write_faults sink_now ≡ write_faults sink → m.faults new ≡ m.faults old → Leaves (end.LineTooLong line)
-  run_long line ran none written kept = record {
+  pub run_long : (line : ℕ) → Runs (end.LineTooLong line) → given source_now ≤ given source + input_limit → faults source_now ≡ faults source → write_faults sink_now ≡ write_faults sink → m.faults new ≡ m.faults old → Leaves (end.LineTooLong line)
+  run_long line ran bound none written kept = record {
     ran = ran;
+    bound = bound;
     whole = λ no. absurd cc;
     read = record { cause = λ no. absurd cc; exact = λ other. none };
     write = record { counted = λ no. absurd cc; exact = λ other. written };
@@ -102,9 +106,10 @@ module _ {S K M : Type 0} (m : Machine M) (left : S → Option (List ℕ)) (give
   }
 
   -- or it isn't, since a write failed
-  pub run_unwritten : Runs end.WriteFault → faults source_now ≡ faults source → FaultCounted (write_faults sink) (write_faults sink_now) → m.faults new ≡ m.faults old → Leaves end.WriteFault
-  run_unwritten ran none failed kept = record {
+  pub run_unwritten : Runs end.WriteFault → given source_now ≤ given source + input_limit → faults source_now ≡ faults source → FaultCounted (write_faults sink) (write_faults sink_now) → m.faults new ≡ m.faults old → Leaves end.WriteFault
+  run_unwritten ran bound none failed kept = record {
     ran = ran;
+    bound = bound;
     whole = λ no. absurd cc;
     read = record { cause = λ no. absurd cc; exact = λ other. none };
     write = record { counted = λ is. failed; exact = λ other. absurd (other refl) };

@@ -56,6 +56,7 @@ pub fn run<S: Source, K: Sink, M: LineMachine>(
         × ((s : M.machine.State) → M.machine.stands machine s
         → Ran M.machine line_limit s result.end read (S.asked source.new - S.given source.old) (S.left source.new)
         (K.held sink.old) (K.held sink.new) machine result.machine) }
+    ensures bound { S.given source.new ≤ S.given source.old + input_limit }
     ensures whole { result.end ≡ End.Done → IfSome (S.left source.new) (λ rest. rest ≡ []) }
     ensures read { ReadCountedWhere (result.end ≡ End.ReadFault) input_limit
         (S.faults source.old) (S.faults source.new) (S.given source.old) (S.given source.new) }

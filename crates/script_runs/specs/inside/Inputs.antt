@@ -23,6 +23,7 @@ pub record TakesInput {S K M : Type 0} (m : Machine M) (left : S → Option (Lis
       × ((s : m.State) → m.stands old.machine s → TakesFrom m line_limit s old new (held sink) (held sink_now) read (asked source_now - given source) (went result))
   pub ready : IfGoesOn (IsReady m new.machine) (went result)
   pub lines : new.lines ≤ input_limit
+  pub bound : given source_now ≤ given source + input_limit
   pub written : OnOk result ((new.pending ≡ []) × (length new.unended ≤ line_limit))
   pub ended : result ≡ Ok Ended → IfSome (left source_now) (λ rest. rest ≡ [])
   pub read : ReadCountedWhere (result ≡ Ok Fault) input_limit (faults source) (faults source_now) (given source) (given source_now)
@@ -34,6 +35,7 @@ pub record RunsScript {S K M : Type 0} (m : Machine M) (left : S → Option (Lis
     (old new : M) (source source_now : S) (sink sink_now : K) (how : End) : Type 0 where
   pub ran : (read : List ℕ) × Gave (left source) (left source_now) read × (given source_now ≡ given source + length read)
       × ((s : m.State) → m.stands old s → Ran m line_limit s how read (asked source_now - given source) (left source_now) (held sink) (held sink_now) old new)
+  pub bound : given source_now ≤ given source + input_limit
   pub whole : how ≡ end.Done → IfSome (left source_now) (λ rest. rest ≡ [])
   pub read : ReadCountedWhere (how ≡ end.ReadFault) input_limit (faults source) (faults source_now) (given source) (given source_now)
   pub write : CountedWhere (how ≡ end.WriteFault) (write_faults sink) (write_faults sink_now)

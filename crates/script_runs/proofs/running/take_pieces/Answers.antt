@@ -48,6 +48,7 @@ returns-in_err-flush-clause-takes g c =
     (so.0, so.1, so.2, λ s stands. takes_flushed m line_limit s c.args.script.now c.loop-source.script c.flush.new.self _ _ _ so.0 _ (Err e) (so.3 s stands) f.leaves)
     (stops_unwritten (IsReady m c.flush.new.self.machine) e f.error)
     (omega (arith, invariant.lines, f.lines))
+    (omega (arith, invariant.used))
     invariant.no_read_fault
     (counted_from (as_stop e ≡ Err WriteFault) (g.K.Sink.faults c.args.sink.now) (g.K.Sink.faults c.loop-source.sink) (g.K.Sink.faults c.flush.new.sink) invariant.no_write_fault f.write)
     (record { counted = λ it. absurd (write_is_no_halt e f.error it); exact = λ other. ap m.faults f.machine ∙ invariant.no_disk_fault })
@@ -67,6 +68,7 @@ returns-in-Err-clause-takes g c =
     )
     (subst (IsReady m) (sym f.machine) invariant.ready)
     (omega (arith, invariant.lines, f.lines))
+    (omega (arith, invariant.used, r.err.1))
     f.empty
     f.short
     (search rules)
@@ -94,6 +96,7 @@ returns-then-count-eq0-clause-takes g c =
     )
     (subst (IsReady m) (sym f.machine) invariant.ready)
     (omega (arith, invariant.lines, f.lines))
+    (omega (arith, invariant.used, r.room))
     f.empty
     f.short
     (search rules)
@@ -121,6 +124,7 @@ returns-in_err-feed-clause-takes g c =
     )
     fed.ready
     (omega (arith, invariant.lines, fed.lines, f.lines, c.split_at.ensures.front_len, r.count, r.room))
+    (omega (arith, invariant.used, r.room))
     (r.below.exact ∙ invariant.no_read_fault)
     (counted_from (as_stop e ≡ Err WriteFault) (g.K.Sink.faults c.args.sink.now) (g.K.Sink.faults c.flush.new.sink) (g.K.Sink.faults c.feed.new.sink) (f.write.exact (step_is_no_stop _) ∙ invariant.no_write_fault) fed.write)
     (subst (λ n. DisksCountedWhere (as_stop e ≡ Err (Halted DiskFault)) n (m.faults c.feed.new.self.machine)) (ap m.faults f.machine ∙ invariant.no_disk_fault) fed.disk)

@@ -1,0 +1,8 @@
+//! The two files of a store in the working folder, as the program opens them: each a disk of its own kind, and one program at a time.
+#![tactic(auto)]
+
+mod store_file;
+mod store_files;
+
+pub use store_file::{JournalKind, PagesKind, StoreFile};
+pub use store_files::StoreFiles;
