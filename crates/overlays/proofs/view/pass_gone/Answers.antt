@@ -1,167 +1,172 @@
-use Rattle.std.proofs.Common.{◌≡◌, ◌<◌, Option, Some, None, false, option_copied, refl, sym, subst, ◌∙◌}
+use Rattle.std.proofs.Common.{◌≡◌, ℕ, ◌+◌, ◌-◌, ◌^◌, min, ◌≤◌, ◌⊎◌, true, false, is_lt, List, [], Option, Some, None, option_copied, refl, sym, subst, ap, ◌∙◌, arith}
 use Rattle.std.proofs.Common.{Bor}
-use Rattle.tree_model.specs.declared.record.Record.{Record}
+use Rattle.std.specs.Prelude.{◌||◌, IfSome}
+use Rattle.std.specs.Option.{option_or}
+use Rattle.tree_model.specs.declared.key.Key.{Key}
 use Rattle.tree_model.specs.declared.change.Change.{Change}
-use Rattle.tree_model.specs.Entries.{get}
-use Rattle.tree_model.specs.Changes.{now_at, laid}
-use Rattle.node_seq.specs.Reads.{IsEntryOfTrees}
-use Rattle.overlays.specs.inside.Nearest.{IsNearest, as_pair, entry_beside, LiesAhead, comes_before}
-use Rattle.overlays.proofs.Directions.{toward_trans}
-use Rattle.overlays.proofs.Laying.{list_laid}
-use Rattle.overlays.proofs.NearestLaws.{nearest_entry}
-use Rattle.overlays.proofs.SeenLaws.{known_found, unknown_below, answer_is, ahead_on, only_base, put_first, gone_first, base_first, put_validly, left_from, next_falls}
-use Rattle.overlays.proofs.view.seen_beside.Goals as goal
+use Rattle.tree_model.specs.Entries.{Entries, get, changed}
+use Rattle.tree_model.specs.Changes.{now_at, laid, seen}
+use Rattle.overlays.specs.Views.{contents_after}
+use Rattle.overlays.specs.Directions.{cmp_toward, Ahead}
+use Rattle.overlays.specs.Stretches.{is_covered, IsEmpty}
+use Rattle.overlays.specs.Steps.{most_steps}
+use Rattle.overlays.specs.inside.Nearest.{entry_beside}
+use Rattle.overlays.specs.inside.Passing.{key_gone, first_gone, Spans, HasCome, is_past, AllCovered, with_piece}
+use Rattle.overlays.specs.declared.direction.Direction.{Direction}
+use Rattle.overlays.specs.declared.gaps.Stretch.{Stretch}
+use Rattle.overlays.proofs.Directions.{toward_trans, toward_itself}
+use Rattle.overlays.proofs.NearestLaws.{entry_found}
+use Rattle.overlays.proofs.SeenLaws.{known_found, gone_first}
+use Rattle.overlays.proofs.StretchLaws.{nearest_skipped, seen_empty, gone_is, some_on, steps_less, steps_fall, or_left}
+use Rattle.overlays.proofs.PassLaws.{gone_nearest, gone_falls, last_reads, noted_come, covers_on, reached_on, ahead_or, some_near, settled_at, passed_empty}
+use Rattle.overlays.proofs.view.pass_gone.Goals as goal
 
-none_is : (o : Option (Bor Change)) → ((x : Bor Change) → o ≡ Some x → ⊥) → o ≡ None
+none_is : {A : Type 0} (o : Option A) → ((x : A) → o ≡ Some x → ⊥) → o ≡ None
 none_is None h = refl
 none_is (Some x) h = absurd (h x refl)
 
-pub loop-change-init : goal.loop-change-init
-loop-change-init g c =
+or_copied : (a b : Option (Bor Key)) → option_copied (option_or a b) ≡ option_or (option_copied a) (option_copied b)
+or_copied None b = refl
+or_copied (Some x) b = refl
+
+few_on : (n s a b c : ℕ) → s ≡ min (n + 1) (2 ^ 64 - 1) → (n ≤ 4 → b ≤ a + n) → c ≤ b + 1 → s ≤ 4 → c ≤ a + s
+few_on n s a b c is f h l = let m : n + 1 ≡ s = omega (arith, is, l) in let r = f (omega (arith, m, l)) in omega (arith, m, r, h)
+
+init_reads : (a : ℕ) (w : Direction) (k r : Key) (ss : List Stretch) (cs : List Change) → ((j : Key) → Ahead w r j → Ahead w k j) → a + most_steps w r ss cs ≤ a + most_steps w k ss cs
+init_reads a w k r ss cs f = let less = steps_less w k r ss cs f in omega (arith, less)
+
+next_reads : (a b c m n x : ℕ) → n + 1 ≤ m → b + m ≤ a + x → c ≤ b + 1 → c + n ≤ a + x
+next_reads a b c m n x f h g = omega (arith, f, h, g)
+
+last : (a b c m x : ℕ) → c ≤ b + m → b + m ≤ a + x → c ≤ a + x
+last a b c m x f h = omega (arith, f, h)
+
+one_read : (a b c n : ℕ) → (n ≤ 4 → b ≤ a + n) → c ≤ b + 1 → n ≤ 4 → c ≤ a + (n + 1)
+one_read a b c n f h l = let r = f l in omega (arith, r, h)
+
+pub loop-gone-init : goal.loop-gone-init
+loop-gone-init g c =
+    let law = g.met.S.NodeRead in
+    let w = c.args.toward in
+    let k = c.args.key.now in
+    let r = c.skip-at.result.now in
+    let ss = c.args.gaps.now in
+    let own = c.args.own.now in
+    let low = c.args.layers.now.changes in
+    let skips = c.skip-at.ensures.skips in
+    let sorted = c.faults-faults.ensures.in_order in
     record {
-      at = c.args.key.now;
-      unchanged = c.in_ok-found.ensures.unchanged;
-      counted = c.in_ok-found.ensures.cause.exact;
-      beyond = λ j a. a;
-      ahead = c.in_ok-found.ensures.ahead;
-      valid = c.in_ok-found.ensures.valid;
+      unchanged = law.unchanged_itself _;
+      counted = refl;
+      reads = init_reads (g.S.NodeRead.reads c.args.base.now) w k r ss (laid own low) skips.beyond;
+      few = λ _. omega arith;
+      start = λ _. refl;
+      beyond = skips.beyond;
+      near = c.if_ahead-near.ensures.ahead;
+      reached = some_on (λ n. n ≡ r) (λ n. is_lt (cmp_toward w r n) ≡ false) (option_copied c.if_ahead-near.result) (λ n e. ap (λ v. is_lt (cmp_toward w r v)) e ∙ ap is_lt (toward_itself w r)) c.if_ahead-near.ensures.same;
       change = c.change_ahead-change.ensures.nearest;
-      found = λ es t. nearest_entry c.args.toward c.args.key.now es c.in_ok-found.found (c.faults-faults.ensures.in_order es t) (c.in_ok-found.ensures.value es t);
-      goes_on = λ es t o n. n;
+      covers = λ j x y _. or_left (is_covered ss j) (is_past w (option_copied c.if_ahead-near.result) j) (skips.covered j x y);
+      goes_on = λ es t o n. nearest_skipped w k r ss (λ j. seen (now_at j (laid own low)) (get j es)) skips
+          (seen_empty ss own low es c.change_ahead-change.ensures.own.rise c.change_ahead-change.ensures.layers.rise (sorted es t)
+          (c.requires.empty (changed own (changed low es)) (ap (λ o. contents_after own (contents_after low o)) t))) o n;
     }
 
-pub loop-change-smaller : goal.loop-change-smaller
-loop-change-smaller g c =
-    let law = g.met.S.NodeRead in
-    let inv = c.loop-change.invariant in
-    let w = c.args.toward in
-    let k = c.args.key.now in
-    let own = c.args.own.now in
-    let low = c.args.layers.now.changes in
-    let contents = g.S.NodeRead.contents c.args.base.now in
-    let sorted = c.faults-faults.ensures.in_order in
-    let next : Change = c.in-Some.next.now in
-    let here : IsNearest w inv.at (λ j. now_at j (laid own low)) (Some (next.key, next.now)) = subst (λ (o : Option (Bor Change)). IsNearest w inv.at (λ j. now_at j (laid own low)) (as_pair (option_copied o))) c.in-Some.is inv.change in
-    let falls = next_falls w (laid own low) next (option_copied c.change_ahead-change-in-Some.result) c.change_ahead-change-in-Some.ensures.nearest in
-    subst (λ (o : Option (Bor Change)). left_from w (laid own low) (option_copied c.change_ahead-change-in-Some.result) < left_from w (laid own low) (option_copied o)) (sym c.in-Some.is) falls
+pub loop-gone-smaller : goal.loop-gone-smaller
+loop-gone-smaller g c =
+    let gone : key_gone (option_copied c.loop-gone.change) ≡ Some c.in-Some.gone.now = subst (λ (o : Option (Bor Key)). IfSome (option_copied o) (λ k. key_gone (option_copied c.loop-gone.change) ≡ Some k)) c.in-Some.is c.in_ok-gone.ensures.gone in
+    gone_falls c.args.toward (laid c.args.own.now c.args.layers.now.changes) (option_copied c.loop-gone.change) c.in-Some.gone.now c.skip-at-in-Some.result.now
+    (option_copied c.change_ahead-change-in-Some.result) gone c.skip-at-in-Some.ensures.skips.beyond c.change_ahead-change-in-Some.ensures.nearest
 
-pub loop-change-preserved : goal.loop-change-preserved
-loop-change-preserved g c =
+pub loop-gone-preserved : goal.loop-gone-preserved
+loop-gone-preserved g c =
     let law = g.met.S.NodeRead in
-    let inv = c.loop-change.invariant in
+    let inv = c.loop-gone.invariant in
     let w = c.args.toward in
     let k = c.args.key.now in
+    let at = c.loop-gone.at.now in
+    let gone = c.in-Some.gone.now in
+    let r = c.skip-at-in-Some.result.now in
+    let ss = c.args.gaps.now in
     let own = c.args.own.now in
     let low = c.args.layers.now.changes in
-    let contents = g.S.NodeRead.contents c.args.base.now in
+    let cs = laid own low in
+    let skips = c.skip-at-in-Some.ensures.skips in
     let sorted = c.faults-faults.ensures.in_order in
-    let next : Change = c.in-Some.next.now in
-    let here : IsNearest w inv.at (λ j. now_at j (laid own low)) (Some (next.key, next.now)) = subst (λ (o : Option (Bor Change)). IsNearest w inv.at (λ j. now_at j (laid own low)) (as_pair (option_copied o))) c.in-Some.is inv.change in
-    let before : comes_before w c.loop-change.found next.key ≡ false = sym c.if-lies_before.ensures in
-    let gone : IsNearest w inv.at (λ j. now_at j (laid own low)) (Some (next.key, None)) = subst (λ (v : Option Record). IsNearest w inv.at (λ j. now_at j (laid own low)) (Some (next.key, v))) c.in-None.is here in
+    let change = option_copied c.loop-gone.change in
+    let is_gone : key_gone change ≡ Some gone = subst (λ (o : Option (Bor Key)). IfSome (option_copied o) (λ k. key_gone change ≡ Some k)) c.in-Some.is c.in_ok-gone.ensures.gone in
+    let here = gone_nearest w at (λ j. now_at j cs) change gone inv.change is_gone in
+    let near : option_copied c.or-near.result ≡ option_or (option_copied c.loop-gone.near) (Some gone) = ap option_copied c.or-near.ensures ∙ or_copied c.loop-gone.near (Some c.in-Some.gone) in
     record {
-      at = next.key;
-      unchanged = law.unchanged_onward _ _ _ inv.unchanged c.in_ok-found-2.ensures.unchanged;
-      counted = c.in_ok-found-2.ensures.cause.exact ∙ inv.counted;
-      beyond = λ j a. inv.beyond j (toward_trans w inv.at next.key j here.0 a);
-      ahead = c.in_ok-found-2.ensures.ahead;
-      valid = λ u. c.in_ok-found-2.ensures.valid (law.unchanged_contents _ _ inv.unchanged ∙ u) (inv.valid u);
+      unchanged = law.unchanged_onward _ _ _ inv.unchanged c.in_ok-gone.ensures.unchanged;
+      counted = c.in_ok-gone.ensures.cause.exact ∙ inv.counted;
+      reads = next_reads (g.S.NodeRead.reads c.args.base.now) (g.S.NodeRead.reads c.loop-gone.base) (g.S.NodeRead.reads c.next_gone.new.base) (most_steps w at ss cs) (most_steps w r ss cs) (most_steps w k ss cs)
+          (steps_fall w at gone r ss cs here.0 here.1 skips.beyond skips.before c.skip-at-in-Some.ensures.end) inv.reads c.next_gone.ensures.reads;
+      few = few_on c.loop-gone.steps c.saturating_add-steps.result (g.S.NodeRead.reads c.args.base.now) (g.S.NodeRead.reads c.loop-gone.base) (g.S.NodeRead.reads c.next_gone.new.base) c.saturating_add-steps.ensures inv.few c.next_gone.ensures.reads;
+      start = λ n. absurd (some_near (option_copied c.loop-gone.near) gone (sym near ∙ n));
+      beyond = λ j a. inv.beyond j (toward_trans w at gone j here.0 (skips.beyond j a));
+      near = subst (λ o. IfSome o (Ahead w k)) (sym near) (ahead_or (Ahead w k) (option_copied c.loop-gone.near) gone inv.near (inv.beyond gone here.0));
+      reached = subst (λ o. IfSome o (λ n. is_lt (cmp_toward w r n) ≡ false)) (sym near) (reached_on w at gone r (option_copied c.loop-gone.near) inv.reached here.0 skips.beyond);
       change = c.change_ahead-change-in-Some.ensures.nearest;
-      found = λ es t. c.in_ok-found-2.ensures.nearest es (law.unchanged_contents _ _ inv.unchanged ∙ t) (sorted es t) inv.at here.0 (inv.found es t);
-      goes_on = λ es t o n. inv.goes_on es t o (gone_first w inv.at (λ j. now_at j (laid own low)) (λ j. get j es) c.loop-change.found (inv.found es t) next.key gone before o n);
+      covers = subst (λ o. (j : Key) → Ahead w k j → is_lt (cmp_toward w r j) ≡ false → now_at j cs ≡ Some None → (is_covered ss j || is_past w o j) ≡ true) (sym near)
+          (covers_on w k at gone r (option_copied c.loop-gone.near) cs ss inv.covers inv.reached here);
+      goes_on = λ es t o n.
+          let first : Some gone ≡ first_gone w (entry_beside w at es) change = subst (λ (v : Option (Bor Key)). option_copied v ≡ first_gone w (entry_beside w at es) change) c.in-Some.is (c.in_ok-gone.ensures.value es (law.unchanged_contents _ _ inv.unchanged ∙ t)) in
+          let is = gone_is w at (λ j. now_at j cs) (entry_beside w at es) change gone inv.change (sym first) in
+          inv.goes_on es t o (gone_first w at (λ j. now_at j cs) (λ j. get j es) (entry_beside w at es) (entry_found w at es (sorted es t)) gone is.0 is.1 o
+          (nearest_skipped w gone r ss (λ j. seen (now_at j cs) (get j es)) skips
+          (seen_empty ss own low es c.change_ahead-change.ensures.own.rise c.change_ahead-change.ensures.layers.rise (sorted es t)
+          (c.requires.empty (changed own (changed low es)) (ap (λ o. contents_after own (contents_after low o)) t))) o n));
     }
 
-pub returns-then-lies_before-clause-value : goal.returns-then-lies_before-clause-value
-returns-then-lies_before-clause-value g c =
+pub returns-clause-come : goal.returns-clause-come
+returns-clause-come g c =
     let law = g.met.S.NodeRead in
-    let inv = c.loop-change.invariant in
+    let inv = c.loop-gone.invariant in
     let w = c.args.toward in
-    let k = c.args.key.now in
+    let at = c.loop-gone.at.now in
+    let cs = laid c.args.own.now c.args.layers.now.changes in
+    let change = option_copied c.loop-gone.change in
+    let none = none_is c.in_ok-gone.field-0 c.in_default.not-Some in
+    subst (HasCome w c.args.key.now cs (g.S.NodeRead.contents c.args.base.now)) (sym c.in_ok-at.ensures)
+    (record {
+      beyond = inv.beyond;
+      goes_on = inv.goes_on;
+      settled = λ es t. settled_at w at cs es change inv.change (sym (subst (λ (v : Option (Bor Key)). option_copied v ≡ first_gone w (entry_beside w at es) change) none (c.in_ok-gone.ensures.value es (law.unchanged_contents _ _ inv.unchanged ∙ t))));
+    })
+
+pub returns-clause-passed : goal.returns-clause-passed
+returns-clause-passed g c =
+    let inv = c.loop-gone.invariant in
+    let w = c.args.toward in
+    let at = c.loop-gone.at.now in
     let own = c.args.own.now in
     let low = c.args.layers.now.changes in
-    let contents = g.S.NodeRead.contents c.args.base.now in
-    let sorted = c.faults-faults.ensures.in_order in
-    let next : Change = c.in-Some.next.now in
-    let here : IsNearest w inv.at (λ j. now_at j (laid own low)) (Some (next.key, next.now)) = subst (λ (o : Option (Bor Change)). IsNearest w inv.at (λ j. now_at j (laid own low)) (as_pair (option_copied o))) c.in-Some.is inv.change in
-    known_found own low contents (λ fs. c.loop-change.found ≡ entry_beside w k fs)
-    (λ es t. answer_is w k own low es c.loop-change.found c.change_ahead-change.ensures.own.rise c.change_ahead-change.ensures.layers.rise (sorted es t) (inv.goes_on es t c.loop-change.found
-    (base_first w inv.at (λ j. now_at j (laid own low)) (λ j. get j es) c.loop-change.found (inv.found es t) (next.key, next.now) here (sym c.if-lies_before.ensures))))
+    some_on (Spans w (option_copied c.loop-gone.near) at) (λ s. (es : Entries) → contents_after own (contents_after low (g.S.NodeRead.contents c.args.base.now)) ≡ Some es → IsEmpty s es) c.in_ok-stretch.stretch
+    (λ s z. known_found own low (g.S.NodeRead.contents c.args.base.now) (IsEmpty s) (λ es t.
+    passed_empty w c.args.key.now at own low es c.change_ahead-change.ensures.own.rise c.change_ahead-change.ensures.layers.rise (c.faults-faults.ensures.in_order es t) (option_copied c.loop-gone.near) s inv.near z (inv.goes_on es t)))
+    c.in_ok-stretch.ensures.spans
 
-pub returns-then-lies_before-clause-ahead : goal.returns-then-lies_before-clause-ahead
-returns-then-lies_before-clause-ahead g c =
-    ahead_on c.args.toward c.args.key.now c.loop-change.invariant.at c.loop-change.found c.loop-change.invariant.beyond c.loop-change.invariant.ahead
-
-pub returns-then-lies_before-clause-valid : goal.returns-then-lies_before-clause-valid
-returns-then-lies_before-clause-valid g c =
-    λ u. c.loop-change.invariant.valid (unknown_below c.args.own.now c.args.layers.now.changes (g.S.NodeRead.contents c.args.base.now) u)
-
-pub returns-clause-ahead : goal.returns-clause-ahead
-returns-clause-ahead g c =
-    ahead_on c.args.toward c.args.key.now c.loop-change.invariant.at c.loop-change.found c.loop-change.invariant.beyond c.loop-change.invariant.ahead
-
-pub returns-clause-valid : goal.returns-clause-valid
-returns-clause-valid g c =
-    λ u. c.loop-change.invariant.valid (unknown_below c.args.own.now c.args.layers.now.changes (g.S.NodeRead.contents c.args.base.now) u)
-
-pub returns-clause-value : goal.returns-clause-value
-returns-clause-value g c =
-    let law = g.met.S.NodeRead in
-    let inv = c.loop-change.invariant in
+pub returns-clause-noted : goal.returns-clause-noted
+returns-clause-noted g c =
+    let inv = c.loop-gone.invariant in
     let w = c.args.toward in
     let k = c.args.key.now in
-    let own = c.args.own.now in
-    let low = c.args.layers.now.changes in
-    let contents = g.S.NodeRead.contents c.args.base.now in
-    let sorted = c.faults-faults.ensures.in_order in
-    let none : IsNearest w inv.at (λ j. now_at j (laid own low)) None = subst (λ (o : Option (Bor Change)). IsNearest w inv.at (λ j. now_at j (laid own low)) (as_pair (option_copied o))) (none_is c.loop-change.change c.in_default.not-Some) inv.change in
-    known_found own low contents (λ fs. c.loop-change.found ≡ entry_beside w k fs)
-    (λ es t. answer_is w k own low es c.loop-change.found c.change_ahead-change.ensures.own.rise c.change_ahead-change.ensures.layers.rise (sorted es t) (inv.goes_on es t c.loop-change.found
-    (only_base w inv.at (λ j. now_at j (laid own low)) (λ j. get j es) c.loop-change.found (inv.found es t) none)))
+    let at = c.loop-gone.at.now in
+    let cs = laid c.args.own.now c.args.layers.now.changes in
+    let ss = c.args.gaps.now in
+    let s = c.in_ok-stretch.stretch in
+    let old = g.S.NodeRead.reads c.args.base.now in
+    let new = g.S.NodeRead.reads c.next_gone.new.base in
+    subst (λ v. (new ≤ old + 5) ⊎ AllCovered w k v cs ss (with_piece s [])) (sym c.in_ok-at.ensures)
+    (noted_come w k at (option_copied c.loop-gone.near) cs ss s c.loop-gone.steps old new c.in_ok-stretch.ensures.spans c.in_ok-stretch.ensures.few inv.start
+    (one_read old (g.S.NodeRead.reads c.loop-gone.base) new c.loop-gone.steps inv.few c.next_gone.ensures.reads) inv.covers)
 
-pub returns-in-Some-now-clause-value : goal.returns-in-Some-now-clause-value
-returns-in-Some-now-clause-value g c =
-    let law = g.met.S.NodeRead in
-    let inv = c.loop-change.invariant in
+pub returns-clause-reads : goal.returns-clause-reads
+returns-clause-reads g c =
+    let inv = c.loop-gone.invariant in
     let w = c.args.toward in
-    let k = c.args.key.now in
-    let own = c.args.own.now in
-    let low = c.args.layers.now.changes in
-    let contents = g.S.NodeRead.contents c.args.base.now in
-    let sorted = c.faults-faults.ensures.in_order in
-    let next : Change = c.in-Some.next.now in
-    let here : IsNearest w inv.at (λ j. now_at j (laid own low)) (Some (next.key, next.now)) = subst (λ (o : Option (Bor Change)). IsNearest w inv.at (λ j. now_at j (laid own low)) (as_pair (option_copied o))) c.in-Some.is inv.change in
-    let before : comes_before w c.loop-change.found next.key ≡ false = sym c.if-lies_before.ensures in
-    let put : IsNearest w inv.at (λ j. now_at j (laid own low)) (Some (next.key, Some c.in-Some-now.put)) = subst (λ (v : Option Record). IsNearest w inv.at (λ j. now_at j (laid own low)) (Some (next.key, v))) c.in-Some-now.is here in
-    known_found own low contents (λ fs. c.in_ok-copy_entry-in-Some-now.field-0 ≡ entry_beside w k fs)
-    (λ es t. c.in_ok-copy_entry-in-Some-now.ensures ∙ answer_is w k own low es (Some (next.key, c.in-Some-now.put)) c.change_ahead-change.ensures.own.rise c.change_ahead-change.ensures.layers.rise (sorted es t) (inv.goes_on es t (Some (next.key, c.in-Some-now.put))
-    (put_first w inv.at (λ j. now_at j (laid own low)) (λ j. get j es) c.loop-change.found (inv.found es t) next.key c.in-Some-now.put put before)))
-
-pub returns-in-Some-now-clause-ahead : goal.returns-in-Some-now-clause-ahead
-returns-in-Some-now-clause-ahead g c =
-    let law = g.met.S.NodeRead in
-    let inv = c.loop-change.invariant in
-    let w = c.args.toward in
-    let k = c.args.key.now in
-    let own = c.args.own.now in
-    let low = c.args.layers.now.changes in
-    let contents = g.S.NodeRead.contents c.args.base.now in
-    let sorted = c.faults-faults.ensures.in_order in
-    let next : Change = c.in-Some.next.now in
-    let here : IsNearest w inv.at (λ j. now_at j (laid own low)) (Some (next.key, next.now)) = subst (λ (o : Option (Bor Change)). IsNearest w inv.at (λ j. now_at j (laid own low)) (as_pair (option_copied o))) c.in-Some.is inv.change in
-    subst (LiesAhead w k) (sym c.in_ok-copy_entry-in-Some-now.ensures) (inv.beyond next.key here.0)
-
-pub returns-in-Some-now-clause-valid : goal.returns-in-Some-now-clause-valid
-returns-in-Some-now-clause-valid g c =
-    let law = g.met.S.NodeRead in
-    let inv = c.loop-change.invariant in
-    let w = c.args.toward in
-    let k = c.args.key.now in
-    let own = c.args.own.now in
-    let low = c.args.layers.now.changes in
-    let contents = g.S.NodeRead.contents c.args.base.now in
-    let sorted = c.faults-faults.ensures.in_order in
-    let next : Change = c.in-Some.next.now in
-    let here : IsNearest w inv.at (λ j. now_at j (laid own low)) (Some (next.key, next.now)) = subst (λ (o : Option (Bor Change)). IsNearest w inv.at (λ j. now_at j (laid own low)) (as_pair (option_copied o))) c.in-Some.is inv.change in
-    let put : IsNearest w inv.at (λ j. now_at j (laid own low)) (Some (next.key, Some c.in-Some-now.put)) = subst (λ (v : Option Record). IsNearest w inv.at (λ j. now_at j (laid own low)) (Some (next.key, v))) c.in-Some-now.is here in
-    λ u. subst IsEntryOfTrees (sym c.in_ok-copy_entry-in-Some-now.ensures)
-    (put_validly next.key c.in-Some-now.put (laid own low) (list_laid own low c.change_ahead-change.ensures.own c.change_ahead-change.ensures.layers).puts put.1)
+    let at = c.loop-gone.at.now in
+    let cs = laid c.args.own.now c.args.layers.now.changes in
+    let ss = c.args.gaps.now in
+    last (g.S.NodeRead.reads c.args.base.now) (g.S.NodeRead.reads c.loop-gone.base) (g.S.NodeRead.reads c.next_gone.new.base) (most_steps w at ss cs) (most_steps w c.args.key.now ss cs)
+    (last_reads w at ss cs (option_copied c.loop-gone.change) (g.S.NodeRead.reads c.loop-gone.base) (g.S.NodeRead.reads c.next_gone.new.base) inv.change c.next_gone.ensures.unread c.next_gone.ensures.reads) inv.reads
