@@ -5,7 +5,7 @@ ghost use Rattle.node_seq.specs.ChangeLists.{IsChangeList};
 use crate::rows::agree;
 use dewey_labels::{Label, List, Text};
 use node_seq::{Answer, NodeRead, SeqError, SortedSeq, UnknownSeq};
-use overlays::{Layers, Overlay, Stacked, View};
+use overlays::{Gaps, Layers, Overlay, Stacked, View};
 use std::alloc::Global;
 use std::test::Fail;
 use tree_model::{Change, Changes, Key, Record};
@@ -143,10 +143,12 @@ fn around<S: NodeRead>(alloc: Global, at: &Key, seq: &mut S) -> Result<String, F
 fn seen_over(alloc: Global, at: &Key, base: &mut SortedSeq) -> Result<String, Fail> {
     let layers = layers(alloc, &COMMITS)?;
     let own = overlay(alloc, OWN)?;
+    let mut gaps = Gaps::new(alloc);
     let mut view = View {
         base,
         layers: &layers,
         own: &own,
+        gaps: &mut gaps,
     };
     around(alloc, at, &mut view)
 }
@@ -277,10 +279,12 @@ fn with_faults(alloc: Global, found: Option<&str>, faults: u64) -> Result<String
 fn next_over(alloc: Global, at: &Key, base: &mut UnknownSeq) -> Result<String, Fail> {
     let layers = layers(alloc, &COMMITS)?;
     let own = Overlay::new(alloc);
+    let mut gaps = Gaps::new(alloc);
     let mut view = View {
         base,
         layers: &layers,
         own: &own,
+        gaps: &mut gaps,
     };
     let found = view.next_from(alloc, at);
     with_faults(alloc, outcome(&found), view.faults())

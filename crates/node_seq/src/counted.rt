@@ -2,7 +2,7 @@
 ghost use Rattle.std.specs.Prelude.{◌≡◌, ◌≤◌, ◌+◌, None, IfOk};
 ghost use Rattle.tree_model.specs.Entries.{get, first_above, last_below};
 ghost use Rattle.node_seq.specs.Counting.{one_more};
-ghost use Rattle.node_seq.specs.Reads.{Finds, LiesAbove, LiesBelow, IsEntryOfTrees, IsRecordOfTrees};
+ghost use Rattle.node_seq.specs.Reads.{Finds, LiesAbove, LiesBelow, IsEntryOfTrees, IsRecordOfTrees, key_above, key_below, IsKeyAbove, IsKeyBelow, IsKeyOfTrees};
 ghost use Rattle.node_seq.specs.declared.node_read.SeqError.TheVariants.{DiskFault};
 ghost use Rattle.outside_traits.specs.Faults.{HasCause};
 
@@ -96,6 +96,32 @@ impl<S: NodeRead + Drop> NodeRead for Counted<S> {
     {
         self.count();
         self.seq.prev_from(alloc, key)
+    }
+
+    fn key_above(&mut self, alloc: Global, key: &Key) -> Result<Option<Key>, SeqError>
+        ensures value { Finds (S.contents self.old.seq) result (key_above key.now) }
+        ensures above { IfOk result (IsKeyAbove key.now) }
+        ensures valid { S.contents self.old.seq ≡ None → IfOk result IsKeyOfTrees }
+        ensures unchanged { S.unchanged self.old.seq self.new.seq }
+        ensures counted { self.new.calls ≡ one_more self.old.calls }
+        ensures reads { self.new.calls ≤ self.old.calls + 1 }
+        ensures cause { HasCause DiskFault (S.count self.old.seq) (S.count self.new.seq) result }
+    {
+        self.count();
+        self.seq.key_above(alloc, key)
+    }
+
+    fn key_below(&mut self, alloc: Global, key: &Key) -> Result<Option<Key>, SeqError>
+        ensures value { Finds (S.contents self.old.seq) result (key_below key.now) }
+        ensures below { IfOk result (IsKeyBelow key.now) }
+        ensures valid { S.contents self.old.seq ≡ None → IfOk result IsKeyOfTrees }
+        ensures unchanged { S.unchanged self.old.seq self.new.seq }
+        ensures counted { self.new.calls ≡ one_more self.old.calls }
+        ensures reads { self.new.calls ≤ self.old.calls + 1 }
+        ensures cause { HasCause DiskFault (S.count self.old.seq) (S.count self.new.seq) result }
+    {
+        self.count();
+        self.seq.key_below(alloc, key)
     }
 
     fn faults(&self) -> u64 {

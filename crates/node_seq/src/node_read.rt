@@ -1,7 +1,7 @@
 //! Reading a finite map from keys to records, whatever keeps it.
 ghost use Rattle.std.specs.Prelude.{◌≡◌, ◌+◌, ◌≤◌, ℕ, Option, Some, None, IfOk};
 ghost use Rattle.tree_model.specs.Entries.{Entries, Sorted, get, first_above, last_below};
-ghost use Rattle.node_seq.specs.Reads.{Finds, LiesAbove, LiesBelow, IsEntryOfTrees, IsRecordOfTrees};
+ghost use Rattle.node_seq.specs.Reads.{Finds, LiesAbove, LiesBelow, IsEntryOfTrees, IsRecordOfTrees, key_above, key_below, IsKeyAbove, IsKeyBelow, IsKeyOfTrees};
 ghost use Rattle.node_seq.specs.declared.node_read.SeqError.TheVariants.{DiskFault};
 ghost use Rattle.outside_traits.specs.Faults.{HasCause};
 
@@ -89,6 +89,36 @@ pub trait NodeRead {
         ensures unchanged { unchanged self.old self.new }
         ensures reads { reads self.new ≤ reads self.old + 1 }
         ensures cause { HasCause DiskFault (count self.old) (count self.new) result };
+
+    /// The least key above a key. A map that can find it without its record copies none; here it is that of `next_from`.
+    fn key_above(&mut self, alloc: Global, key: &Key) -> Result<Option<Key>, SeqError>
+        ensures value { Finds (contents self.old) result (key_above key.now) }
+        ensures above { IfOk result (IsKeyAbove key.now) }
+        ensures valid { contents self.old ≡ None → IfOk result IsKeyOfTrees }
+        ensures unchanged { unchanged self.old self.new }
+        ensures reads { reads self.new ≤ reads self.old + 1 }
+        ensures cause { HasCause DiskFault (count self.old) (count self.new) result }
+    {
+        match self.next_from(alloc, key)? {
+            Some((at, _)) => Ok(Some(at)),
+            None => Ok(None),
+        }
+    }
+
+    /// The greatest key below a key. A map that can find it without its record copies none; here it is that of `prev_from`.
+    fn key_below(&mut self, alloc: Global, key: &Key) -> Result<Option<Key>, SeqError>
+        ensures value { Finds (contents self.old) result (key_below key.now) }
+        ensures below { IfOk result (IsKeyBelow key.now) }
+        ensures valid { contents self.old ≡ None → IfOk result IsKeyOfTrees }
+        ensures unchanged { unchanged self.old self.new }
+        ensures reads { reads self.new ≤ reads self.old + 1 }
+        ensures cause { HasCause DiskFault (count self.old) (count self.new) result }
+    {
+        match self.prev_from(alloc, key)? {
+            Some((at, _)) => Ok(Some(at)),
+            None => Ok(None),
+        }
+    }
 
     /// The count of faults. It reads nothing, and tells that a known map is in the order of its keys.
     fn faults(&self) -> u64

@@ -1,5 +1,5 @@
 //! A map in memory.
-ghost use Rattle.std.specs.Prelude.{◌≡◌, ◌≤◌, [], IfOk, OnOk, OnErr, MatchResult, option_copied};
+ghost use Rattle.std.specs.Prelude.{◌≡◌, ◌≤◌, [], IfOk, OnOk, OnErr, MatchResult, option_copied, option_map};
 ghost use Rattle.tree_model.specs.Entries.{Sorted, get, first_above, last_below, put, del};
 ghost use Rattle.node_seq.specs.inside.Seqs.{StandsAt, BelongsAt, before};
 ghost use Rattle.node_seq.specs.Reads.{LiesAbove, LiesBelow};
@@ -165,6 +165,16 @@ fn copy_found(
     }
 }
 
+/// The key of what is lent, copied; its record isn't.
+fn copy_key(alloc: Global, found: Option<&(Key, Record)>) -> Result<Option<Key>, NoMemory>
+    ensures { IfOk result (λ copy. copy ≡ option_map (λ e. e.0) (option_copied found.entry)) }
+{
+    match found {
+        Some((at, _)) => Ok(Some(at.copy(alloc)?)),
+        None => Ok(None),
+    }
+}
+
 impl NodeRead for SortedSeq {
     ghost use Rattle.std.specs.Prelude.{◌≡◌, refl, Some};
     ghost use Rattle.std.proofs.Common.{sym, ap, ◌∙◌, le_refl};
@@ -188,6 +198,14 @@ impl NodeRead for SortedSeq {
 
     fn prev_from(&mut self, alloc: Global, key: &Key) -> Result<Option<(Key, Record)>, SeqError> {
         Ok(copy_found(alloc, self.entry_below(key))?)
+    }
+
+    fn key_above(&mut self, alloc: Global, key: &Key) -> Result<Option<Key>, SeqError> {
+        Ok(copy_key(alloc, self.entry_above(key))?)
+    }
+
+    fn key_below(&mut self, alloc: Global, key: &Key) -> Result<Option<Key>, SeqError> {
+        Ok(copy_key(alloc, self.entry_below(key))?)
     }
 
     fn faults(&self) -> u64 {

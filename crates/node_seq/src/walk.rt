@@ -1,5 +1,5 @@
 //! Walks over a map: all entries above a key or below it, by one read after another.
-ghost use Rattle.std.specs.Prelude.{◌≡◌, reverse, IfOk, OnErr, Some, None};
+ghost use Rattle.std.specs.Prelude.{◌≡◌, ◌≤◌, ◌+◌, length, reverse, IfOk, OnErr, Some, None};
 ghost use Rattle.tree_model.specs.Entries.{Entries, entries_above, entries_below};
 ghost use Rattle.node_seq.specs.Reads.{IsEntryOfTrees};
 ghost use Rattle.node_seq.specs.WalkSteps.{from_entry, HasStepped};
@@ -35,6 +35,7 @@ impl Walk {
         ensures rest { IfOk result (λ walk. (es : Entries) → S.contents seq.old ≡ Some es → from_entry walk es ≡ entries_above key.now es) }
         ensures valid { S.contents seq.old ≡ None → IfOk result IsEntryOfTrees }
         ensures unchanged { S.unchanged seq.old seq.new }
+        ensures reads { S.reads seq.new ≤ S.reads seq.old + 1 }
         ensures cause { HasCause DiskFault (S.count seq.old) (S.count seq.new) result }
     {
         // It tells that a known map is in order.
@@ -53,6 +54,8 @@ impl Walk {
         ensures stepped { IfOk result (HasStepped (S.contents seq.old) self.old self.new) }
         ensures err { OnErr result (self.new ≡ self.old) }
         ensures unchanged { S.unchanged seq.old seq.new }
+        ensures reads { S.reads seq.new ≤ S.reads seq.old + 1 }
+        ensures end_unread { self.old ≡ None → S.reads seq.new ≤ S.reads seq.old }
         ensures cause { HasCause DiskFault (S.count seq.old) (S.count seq.new) result }
     {
         let _faults = seq.faults();
@@ -72,6 +75,7 @@ pub fn entries_above<S: NodeRead>(
 ) -> Result<List<(Key, Record)>, SeqError>
     ensures value { IfOk result (λ found. (es : Entries) → S.contents seq.old ≡ Some es → found ≡ entries_above key.now es) }
     ensures unchanged { S.unchanged seq.old seq.new }
+    ensures reads { IfOk result (λ found. S.reads seq.new ≤ S.reads seq.old + (length found + 1)) }
     ensures cause { HasCause DiskFault (S.count seq.old) (S.count seq.new) result }
 {
     let mut out = List::new(alloc);
@@ -90,6 +94,7 @@ pub fn entries_below<S: NodeRead>(
 ) -> Result<List<(Key, Record)>, SeqError>
     ensures value { IfOk result (λ found. (es : Entries) → S.contents seq.old ≡ Some es → found ≡ reverse (entries_below key.now es)) }
     ensures unchanged { S.unchanged seq.old seq.new }
+    ensures reads { IfOk result (λ found. S.reads seq.new ≤ S.reads seq.old + (length found + 1)) }
     ensures cause { HasCause DiskFault (S.count seq.old) (S.count seq.new) result }
 {
     let _faults = seq.faults();

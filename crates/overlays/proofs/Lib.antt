@@ -4,6 +4,8 @@ pub mod Ends
 pub mod Laying
 pub mod MergeLaws
 pub mod NearestLaws
+pub mod PassLaws
 pub mod PlaceLaws
 pub mod RebaseLaws
 pub mod SeenLaws
+pub mod StretchLaws

@@ -2,8 +2,8 @@
 ghost use Rattle.std.specs.Prelude.{◌≡◌};
 
 use crate::direction::Direction;
-use crate::view::{seen_at, seen_beside};
-use crate::{Layers, Overlay};
+use crate::view::{key_seen_beside, seen_at, seen_beside};
+use crate::{Gaps, Layers, Overlay};
 use node_seq::{NodeRead, SeqError};
 use std::alloc::Global;
 use std::marker::Model;
@@ -70,6 +70,7 @@ impl<B: NodeRead + Drop> NodeRead for Stacked<B> {
             &mut self.base,
             &self.layers,
             &self.none,
+            &mut Gaps::new(alloc),
             Direction::Up,
             key,
         )
@@ -81,6 +82,31 @@ impl<B: NodeRead + Drop> NodeRead for Stacked<B> {
             &mut self.base,
             &self.layers,
             &self.none,
+            &mut Gaps::new(alloc),
+            Direction::Down,
+            key,
+        )
+    }
+
+    fn key_above(&mut self, alloc: Global, key: &Key) -> Result<Option<Key>, SeqError> {
+        key_seen_beside(
+            alloc,
+            &mut self.base,
+            &self.layers,
+            &self.none,
+            &mut Gaps::new(alloc),
+            Direction::Up,
+            key,
+        )
+    }
+
+    fn key_below(&mut self, alloc: Global, key: &Key) -> Result<Option<Key>, SeqError> {
+        key_seen_beside(
+            alloc,
+            &mut self.base,
+            &self.layers,
+            &self.none,
+            &mut Gaps::new(alloc),
             Direction::Down,
             key,
         )

@@ -1,30 +1,41 @@
-// The map that is seen through the layers and an overlay: each read asks the changes first and the base once.
-ghost use Rattle.std.specs.Prelude.{◌≡◌, Some, None, IfOk, option_copied};
+// The map that is seen through the layers and an overlay: each read asks the changes first and the base once, and a few times more where it passes deletions.
+ghost use Rattle.std.specs.Prelude.{◌≡◌, ◌≤◌, ◌+◌, ◌⊎◌, Some, None, IfOk, OnOk, IfSome, option_map, option_copied, unwrap_or, cond, []};
 ghost use Rattle.outside_traits.specs.Faults.{HasCause};
 ghost use Rattle.tree_model.specs.declared.key.Key as declared;
-ghost use Rattle.tree_model.specs.Entries.{Entries, Sorted, get};
-ghost use Rattle.tree_model.specs.Changes.{now_at, laid};
+ghost use Rattle.tree_model.specs.declared.record.Record as declared_record;
+ghost use Rattle.tree_model.specs.Entries.{Entries, get, first_above, last_below};
+ghost use Rattle.tree_model.specs.Changes.{now_at, laid, seen};
 ghost use Rattle.node_seq.specs.declared.node_read.SeqError.TheVariants.{DiskFault};
-ghost use Rattle.node_seq.specs.Reads.{Finds, IsEntryOfTrees, IsRecordOfTrees};
+ghost use Rattle.node_seq.specs.Reads.{Finds, IsEntryOfTrees, IsRecordOfTrees, IsKeyOfTrees, LiesAbove, LiesBelow, key_above, key_below, IsKeyAbove, IsKeyBelow};
 ghost use Rattle.node_seq.specs.ChangeLists.{IsChangeList};
-ghost use Rattle.overlays.specs.inside.Nearest.{Ahead, IsNearest, as_pair, entry_beside, LiesAhead, comes_before};
+ghost use Rattle.overlays.specs.Directions.{Ahead};
+ghost use Rattle.overlays.specs.declared.direction.Direction.TheVariants.{Up, Down};
+ghost use Rattle.overlays.specs.inside.Nearest.{IsNearest, as_pair, entry_beside, LiesAhead, comes_before, key_beside, KeyLiesAhead, key_before};
 ghost use Rattle.overlays.specs.Views.{contents_after};
+ghost use Rattle.overlays.specs.Stretches.{AreEmpty, AreWithin, IsEmpty};
+ghost use Rattle.overlays.specs.Steps.{most_steps, NoneOpen};
+ghost use Rattle.overlays.specs.inside.Passing.{first_gone, first_seen, first_key_seen, Sees, SeesKey, key_gone, Spans, IsSettled, HasCome, AllCovered, NoneGone, with_piece};
 
 use crate::direction::Direction;
-use crate::{Layers, Overlay};
+use crate::{Gaps, Layers, Overlay, Stretch};
 use dewey_labels::{Copied, NoMemory};
 use node_seq::{NodeRead, SeqError};
 use std::alloc::Global;
+use std::cmp::Ordering;
 use tree_model::{Change, Key, Record};
 
 /// What a transaction sees: a base changed by the layers of commits, and then by what the transaction has changed itself.
 ///
-/// A read asks each run of changes by one binary search, and the base once. `next_from` and `prev_from` do so again for each deleted entry that they pass.
+/// A read asks each run of changes by one binary search, and the base once. A read to the side of a key does so again for each deletion that it passes;
+/// what took more than a few such steps is noted in `gaps`, and the next reads jump over it.
 #[derive(Drop)]
 pub struct View<'a, S: NodeRead> {
     pub base: &'a mut S,
     pub layers: &'a Layers,
     pub own: &'a Overlay,
+    /// Where nothing is seen, as far as earlier reads have found it.
+    pub gaps: &'a mut Gaps,
+    ghost empty: { (es : Entries) → contents_after own.now (contents_after layers.now.changes (S.contents base.now)) ≡ Some es → AreEmpty gaps.now es },
 }
 
 /// The record at a key, with the changes laid over the base.
@@ -38,6 +49,7 @@ pub(crate) fn seen_at<S: NodeRead>(
     ensures value { Finds (contents_after own.now (contents_after layers.now.changes (S.contents base.old))) result (get key.now) }
     ensures valid { contents_after own.now (contents_after layers.now.changes (S.contents base.old)) ≡ None → IfOk result IsRecordOfTrees }
     ensures unchanged { S.unchanged base.old base.new }
+    ensures reads { S.reads base.new ≤ S.reads base.old + 1 }
     ensures cause { HasCause DiskFault (S.count base.old) (S.count base.new) result }
 {
     let _faults = base.faults();
@@ -47,37 +59,186 @@ pub(crate) fn seen_at<S: NodeRead>(
     }
 }
 
-/// The entry at the nearest key ahead, with the changes laid over the base.
-pub(crate) fn seen_beside<S: NodeRead>(
+/// How far a walk has come, where it isn't still at its key, and the stretch that it passed on the way, where that is worth to be kept.
+struct Come {
+    at: Option<Key>,
+    stretch: Option<Stretch>,
+}
+
+/// So many steps over deletions are made without being kept.
+const FEW: usize = 4;
+
+/// Passes over what is gone ahead of a key, and comes to one behind which no deletion comes first.
+fn pass_gone<'o, S: NodeRead>(
+    alloc: Global,
+    base: &mut S,
+    layers: &'o Layers,
+    own: &'o Overlay,
+    gaps: &'o Gaps,
+    toward: Direction,
+    key: &'o Key,
+) -> Result<Come, SeqError>
+    requires empty { (es : Entries) → contents_after own.now (contents_after layers.now.changes (S.contents base.old)) ≡ Some es → AreEmpty gaps.now es }
+    ensures come { IfOk result (λ c. HasCome toward key.now (laid own.now layers.now.changes) (S.contents base.old) (unwrap_or c.at key.now)) }
+    ensures passed { IfOk result (λ c. IfSome c.stretch (λ s. (es : Entries) → contents_after own.now (contents_after layers.now.changes (S.contents base.old)) ≡ Some es → IsEmpty s es)) }
+    ensures noted { IfOk result (λ c. (S.reads base.new ≤ S.reads base.old + 5)
+        ⊎ AllCovered toward key.now (unwrap_or c.at key.now) (laid own.now layers.now.changes) gaps.now (with_piece c.stretch [])) }
+    ensures unchanged { S.unchanged base.old base.new }
+    ensures reads { OnOk result (S.reads base.new ≤ S.reads base.old + most_steps toward key.now gaps.now (laid own.now layers.now.changes)) }
+    ensures all_reads { S.reads base.new ≤ S.reads base.old + (1 + most_steps toward key.now gaps.now (laid own.now layers.now.changes)) }
+    ensures cause { HasCause DiskFault (S.count base.old) (S.count base.new) result }
+{
+    let _faults = base.faults();
+    let mut at = gaps.skip(toward, key);
+    let mut near = if_ahead(toward, key, at);
+    let mut steps: usize = 0;
+    let mut change = change_ahead(layers, own, toward, at);
+    while let Some(gone) = next_gone(alloc, base, toward, at, change)? {
+        near = near.or(Some(gone));
+        at = gaps.skip(toward, gone);
+        steps = steps.saturating_add(1);
+        change = change_ahead(layers, own, toward, at);
+    }
+    let stretch = spanned(alloc, toward, near, at, steps)?;
+    let at = copy_other(alloc, toward, key, at)?;
+    Ok(Come { at, stretch })
+}
+
+/// A key where it lies ahead of another.
+fn if_ahead<'k>(toward: Direction, key: &Key, at: &'k Key) -> Option<&'k Key>
+    ensures ahead { IfSome (option_copied result) (λ n. Ahead toward key.now n) }
+    ensures same { IfSome (option_copied result) (λ n. n ≡ at.now) }
+{
+    if toward.order(key, at).is_lt() {
+        Some(at)
+    } else {
+        None
+    }
+}
+
+/// A copy of a key that may be another one; nothing where it is the same.
+fn copy_other(
+    alloc: Global,
+    toward: Direction,
+    key: &Key,
+    at: &Key,
+) -> Result<Option<Key>, NoMemory>
+    ensures { IfOk result (λ other. unwrap_or other key.now ≡ at.now) }
+{
+    match toward.order(key, at) {
+        Ordering::Equal => Ok(None),
+        _ => Ok(Some(at.copy(alloc)?)),
+    }
+}
+
+/// The key of a change that is a deletion.
+fn deletion(change: Option<&Change>) -> Option<&Key>
+    ensures { option_copied result ≡ key_gone (option_copied change.entry) }
+{
+    match change {
+        Some(next) => match &next.now {
+            Some(_) => None,
+            None => Some(&next.key),
+        },
+        None => None,
+    }
+}
+
+/// The key of the nearest change, where that is a deletion and the base has nothing before it.
+fn next_gone<'o, S: NodeRead>(
+    alloc: Global,
+    base: &mut S,
+    toward: Direction,
+    at: &Key,
+    change: Option<&'o Change>,
+) -> Result<Option<&'o Key>, SeqError>
+    ensures value { IfOk result (λ gone. (es : Entries) → S.contents base.old ≡ Some es
+        → option_copied gone ≡ first_gone toward (entry_beside toward at.now es) (option_copied change.entry)) }
+    ensures gone { IfOk result (λ gone. IfSome (option_copied gone) (λ k. key_gone (option_copied change.entry) ≡ Some k)) }
+    ensures unchanged { S.unchanged base.old base.new }
+    ensures unread { key_gone (option_copied change.entry) ≡ None → S.reads base.new ≤ S.reads base.old }
+    ensures reads { S.reads base.new ≤ S.reads base.old + 1 }
+    ensures cause { HasCause DiskFault (S.count base.old) (S.count base.new) result }
+{
+    let Some(gone) = deletion(change) else {
+        return Ok(None);
+    };
+    let found = base_key(alloc, base, toward, at)?;
+    Ok(if_first(toward, &found, gone))
+}
+
+/// A key, unless the one that was found lies before it.
+fn if_first<'o>(toward: Direction, found: &Option<Key>, key: &'o Key) -> Option<&'o Key>
+    ensures value { option_copied result ≡ cond (key_before toward found.now key.now) None (Some key.now) }
+    ensures key { IfSome (option_copied result) (λ k. k ≡ key.now) }
+{
+    match found {
+        Some(at) if toward.order(at, key).is_lt() => None,
+        _ => Some(key),
+    }
+}
+
+/// The stretch that was passed, where it took more than a few steps.
+fn spanned(
+    alloc: Global,
+    toward: Direction,
+    near: Option<&Key>,
+    at: &Key,
+    steps: usize,
+) -> Result<Option<Stretch>, NoMemory>
+    ensures spans { IfOk result (λ passed. IfSome passed (Spans toward (option_copied near.entry) at.now)) }
+    ensures few { IfOk result (λ passed. passed ≡ None → (option_copied near.entry ≡ None) ⊎ (steps ≤ 4)) }
+{
+    match near {
+        Some(near) if steps > FEW => Ok(Some(Stretch::between(alloc, toward, near, at, steps)?)),
+        _ => Ok(None),
+    }
+}
+
+/// Passes over what is gone ahead of a key, and notes the stretch that was passed. It answers how far it came, where that isn't the key.
+fn note_gone<S: NodeRead>(
     alloc: Global,
     base: &mut S,
     layers: &Layers,
     own: &Overlay,
+    gaps: &mut Gaps,
     toward: Direction,
     key: &Key,
-) -> Result<Option<(Key, Record)>, SeqError>
-    ensures value { Finds (contents_after own.now (contents_after layers.now.changes (S.contents base.old))) result (entry_beside toward key.now) }
-    ensures ahead { IfOk result (LiesAhead toward key.now) }
-    ensures valid { contents_after own.now (contents_after layers.now.changes (S.contents base.old)) ≡ None → IfOk result IsEntryOfTrees }
+) -> Result<Option<Key>, SeqError>
+    requires empty { (es : Entries) → contents_after own.now (contents_after layers.now.changes (S.contents base.old)) ≡ Some es → AreEmpty gaps.old es }
+    ensures come { IfOk result (λ at. HasCome toward key.now (laid own.now layers.now.changes) (S.contents base.old) (unwrap_or at key.now)) }
+    ensures empty { (es : Entries) → contents_after own.now (contents_after layers.now.changes (S.contents base.old)) ≡ Some es → AreEmpty gaps.new es }
+    ensures noted { IfOk result (λ at. (S.reads base.new ≤ S.reads base.old + 5)
+        ⊎ AllCovered toward key.now (unwrap_or at key.now) (laid own.now layers.now.changes) gaps.old gaps.new) }
     ensures unchanged { S.unchanged base.old base.new }
+    ensures reads { OnOk result (S.reads base.new ≤ S.reads base.old + most_steps toward key.now gaps.old (laid own.now layers.now.changes)) }
+    ensures all_reads { S.reads base.new ≤ S.reads base.old + (1 + most_steps toward key.now gaps.old (laid own.now layers.now.changes)) }
     ensures cause { HasCause DiskFault (S.count base.old) (S.count base.new) result }
 {
-    let _faults = base.faults();
-    let mut at = key;
-    let mut found = base_beside(alloc, base, toward, at)?;
-    let mut change = change_ahead(layers, own, toward, at);
-    while let Some(next) = change {
-        if lies_before(toward, &found, &next.key) {
-            return Ok(found);
-        }
-        match &next.now {
-            Some(put) => return Ok(copy_entry(alloc, &next.key, put)?),
-            None => at = &next.key,
-        }
-        found = found_behind(alloc, base, toward, at, found)?;
-        change = change_ahead(layers, own, toward, at);
+    let Come { at, stretch } = pass_gone(alloc, base, layers, own, gaps, toward, key)?;
+    note_if(gaps, stretch)?;
+    Ok(at)
+}
+
+/// Notes a stretch where there is one, and answers the one that went for it.
+fn note_if(gaps: &mut Gaps, stretch: Option<Stretch>) -> Result<Option<Stretch>, NoMemory>
+    ensures within { AreWithin gaps.new (with_piece stretch gaps.old) }
+    ensures noted { OnOk result (AreWithin (with_piece stretch []) gaps.new) }
+{
+    match stretch {
+        Some(stretch) => gaps.note(stretch),
+        None => Ok(None),
     }
-    Ok(found)
+}
+
+/// How far a walk has come: the key itself where it came to no other.
+fn place<'k>(at: &'k Option<Key>, key: &'k Key) -> &'k Key
+    ensures { result.now ≡ unwrap_or at.now key.now }
+{
+    match at {
+        Some(at) => at,
+        None => key,
+    }
 }
 
 /// The change of the nearest key ahead in the layers and the overlay.
@@ -105,6 +266,7 @@ fn base_beside<S: NodeRead>(
     ensures ahead { IfOk result (LiesAhead toward key.now) }
     ensures valid { S.contents base.old ≡ None → IfOk result IsEntryOfTrees }
     ensures unchanged { S.unchanged base.old base.new }
+    ensures reads { S.reads base.new ≤ S.reads base.old + 1 }
     ensures cause { HasCause DiskFault (S.count base.old) (S.count base.new) result }
 {
     match toward {
@@ -113,25 +275,41 @@ fn base_beside<S: NodeRead>(
     }
 }
 
-/// What was found in the base where it lies ahead of a key, otherwise what the base has ahead of it.
-fn found_behind<S: NodeRead>(
+/// The nearest key ahead in the base.
+fn base_key<S: NodeRead>(
     alloc: Global,
     base: &mut S,
     toward: Direction,
     key: &Key,
-    found: Option<(Key, Record)>,
-) -> Result<Option<(Key, Record)>, SeqError>
-    ensures nearest { IfOk result (λ now. (es : Entries) → S.contents base.old ≡ Some es → Sorted es → (k : declared.Key) → Ahead toward k key.now
-        → IsNearest toward k (λ j. get j es) found → IsNearest toward key.now (λ j. get j es) now) }
-    ensures ahead { IfOk result (LiesAhead toward key.now) }
-    ensures valid { S.contents base.old ≡ None → IsEntryOfTrees found → IfOk result IsEntryOfTrees }
+) -> Result<Option<Key>, SeqError>
+    ensures value { Finds (S.contents base.old) result (key_beside toward key.now) }
+    ensures ahead { IfOk result (KeyLiesAhead toward key.now) }
+    ensures valid { S.contents base.old ≡ None → IfOk result IsKeyOfTrees }
     ensures unchanged { S.unchanged base.old base.new }
+    ensures reads { S.reads base.new ≤ S.reads base.old + 1 }
     ensures cause { HasCause DiskFault (S.count base.old) (S.count base.new) result }
 {
-    match &found {
-        Some((at, _)) if toward.order(key, at).is_lt() => Ok(found),
-        Some(_) => base_beside(alloc, base, toward, key),
-        None => Ok(None),
+    match toward {
+        Direction::Up => base.key_above(alloc, key),
+        Direction::Down => base.key_below(alloc, key),
+    }
+}
+
+/// What comes first of what the base has and the nearest change, where that is no deletion.
+fn first_of(
+    alloc: Global,
+    toward: Direction,
+    found: Option<(Key, Record)>,
+    change: Option<&Change>,
+) -> Result<Option<(Key, Record)>, NoMemory>
+    ensures { IfOk result (λ entry. entry ≡ first_seen toward found (option_copied change.entry)) }
+{
+    match change {
+        Some(next) if !lies_before(toward, &found, &next.key) => match &next.now {
+            Some(put) => copy_entry(alloc, &next.key, put),
+            None => Ok(None),
+        },
+        _ => Ok(found),
     }
 }
 
@@ -151,6 +329,135 @@ fn copy_entry(alloc: Global, key: &Key, put: &Record) -> Result<Option<(Key, Rec
     Ok(Some((key.copy(alloc)?, put.copy(alloc)?)))
 }
 
+/// The key of what comes first, as `first_of`; no record is copied.
+fn first_key(
+    alloc: Global,
+    toward: Direction,
+    found: Option<Key>,
+    change: Option<&Change>,
+) -> Result<Option<Key>, NoMemory>
+    ensures { IfOk result (λ first. first ≡ first_key_seen toward found (option_copied change.entry)) }
+{
+    match change {
+        Some(next) if !key_lies_before(toward, &found, &next.key) => match &next.now {
+            Some(_) => Ok(Some(next.key.copy(alloc)?)),
+            None => Ok(None),
+        },
+        _ => Ok(found),
+    }
+}
+
+/// Whether the key that was found lies before another.
+fn key_lies_before(toward: Direction, found: &Option<Key>, key: &Key) -> bool
+    ensures { result ≡ key_before toward found.now key.now }
+{
+    match found {
+        Some(at) => toward.order(at, key).is_lt(),
+        None => false,
+    }
+}
+
+/// The entry at the nearest key ahead of one behind which no deletion comes first.
+fn seen_behind<S: NodeRead>(
+    alloc: Global,
+    base: &mut S,
+    layers: &Layers,
+    own: &Overlay,
+    toward: Direction,
+    at: &Key,
+) -> Result<Option<(Key, Record)>, SeqError>
+    ensures value { IfOk result (λ found. (es : Entries) → S.contents base.old ≡ Some es → IsSettled toward at.now (laid own.now layers.now.changes) es → Sees toward at.now (laid own.now layers.now.changes) es found) }
+    ensures ahead { IfOk result (LiesAhead toward at.now) }
+    ensures valid { S.contents base.old ≡ None → IfOk result IsEntryOfTrees }
+    ensures own { IsChangeList own.now }
+    ensures layers { IsChangeList layers.now.changes }
+    ensures unchanged { S.unchanged base.old base.new }
+    ensures reads { S.reads base.new ≤ S.reads base.old + 1 }
+    ensures cause { HasCause DiskFault (S.count base.old) (S.count base.new) result }
+{
+    let _faults = base.faults();
+    let change = change_ahead(layers, own, toward, at);
+    let found = base_beside(alloc, base, toward, at)?;
+    Ok(first_of(alloc, toward, found, change)?)
+}
+
+/// The nearest key ahead of one behind which no deletion comes first; no record is copied.
+fn key_behind<S: NodeRead>(
+    alloc: Global,
+    base: &mut S,
+    layers: &Layers,
+    own: &Overlay,
+    toward: Direction,
+    at: &Key,
+) -> Result<Option<Key>, SeqError>
+    ensures value { IfOk result (λ found. (es : Entries) → S.contents base.old ≡ Some es → IsSettled toward at.now (laid own.now layers.now.changes) es → SeesKey toward at.now (laid own.now layers.now.changes) es found) }
+    ensures ahead { IfOk result (KeyLiesAhead toward at.now) }
+    ensures valid { S.contents base.old ≡ None → IfOk result IsKeyOfTrees }
+    ensures own { IsChangeList own.now }
+    ensures layers { IsChangeList layers.now.changes }
+    ensures unchanged { S.unchanged base.old base.new }
+    ensures reads { S.reads base.new ≤ S.reads base.old + 1 }
+    ensures cause { HasCause DiskFault (S.count base.old) (S.count base.new) result }
+{
+    let _faults = base.faults();
+    let change = change_ahead(layers, own, toward, at);
+    let found = base_key(alloc, base, toward, at)?;
+    Ok(first_key(alloc, toward, found, change)?)
+}
+
+/// The entry at the nearest key ahead, with the changes laid over the base; what was passed on the way is noted.
+pub(crate) fn seen_beside<S: NodeRead>(
+    alloc: Global,
+    base: &mut S,
+    layers: &Layers,
+    own: &Overlay,
+    gaps: &mut Gaps,
+    toward: Direction,
+    key: &Key,
+) -> Result<Option<(Key, Record)>, SeqError>
+    requires empty { (es : Entries) → contents_after own.now (contents_after layers.now.changes (S.contents base.old)) ≡ Some es → AreEmpty gaps.old es }
+    ensures value { Finds (contents_after own.now (contents_after layers.now.changes (S.contents base.old))) result (entry_beside toward key.now) }
+    ensures ahead { IfOk result (LiesAhead toward key.now) }
+    ensures valid { contents_after own.now (contents_after layers.now.changes (S.contents base.old)) ≡ None → IfOk result IsEntryOfTrees }
+    ensures empty { (es : Entries) → contents_after own.now (contents_after layers.now.changes (S.contents base.old)) ≡ Some es → AreEmpty gaps.new es }
+    ensures noted { IfOk result (λ found. (es : Entries) → S.contents base.old ≡ Some es → (S.reads base.new ≤ S.reads base.old + 6)
+        ⊎ NoneOpen toward key.now (option_map (λ e. e.0) found) (laid own.now layers.now.changes) gaps.old gaps.new) }
+    ensures unchanged { S.unchanged base.old base.new }
+    ensures reads { S.reads base.new ≤ S.reads base.old + (1 + most_steps toward key.now gaps.old (laid own.now layers.now.changes)) }
+    ensures cause { HasCause DiskFault (S.count base.old) (S.count base.new) result }
+{
+    let _faults = base.faults();
+    let at = note_gone(alloc, base, layers, own, gaps, toward, key)?;
+    seen_behind(alloc, base, layers, own, toward, place(&at, key))
+}
+
+/// The nearest key ahead, with the changes laid over the base; what was passed on the way is noted, and no record is copied.
+pub(crate) fn key_seen_beside<S: NodeRead>(
+    alloc: Global,
+    base: &mut S,
+    layers: &Layers,
+    own: &Overlay,
+    gaps: &mut Gaps,
+    toward: Direction,
+    key: &Key,
+) -> Result<Option<Key>, SeqError>
+    requires empty { (es : Entries) → contents_after own.now (contents_after layers.now.changes (S.contents base.old)) ≡ Some es → AreEmpty gaps.old es }
+    ensures value { Finds (contents_after own.now (contents_after layers.now.changes (S.contents base.old))) result (key_beside toward key.now) }
+    ensures ahead { IfOk result (KeyLiesAhead toward key.now) }
+    ensures valid { contents_after own.now (contents_after layers.now.changes (S.contents base.old)) ≡ None → IfOk result IsKeyOfTrees }
+    ensures empty { (es : Entries) → contents_after own.now (contents_after layers.now.changes (S.contents base.old)) ≡ Some es → AreEmpty gaps.new es }
+    ensures noted { IfOk result (λ found. (es : Entries) → S.contents base.old ≡ Some es → (S.reads base.new ≤ S.reads base.old + 6)
+        ⊎ NoneOpen toward key.now found (laid own.now layers.now.changes) gaps.old gaps.new) }
+    ensures unchanged { S.unchanged base.old base.new }
+    ensures reads { S.reads base.new ≤ S.reads base.old + (1 + most_steps toward key.now gaps.old (laid own.now layers.now.changes)) }
+    ensures cause { HasCause DiskFault (S.count base.old) (S.count base.new) result }
+{
+    let _faults = base.faults();
+    let at = note_gone(alloc, base, layers, own, gaps, toward, key)?;
+    key_behind(alloc, base, layers, own, toward, place(&at, key))
+}
+
+// A view keeps no count of reads itself (`reads`); those of its base are told (`of_base`).
 impl<'a, S: NodeRead> NodeRead for View<'a, S> {
     ghost use Rattle.std.specs.Prelude.{◌≡◌, refl};
     ghost use Rattle.std.proofs.Common.{◌∙◌, sym, ap};
@@ -161,22 +468,102 @@ impl<'a, S: NodeRead> NodeRead for View<'a, S> {
 
     ghost count = { λ v. S.count v.base.now };
 
-    ghost unchanged = { λ v w. S.unchanged v.base.now w.base.now × (v.layers.now ≡ w.layers.now) × (v.own.now ≡ w.own.now) × (v.base.ghost_name ≡ w.base.ghost_name) };
+    ghost unchanged = { λ v w. S.unchanged v.base.now w.base.now × (v.layers.now ≡ w.layers.now) × (v.own.now ≡ w.own.now) × (v.base.ghost_name ≡ w.base.ghost_name) × (v.gaps.ghost_name ≡ w.gaps.ghost_name) };
 
-    fn get(&mut self, alloc: Global, key: &Key) -> Result<Option<Record>, SeqError> {
+    fn get(&mut self, alloc: Global, key: &Key) -> Result<Option<Record>, SeqError>
+        ensures value { Finds (contents_after self.old.own.now (contents_after self.old.layers.now.changes (S.contents self.old.base.now))) result (get key.now) }
+        ensures valid { contents_after self.old.own.now (contents_after self.old.layers.now.changes (S.contents self.old.base.now)) ≡ None → IfOk result IsRecordOfTrees }
+        ensures unchanged { S.unchanged self.old.base.now self.new.base.now × (self.old.layers.now ≡ self.new.layers.now) × (self.old.own.now ≡ self.new.own.now) × (self.old.base.ghost_name ≡ self.new.base.ghost_name) × (self.old.gaps.ghost_name ≡ self.new.gaps.ghost_name) }
+        ensures reads { 0 ≤ 0 + 1 }
+        ensures of_base { S.reads self.new.base.now ≤ S.reads self.old.base.now + 1 }
+        ensures cause { HasCause DiskFault (S.count self.old.base.now) (S.count self.new.base.now) result }
+    {
         seen_at(alloc, self.base, self.layers, self.own, key)
     }
 
-    fn next_from(&mut self, alloc: Global, key: &Key) -> Result<Option<(Key, Record)>, SeqError> {
-        seen_beside(alloc, self.base, self.layers, self.own, Direction::Up, key)
-    }
-
-    fn prev_from(&mut self, alloc: Global, key: &Key) -> Result<Option<(Key, Record)>, SeqError> {
+    fn next_from(&mut self, alloc: Global, key: &Key) -> Result<Option<(Key, Record)>, SeqError>
+        ensures value { Finds (contents_after self.old.own.now (contents_after self.old.layers.now.changes (S.contents self.old.base.now))) result (first_above key.now) }
+        ensures above { IfOk result (LiesAbove key.now) }
+        ensures valid { contents_after self.old.own.now (contents_after self.old.layers.now.changes (S.contents self.old.base.now)) ≡ None → IfOk result IsEntryOfTrees }
+        ensures unchanged { S.unchanged self.old.base.now self.new.base.now × (self.old.layers.now ≡ self.new.layers.now) × (self.old.own.now ≡ self.new.own.now) × (self.old.base.ghost_name ≡ self.new.base.ghost_name) × (self.old.gaps.ghost_name ≡ self.new.gaps.ghost_name) }
+        ensures reads { 0 ≤ 0 + 1 }
+        ensures of_base { S.reads self.new.base.now ≤ S.reads self.old.base.now + (1 + most_steps Up key.now self.old.gaps.now (laid self.old.own.now self.old.layers.now.changes)) }
+        ensures noted { IfOk result (λ found. (es : Entries) → S.contents self.old.base.now ≡ Some es → (S.reads self.new.base.now ≤ S.reads self.old.base.now + 6)
+            ⊎ NoneOpen Up key.now (option_map (λ e. e.0) found) (laid self.old.own.now self.old.layers.now.changes) self.old.gaps.now self.new.gaps.now) }
+        ensures cause { HasCause DiskFault (S.count self.old.base.now) (S.count self.new.base.now) result }
+    {
         seen_beside(
             alloc,
             self.base,
             self.layers,
             self.own,
+            self.gaps,
+            Direction::Up,
+            key,
+        )
+    }
+
+    fn prev_from(&mut self, alloc: Global, key: &Key) -> Result<Option<(Key, Record)>, SeqError>
+        ensures value { Finds (contents_after self.old.own.now (contents_after self.old.layers.now.changes (S.contents self.old.base.now))) result (last_below key.now) }
+        ensures below { IfOk result (LiesBelow key.now) }
+        ensures valid { contents_after self.old.own.now (contents_after self.old.layers.now.changes (S.contents self.old.base.now)) ≡ None → IfOk result IsEntryOfTrees }
+        ensures unchanged { S.unchanged self.old.base.now self.new.base.now × (self.old.layers.now ≡ self.new.layers.now) × (self.old.own.now ≡ self.new.own.now) × (self.old.base.ghost_name ≡ self.new.base.ghost_name) × (self.old.gaps.ghost_name ≡ self.new.gaps.ghost_name) }
+        ensures reads { 0 ≤ 0 + 1 }
+        ensures of_base { S.reads self.new.base.now ≤ S.reads self.old.base.now + (1 + most_steps Down key.now self.old.gaps.now (laid self.old.own.now self.old.layers.now.changes)) }
+        ensures noted { IfOk result (λ found. (es : Entries) → S.contents self.old.base.now ≡ Some es → (S.reads self.new.base.now ≤ S.reads self.old.base.now + 6)
+            ⊎ NoneOpen Down key.now (option_map (λ e. e.0) found) (laid self.old.own.now self.old.layers.now.changes) self.old.gaps.now self.new.gaps.now) }
+        ensures cause { HasCause DiskFault (S.count self.old.base.now) (S.count self.new.base.now) result }
+    {
+        seen_beside(
+            alloc,
+            self.base,
+            self.layers,
+            self.own,
+            self.gaps,
+            Direction::Down,
+            key,
+        )
+    }
+
+    fn key_above(&mut self, alloc: Global, key: &Key) -> Result<Option<Key>, SeqError>
+        ensures value { Finds (contents_after self.old.own.now (contents_after self.old.layers.now.changes (S.contents self.old.base.now))) result (key_above key.now) }
+        ensures above { IfOk result (IsKeyAbove key.now) }
+        ensures valid { contents_after self.old.own.now (contents_after self.old.layers.now.changes (S.contents self.old.base.now)) ≡ None → IfOk result IsKeyOfTrees }
+        ensures unchanged { S.unchanged self.old.base.now self.new.base.now × (self.old.layers.now ≡ self.new.layers.now) × (self.old.own.now ≡ self.new.own.now) × (self.old.base.ghost_name ≡ self.new.base.ghost_name) × (self.old.gaps.ghost_name ≡ self.new.gaps.ghost_name) }
+        ensures reads { 0 ≤ 0 + 1 }
+        ensures of_base { S.reads self.new.base.now ≤ S.reads self.old.base.now + (1 + most_steps Up key.now self.old.gaps.now (laid self.old.own.now self.old.layers.now.changes)) }
+        ensures noted { IfOk result (λ found. (es : Entries) → S.contents self.old.base.now ≡ Some es → (S.reads self.new.base.now ≤ S.reads self.old.base.now + 6)
+            ⊎ NoneOpen Up key.now found (laid self.old.own.now self.old.layers.now.changes) self.old.gaps.now self.new.gaps.now) }
+        ensures cause { HasCause DiskFault (S.count self.old.base.now) (S.count self.new.base.now) result }
+    {
+        key_seen_beside(
+            alloc,
+            self.base,
+            self.layers,
+            self.own,
+            self.gaps,
+            Direction::Up,
+            key,
+        )
+    }
+
+    fn key_below(&mut self, alloc: Global, key: &Key) -> Result<Option<Key>, SeqError>
+        ensures value { Finds (contents_after self.old.own.now (contents_after self.old.layers.now.changes (S.contents self.old.base.now))) result (key_below key.now) }
+        ensures below { IfOk result (IsKeyBelow key.now) }
+        ensures valid { contents_after self.old.own.now (contents_after self.old.layers.now.changes (S.contents self.old.base.now)) ≡ None → IfOk result IsKeyOfTrees }
+        ensures unchanged { S.unchanged self.old.base.now self.new.base.now × (self.old.layers.now ≡ self.new.layers.now) × (self.old.own.now ≡ self.new.own.now) × (self.old.base.ghost_name ≡ self.new.base.ghost_name) × (self.old.gaps.ghost_name ≡ self.new.gaps.ghost_name) }
+        ensures reads { 0 ≤ 0 + 1 }
+        ensures of_base { S.reads self.new.base.now ≤ S.reads self.old.base.now + (1 + most_steps Down key.now self.old.gaps.now (laid self.old.own.now self.old.layers.now.changes)) }
+        ensures noted { IfOk result (λ found. (es : Entries) → S.contents self.old.base.now ≡ Some es → (S.reads self.new.base.now ≤ S.reads self.old.base.now + 6)
+            ⊎ NoneOpen Down key.now found (laid self.old.own.now self.old.layers.now.changes) self.old.gaps.now self.new.gaps.now) }
+        ensures cause { HasCause DiskFault (S.count self.old.base.now) (S.count self.new.base.now) result }
+    {
+        key_seen_beside(
+            alloc,
+            self.base,
+            self.layers,
+            self.own,
+            self.gaps,
             Direction::Down,
             key,
         )
@@ -186,9 +573,9 @@ impl<'a, S: NodeRead> NodeRead for View<'a, S> {
         self.base.faults()
     }
 
-    ghost unchanged_itself = { λ v. (S.unchanged_itself v.base.now, refl, refl, refl) };
+    ghost unchanged_itself = { λ v. (S.unchanged_itself v.base.now, refl, refl, refl, refl) };
 
-    ghost unchanged_onward = { λ u v w a b. (S.unchanged_onward u.base.now v.base.now w.base.now a.0 b.0, a.1 ∙ b.1, a.2 ∙ b.2, a.3 ∙ b.3) };
+    ghost unchanged_onward = { λ u v w a b. (S.unchanged_onward u.base.now v.base.now w.base.now a.0 b.0, a.1 ∙ b.1, a.2 ∙ b.2, a.3 ∙ b.3, a.4 ∙ b.4) };
 
     ghost unchanged_contents = { λ v w a i. contents_after (sym a.2 i) (contents_after (ap (λ (l : Layered). l.changes) (sym a.1) i) (S.unchanged_contents v.base.now w.base.now a.0 i)) };
 

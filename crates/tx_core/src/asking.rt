@@ -16,7 +16,7 @@ use dewey_labels::{List, NoMemory};
 use lock_resources::{Request, Resource};
 use lock_table::{Asked, LockTable};
 use node_seq::{NodeRead, SeqError};
-use overlays::{Layers, Overlay, View};
+use overlays::{Gaps, Layers, Overlay, View};
 use std::alloc::Global;
 use tree_model::{Changes, Reply};
 
@@ -137,7 +137,13 @@ pub fn asked<C: TreeCall, B: NodeRead>(
     ensures cause { HasCause DiskFault (B.count base.old) (B.count base.new) result }
 {
     let mut requests = List::new(alloc);
-    let mut view = View { base, layers, own };
+    let mut gaps = Gaps::new(alloc);
+    let mut view = View {
+        base,
+        layers,
+        own,
+        gaps: &mut gaps,
+    };
     let reply = call.requests(alloc, &mut view, &mut requests)?;
     Ok(Wanted { requests, reply })
 }
@@ -167,7 +173,13 @@ pub fn made<C: TreeCall, B: NodeRead>(
     ensures cause { HasCause DiskFault (B.count base.old) (B.count base.new) result }
 {
     let mut changes = List::new(alloc);
-    let mut view = View { base, layers, own };
+    let mut gaps = Gaps::new(alloc);
+    let mut view = View {
+        base,
+        layers,
+        own,
+        gaps: &mut gaps,
+    };
     let reply = call.apply(alloc, &mut view, &mut changes)?;
     Ok(Outcome { reply, changes })
 }

@@ -1,10 +1,13 @@
-use Rattle.std.proofs.Common.{◌≡◌, ◌<◌, ◌++◌, reverse, Option, Some, None, sym, ap, subst, ◌∙◌}
+use Rattle.std.proofs.Common.{◌≡◌, ℕ, ◌+◌, ◌<◌, ◌≤◌, ◌++◌, ◌∷◌, [], length, length-append, arith, reverse, Option, Some, None, sym, ap, subst, ◌∙◌}
 use Rattle.tree_model.specs.declared.key.Key.{Key}
 use Rattle.tree_model.specs.declared.record.Record.{Record}
 use Rattle.tree_model.specs.Entries.{Entries, entries_below}
 use Rattle.node_seq.specs.Reads.{IsEntryOfTrees}
 use Rattle.node_seq.proofs.Walks.{left_downwards, falls_downwards, back_from_found, back_found, back_step, back_ended}
 use Rattle.node_seq.proofs.walk.entries_below.Goals as goal
+
+more_read : (a b c : ℕ) (out : Entries) (e : Key × Record) (new : Entries) → new ≡ out ++ e ∷ [] → b ≤ a + (length out + 1) → c ≤ b + 1 → c ≤ a + (length new + 1)
+more_read a b c out e new is h g = subst (λ (v : Entries). c ≤ a + (length v + 1)) (sym is) (let len = length-append out (e ∷ []) in omega (arith, len, h, g))
 
 pub loop-found-init : goal.loop-found-init
 loop-found-init g c =
@@ -13,6 +16,7 @@ loop-found-init g c =
     record {
       same = c.in_ok-found.ensures.unchanged;
       counted = c.in_ok-found.ensures.cause.exact;
+      reads = let r = c.prev_from.ensures.reads in subst (λ (v : Entries). g.S.NodeRead.reads c.prev_from.new.self ≤ g.S.NodeRead.reads c.args.seq.now + (length v + 1)) (sym c.new-out.ensures) (omega (arith, r));
       valid = c.in_ok-found.ensures.valid;
       walked = λ es t. ap (λ v. v ++ back_from_found found es) c.new-out.ensures ∙ back_found c.args.key.now found es (c.faults-faults.ensures.in_order es t) (c.in_ok-found.ensures.value es t);
     }
@@ -38,6 +42,7 @@ loop-found-preserved g c =
     record {
       same = law.unchanged_onward _ _ _ inv.same c.in_ok-found-2.ensures.unchanged;
       counted = c.in_ok-found-2.ensures.cause.exact ∙ inv.counted;
+      reads = more_read (g.S.NodeRead.reads c.args.seq.now) (g.S.NodeRead.reads c.loop-found.seq) (g.S.NodeRead.reads c.prev_from-in-Some.new.self) out entry _ c.in_ok-push.ensures.ok inv.reads c.prev_from-in-Some.ensures.reads;
       valid = λ unknown. c.in_ok-found-2.ensures.valid (law.unchanged_contents _ _ inv.same ∙ unknown);
       walked = λ es t.
           let so_far : out ++ back_from_found (Some entry) es ≡ reverse (entries_below c.args.key.now es) = subst (λ (o : Option (Key × Record)). out ++ back_from_found o es ≡ reverse (entries_below c.args.key.now es)) c.in-Some.is (inv.walked es t) in
