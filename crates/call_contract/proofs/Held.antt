@@ -1,5 +1,5 @@
 -- What a transaction holds, the join of its grants, bars what its grants clash with.
-use Rattle.std.proofs.Common.{◌≡◌, Bool, true, false, not, ◌&&◌, ◌||◌, List, [], ◌∷◌, is_eq, refl, sym, ap, ap₂, ◌∙◌, true≢false}
+use Rattle.std.proofs.Common.{◌≡◌, Bool, true, false, not, ◌&&◌, ◌||◌, List, [], ◌∷◌, is_eq, Option, None, Some, refl, sym, ap, ap₂, ◌∙◌, true≢false}
 use Rattle.lock_modes.specs.declared.ask.Ask.{Ask}
 use Rattle.lock_modes.specs.declared.ask.Ask.TheVariants as ask
 use Rattle.lock_resources.specs.declared.resource.Side.{Side}
@@ -13,11 +13,14 @@ use Rattle.lock_table.specs.Grants.{join_of, clashes_with}
 use Rattle.lock_table.proofs.Granted.{join_bars}
 use Rattle.lock_table.proofs.Listing.{same_itself}
 use Rattle.lock_table.proofs.Maps.{exact_resources}
+use Rattle.lock_table.proofs.Together.{compatible_turned}
+use Rattle.lock_resources.specs.Intentions.{request}
+use Rattle.tree_cells.specs.Covers.{some_of}
 use Rattle.tree_model.specs.ValidTrees.{same_label}
 use Rattle.tree_model.proofs.EntryLimits.{list_itself}
 use Rattle.tree_model.proofs.StoredCatalogues.{same_label_is}
 use Rattle.tree_cells.specs.Places.{same_side}
-use Rattle.tree_cells.specs.Clashes.{same_resource, are_compatible, bars}
+use Rattle.tree_cells.specs.Clashes.{same_resource, are_compatible, clash, bars, bar_each_other}
 use Rattle.tree_cells.proofs.Coverage.{both, and_both}
 
 -- ---- one resource, by its parts and by the order
@@ -72,3 +75,43 @@ clashes_bar (g ∷ gs) q = ap₂ (λ (a b : Bool). a || b) (ap₂ (λ (a b : Boo
 
 pub held_bars : (gs : List Request) (q : Request) → bars gs q ≡ asks.is_barred_by q.ask (join_of gs q.resource)
 held_bars gs q = sym (clashes_bar gs q) ∙ sym (join_bars q gs)
+
+-- ---- what two owners hold
+
+-- one of the requests that passes a test, and what else passes for it
+found : (p : Request → Bool) (gs : List Request) → some_of (λ r a. p (request r a)) gs ≡ true
+    → (q : Request) × (p q ≡ true) × ((x : Request → Bool) → x q ≡ true → some_of (λ r a. x (request r a)) gs ≡ true)
+found p [] e = absurd (true≢false (sym e))
+found p (g ∷ gs) e = go (p g) refl e (found p gs)
+  where
+    or_true : (b : Bool) → (b || true) ≡ true
+    or_true true = refl
+    or_true false = refl
+
+    go : (b : Bool) → p g ≡ b → (b || some_of (λ r a. p (request r a)) gs) ≡ true
+        → (some_of (λ r a. p (request r a)) gs ≡ true → (q : Request) × (p q ≡ true) × ((x : Request → Bool) → x q ≡ true → some_of (λ r a. x (request r a)) gs ≡ true))
+        → (q : Request) × (p q ≡ true) × ((x : Request → Bool) → x q ≡ true → (x g || some_of (λ r a. x (request r a)) gs) ≡ true)
+    go true here e behind = (g, here, λ x is. ap (λ (b : Bool). b || some_of (λ r a. x (request r a)) gs) is)
+    go false here e behind =
+        let rest = behind e in
+        (rest.0, rest.1, λ x is. ap (λ (b : Bool). x g || b) (rest.2 x is) ∙ or_true (x g))
+
+-- where requests of two owners bar each other, what they hold doesn't go together at some resource
+pub held_apart : (gs hs : List Request) → bar_each_other gs hs ≡ true → (r : Resource) × (asks.is_barred (join_of hs r) (join_of gs r) ≡ true)
+held_apart gs hs e = (r, by (join_of hs r) (sym (held_bars hs q) ∙ some.1))
+  where
+    some : (q : Request) × (bars hs q ≡ true) × ((x : Request → Bool) → x q ≡ true → some_of (λ r a. x (request r a)) gs ≡ true)
+    some = found (bars hs) gs e
+
+    q : Request
+    q = some.0
+
+    r : Resource
+    r = q.resource
+
+    turned : (h : Ask) → not (asks.are_compatible q.ask h) ≡ true → not (are_compatible h q.ask) ≡ true
+    turned h is = ap not (sym (same_modes h q.ask) ∙ compatible_turned h q.ask) ∙ is
+
+    by : (o : Option Ask) → asks.is_barred_by q.ask o ≡ true → asks.is_barred o (join_of gs r) ≡ true
+    by None is = absurd (true≢false (sym is))
+    by (Some h) is = sym (held_bars gs (request r h)) ∙ some.2 (clash (request r h)) (and_both (same_resource r r) (not (are_compatible h q.ask)) (resource_itself r) (turned h is))

@@ -1,7 +1,8 @@
 -- Books: events with their answers. What a run of the machine is, and which transactions a book committed (docs/PROFILE.md, "The lock machine").
-use Rattle.std.specs.Prelude.{◌≡◌, ℕ, ◌<◌, List, [], ◌∷◌, ◌++◌, Option, Some, None}
+use Rattle.std.specs.Prelude.{◌≡◌, ℕ, ◌≤◌, List, [], ◌∷◌, ◌++◌, Option, Some, None}
 use Rattle.std.specs.List.{AllByRecursion}
 use Rattle.lock_resources.specs.Intentions.{request}
+use Rattle.outside_traits.specs.Faults.{FaultCounted}
 use Rattle.tree_model.specs.Tree.{Tree}
 use Rattle.tree_model.specs.ValidTrees.{IsValidTree}
 use Rattle.call_contract.specs.declared.events.Event.{Event}
@@ -54,18 +55,18 @@ abbrev pub fault_in : {C : Type 0} → Event C → Option ℕ
 fault_in (Fail c k f) = f
 fault_in e = None
 
--- a further count lies above the last one, if there was one
+-- a further count shows that a fault was counted since the last one, if there was one
 abbrev pub IsAbove : Option ℕ → Option ℕ → Type 0
 IsAbove before None = Unit {0}
 IsAbove None (Some f) = Unit {0}
-IsAbove (Some before) (Some f) = before < f
+IsAbove (Some before) (Some f) = FaultCounted before f
 
 -- the last count of two
 abbrev pub latest : Option ℕ → Option ℕ → Option ℕ
 latest before None = before
 latest before (Some f) = Some f
 
--- the counts rise strictly from one event with a count to the next, all above the last one before, if there was one
+-- a fault was counted from each event with a count to the next, and from the last one before, if there was one
 abbrev pub FaultsRise : {C : Type 0} → Option ℕ → Book C → Type 0
 FaultsRise before [] = Unit {0}
 FaultsRise before (n ∷ ns) = IsAbove before (fault_in n.event) × FaultsRise (latest before (fault_in n.event)) ns
@@ -74,6 +75,11 @@ FaultsRise before (n ∷ ns) = IsAbove before (fault_in n.event) × FaultsRise (
 abbrev pub last_fault : {C : Type 0} → Option ℕ → Book C → Option ℕ
 last_fault before [] = before
 last_fault before (n ∷ ns) = last_fault (latest before (fault_in n.event)) ns
+
+-- the last count that was told, if one was, is no more than this
+abbrev pub IsAtMost : Option ℕ → ℕ → Type 0
+IsAtMost None now = Unit {0}
+IsAtMost (Some f) now = f ≤ now
 
 -- ---- legal books
 

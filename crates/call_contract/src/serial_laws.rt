@@ -1,14 +1,18 @@
 //! Why the lock machine's runs are serial: laws of the definitions, for every type of calls that keeps the four laws.
 
-ghost use Rattle.std.specs.Prelude.{◌≡◌, ◌↔◌, ◌+◌, ◌++◌, ◌∷◌, [], ℕ, List, map, Option};
+ghost use Rattle.std.specs.Prelude.{◌≡◌, ◌↔◌, ◌+◌, ◌++◌, ◌∷◌, [], ℕ, List, map, true, Option};
 ghost use Rattle.std.specs.List.{AllByRecursion};
 ghost use Rattle.lock_resources.specs.declared.request.Request.{Request};
+ghost use Rattle.lock_resources.specs.declared.resource.Resource.{Resource};
 ghost use Rattle.tree_model.specs.Changes.{laid};
 ghost use Rattle.tree_model.specs.Tree.{Tree};
 ghost use Rattle.tree_model.specs.ValidTrees.{IsValidTree};
-ghost use Rattle.lock_table.specs.Asks.{is_barred_by};
+ghost use Rattle.lock_table.specs.Asks.{is_barred, is_barred_by};
 ghost use Rattle.lock_table.specs.Grants.{join_of};
+ghost use Rattle.tree_cells.specs.Cells.{Cell};
 ghost use Rattle.tree_cells.specs.Clashes.{bars};
+ghost use Rattle.tree_cells.specs.Covers.{reads, writes};
+ghost use Rattle.tree_cells.specs.Forms.{HasForm};
 ghost use Rattle.wait_cycles.specs.Walks.{Rises};
 ghost use Rattle.call_contract.specs.declared.events.Event.TheVariants.{Abort};
 ghost use Rattle.call_contract.specs.declared.events.EventAnswer.{EventAnswer};
@@ -37,6 +41,12 @@ pub fn same_requests<C: TreeCall>()
 #[tactic(auto, using(crate::proofs::Held::held_bars))]
 pub fn holding_is_the_join_of_grants()
     ensures { (grants : List Request) (q : Request) → bars grants q ≡ is_barred_by q.ask (join_of grants q.resource) }
+{}
+
+/// Where one owner covers a cell for reading and another one covers it for writing, both having asked in the form, the modes that they hold don't go together at some resource.
+pub fn shared_cells_are_barred()
+    ensures { (gs hs : List Request) (x : Cell) → HasForm gs → HasForm hs → reads gs x ≡ true → writes hs x ≡ true
+        → (r : Resource) × (is_barred (join_of hs r) (join_of gs r) ≡ true) }
 {}
 
 /// Every legal book is serial: its commits, made one after another by one thread on the opening's tree, give the replies that the book gave, and the committed tree.

@@ -34,7 +34,8 @@ use Rattle.tx_core.specs.declared.asking.Got.TheVariants.{All, Barred, NoMemory}
 use Rattle.tx_core.specs.declared.asking.Outcome.{Outcome}
 use Rattle.tx_core.specs.declared.asking.Wanted.{Wanted}
 use Rattle.tx_core.specs.inside.Asking.{AreGranted, IsGot, granted_in}
-use Rattle.tx_core.specs.inside.Standing.{Stands, seat_in, grants_of}
+use Rattle.tx_core.specs.Holding.{grants_of}
+use Rattle.tx_core.specs.inside.Standing.{Stands, seat_in}
 use Rattle.tx_core.specs.inside.Goes.{IsMade}
 use Rattle.tx_core.specs.inside.Retrying.{call_of, call_at, call_in, waiting_call, first_at, granted_front, AreAsked}
 use Rattle.tx_core.proofs.Holding.{table_kept}

@@ -1,7 +1,10 @@
 -- A whole attempt: the machine's step, and the state after it.
-use Rattle.std.proofs.Common.{◌≡◌, ℕ, zero, suc, Bool, true, ◌&&◌, ◌||◌, List, [], ◌∷◌, ◌++◌, take, length, get_or, ◌<◌, Option, Some, None, nat_lt, nat_le, is_some, refl, sym, ap, ap₂, subst, ◌∙◌, inl, inr, arith, if◌then◌else◌}
+use Rattle.std.proofs.Common.{◌≡◌, ℕ, zero, suc, Bool, true, false, ◌&&◌, ◌||◌, List, [], ◌∷◌, ◌++◌, take, length, get_or, ◌<◌, Option, Some, None, nat_lt, nat_le, is_some, refl, sym, ap, ap₂, subst, ◌∙◌, inl, inr, arith, append-nil, if◌then◌else◌}
 use Rattle.std.proofs.lemmas.Bool.Decides.{nat_tests}
 use Rattle.std.proofs.lemmas.List.{get_or_default}
+use Rattle.std.proofs.lemmas.Option.{same_Some}
+use Rattle.std.specs.Ordering.{nat_cmp}
+use Rattle.std.specs.BTreeMap.{get}
 use Rattle.tree_model.specs.Entries.{Entries}
 use Rattle.tree_model.specs.declared.reply.Reply.{Reply}
 use Rattle.lock_resources.specs.declared.request.Request.{Request}
@@ -10,7 +13,6 @@ use Rattle.call_contract.specs.States.{Waiting, Live, State, view, of_session, p
 use Rattle.call_contract.specs.Attempts as machine
 use Rattle.call_contract.specs.Waits.{cycle_through}
 use Rattle.call_contract.specs.Steps as steps
-use Rattle.call_contract.specs.Books.{latest}
 use Rattle.call_contract.specs.declared.events.Answer.{Answer}
 use Rattle.call_contract.specs.declared.events.Answer.TheVariants as answer
 use Rattle.call_contract.specs.declared.events.Event.TheVariants as event
@@ -20,10 +22,16 @@ use Rattle.tx_core.specs.declared.parts.Parts.{Parts}
 use Rattle.tx_core.specs.declared.asking.Got.{Got}
 use Rattle.tx_core.specs.declared.asking.Got.TheVariants.{All, Barred, NoMemory}
 use Rattle.tx_core.specs.inside.Asking.{granted_in, IsInside}
-use Rattle.tx_core.specs.inside.Standing.{Stands}
-use Rattle.tx_core.specs.inside.Goes.{Goes, with_grants, Reaches, IsFreeUpTo, IsAsked, IsAnswered, IsStopped, IsFailed, IsFreeFront, IsGivenUp, IsLeft, IsSettled, IsUnanswered, Stays, with_answer, with_wait, unqueued, call_entry, fail_entry}
+use Rattle.tx_core.specs.declared.errors.CallError.{CallError}
+use Rattle.tx_core.specs.declared.errors.CallError.TheVariants as call_error
+use Rattle.tx_core.specs.declared.parts.Seat.{Seat}
+use Rattle.tx_core.specs.inside.Sessions.{wait_in, wait_of}
+use Rattle.tx_core.specs.inside.Standing.{Stands, IsSeat, seat_in}
+use Rattle.tx_core.specs.inside.Goes.{Goes, with_grants, Reaches, IsFreeUpTo, IsAsked, IsAnswered, IsStopped, IsFailed, IsFreeFront, IsLeft, IsSettled, IsUnanswered, Stays, with_answer, with_wait, unqueued, call_entry, fail_entry}
 use Rattle.tx_core.proofs.Moves.{goes_by}
+use Rattle.tx_core.proofs.Booked.{put_same}
 use Rattle.tx_core.proofs.Reached.{front_in}
+use Rattle.tx_core.proofs.Waited.{stays_on}
 
 pub there_is : {A : Type 0} (xs : List A) (k : ℕ) → k < length xs → (x : A) × (x ≡ get_or xs k x)
 there_is [] k lt = absurd_of (omega (arith, lt))
@@ -35,6 +43,9 @@ there_is (x ∷ xs) (suc k) lt = there_is xs k (omega (arith, lt))
 
 pub same_at : {A : Type 0} (xs : List A) (k : ℕ) (x y : A) → k < length xs → x ≡ get_or xs k x → y ≡ get_or xs k y → x ≡ y
 same_at xs k x y lt e f = e ∙ get_or_default xs k x y lt ∙ sym f
+
+least : (n : ℕ) → nat_le 0 n ≡ true
+least n = grind (arith, nat_tests)
 
 module _ {C : Type 0} where
   pub put_twice : (t u : Live C) (ts : List (Live C)) → u.session ≡ t.session → put t (put u ts) ≡ put t ts
@@ -67,10 +78,10 @@ module _ {C B : Type 0} (is_valid : C → Type 0) (m : CallMeaning C) (told : B 
       → ((st : State C) → Stands is_valid m told p st → IsAsked m st s c asks)
       → ((st : State C) → Stands is_valid m told p st → Stands is_valid m told p1 st)
       → ((st : State C) (t : Live C) → Stands is_valid m told p1 st → of_session s st.live ≡ Some t → Reaches is_valid m told st t asks p2 All)
-      → p2.book.items ≡ p.book.items → p2.faults ≡ p.faults
+      → p2.book.items ≡ p.book.items
       → IsAnswered is_valid m told p2 s c a q → Goes is_valid m told p (call_entry s c a) q
-  answered_goes p p1 p2 q s c asks a valid asked stays reach same faults is =
-      goes_by is_valid m told p (call_entry s c a) q (is.book ∙ ap (λ xs. xs ++ call_entry s c a ∷ []) same) valid tt (is.faults ∙ faults) is.prepared moves
+  answered_goes p p1 p2 q s c asks a valid asked stays reach same is =
+      goes_by is_valid m told p (call_entry s c a) q (is.book ∙ ap (λ xs. xs ++ call_entry s c a ∷ []) same) valid is.prepared moves
     where
       moves : (st : State C) → Stands is_valid m told p st → (o : steps.Outcome C) × (steps.step m st s (event.Call c) ≡ Some o) × (said.Call a ≡ o.answer) × Stands is_valid m told q o.state
       moves st stands =
@@ -98,10 +109,10 @@ module _ {C B : Type 0} (is_valid : C → Type 0) (m : CallMeaning C) (told : B 
       → ((st : State C) → Stands is_valid m told p st → IsAsked m st s c asks)
       → ((st : State C) → Stands is_valid m told p st → Stands is_valid m told p1 st)
       → ((st : State C) (t : Live C) → Stands is_valid m told p1 st → of_session s st.live ≡ Some t → IsFreeUpTo is_valid m told st t asks k g hs × Stands is_valid m told p2 (with_grants st t (take k asks)))
-      → p2.book.items ≡ p.book.items → p2.faults ≡ p.faults
+      → p2.book.items ≡ p.book.items
       → IsStopped is_valid m told p2 s c g hs a q → Goes is_valid m told p (call_entry s c a) q
-  stopped_goes p p1 p2 q s c asks k g hs a valid asked stays reach same faults (inl is) =
-      goes_by is_valid m told p (call_entry s c a) q (is.book ∙ ap (λ xs. xs ++ call_entry s c a ∷ []) same) valid tt (is.faults ∙ faults) is.prepared moves
+  stopped_goes p p1 p2 q s c asks k g hs a valid asked stays reach same (inl is) =
+      goes_by is_valid m told p (call_entry s c a) q (is.book ∙ ap (λ xs. xs ++ call_entry s c a ∷ []) same) valid is.prepared moves
     where
       moves : (st : State C) → Stands is_valid m told p st → (o : steps.Outcome C) × (steps.step m st s (event.Call c) ≡ Some o) × (said.Call a ≡ o.answer) × Stands is_valid m told q o.state
       moves st stands =
@@ -126,8 +137,8 @@ module _ {C B : Type 0} (is_valid : C → Type 0) (m : CallMeaning C) (told : B 
             ap said.Call (is.is ∙ ap (answer.Waits g.resource g.ask) (sym got.0.holders)),
             subst (λ (x : State C). Stands is_valid m told q x) final (is.state st1 t1 got.1 found1),
           )
-  stopped_goes p p1 p2 q s c asks k g hs a valid asked stays reach same faults (inr is) =
-      goes_by is_valid m told p (call_entry s c a) q (is.book ∙ ap (λ xs. xs ++ call_entry s c a ∷ []) same) valid tt (is.faults ∙ faults) is.prepared moves
+  stopped_goes p p1 p2 q s c asks k g hs a valid asked stays reach same (inr is) =
+      goes_by is_valid m told p (call_entry s c a) q (is.book ∙ ap (λ xs. xs ++ call_entry s c a ∷ []) same) valid is.prepared moves
     where
       moves : (st : State C) → Stands is_valid m told p st → (o : steps.Outcome C) × (steps.step m st s (event.Call c) ≡ Some o) × (said.Call a ≡ o.answer) × Stands is_valid m told q o.state
       moves st stands =
@@ -159,11 +170,10 @@ module _ {C B : Type 0} (is_valid : C → Type 0) (m : CallMeaning C) (told : B 
       → ((st : State C) → Stands is_valid m told p st → IsAsked m st s c asks)
       → ((st : State C) → Stands is_valid m told p st → Stands is_valid m told p1 st)
       → ((st : State C) (t : Live C) → Stands is_valid m told p1 st → of_session s st.live ≡ Some t → IsFreeFront is_valid m told st t asks k × Stands is_valid m told p2 (with_grants st t (take k asks)))
-      → p2.book.items ≡ p.book.items → p2.faults ≡ p.faults
+      → p2.book.items ≡ p.book.items
       → IsFailed is_valid m told p2 s c k f q → Goes is_valid m told p (fail_entry s c k f) q
-  failed_goes p p1 p2 q s c asks k f valid asked stays reach same faults is =
-      goes_by is_valid m told p (fail_entry s c k f) q (is.book ∙ ap (λ xs. xs ++ fail_entry s c k f ∷ []) same) valid
-      (subst (λ (b : Option ℕ). Rattle.call_contract.specs.Books.IsAbove b f) faults is.above) (is.faults ∙ ap (λ (b : Option ℕ). latest b f) faults) is.prepared moves
+  failed_goes p p1 p2 q s c asks k f valid asked stays reach same is =
+      goes_by is_valid m told p (fail_entry s c k f) q (is.book ∙ ap (λ xs. xs ++ fail_entry s c k f ∷ []) same) valid is.prepared moves
     where
       moves : (st : State C) → Stands is_valid m told p st → (o : steps.Outcome C) × (steps.step m st s (event.Fail (Some c) k f) ≡ Some o) × (said.Nothing ≡ o.answer) × Stands is_valid m told q o.state
       moves st stands =
@@ -186,44 +196,89 @@ module _ {C B : Type 0} (is_valid : C → Type 0) (m : CallMeaning C) (told : B 
             subst (λ (x : State C). Stands is_valid m told q x) final (is.state (with_grants st t (take k asks)) got.1),
           )
 
-  pub left_after : (p p1 q : Parts C B) (s : ℕ) (c : C) (k : ℕ) → Stays is_valid m told p p1 → IsGivenUp is_valid m told p1 s c k q → IsLeft is_valid m told p s c k q
-  left_after p p1 q s c k stays (inl (none, same)) = inl (none, subst (λ x. Stays is_valid m told p x) (sym same) stays)
-  left_after p p1 q s c k stays (inr (f, is)) =
-      inr (
-        f,
-        record {
-          book = is.book ∙ ap (λ xs. xs ++ fail_entry s c k f ∷ []) stays.book;
-          above = subst (λ (b : Option ℕ). Rattle.call_contract.specs.Books.IsAbove b f) stays.faults is.above;
-          faults = is.faults ∙ ap (λ (b : Option ℕ). latest b f) stays.faults;
-          prepared = is.prepared;
-          some = is.some;
-          state = λ st stands. is.state st (stays.state st stands);
-        },
-      )
+  -- a session whose transaction waits for nothing
+  rests : (p : Parts C B) (st : State C) (s : ℕ) → Stands is_valid m told p st → wait_in (get nat_cmp p.places s) ≡ Some None → (t : Live C) × (of_session s st.live ≡ Some t) × (t.waits ≡ None)
+  rests p st s stands free = go (seat_in (get nat_cmp p.places s)) (of_session s st.live) (stands.seats s) free
+    where
+      none_of : (w : Option (Waiting C)) → is_some w ≡ false → w ≡ None
+      none_of None e = refl
+      none_of (Some w) e = cc
+
+      go : (x : Option Seat) (o : Option (Live C)) → IsSeat is_valid m st.tree x o → wait_of x ≡ Some None → (t : Live C) × (o ≡ Some t) × (t.waits ≡ None)
+      go None o is none = cc
+      go (Some seat) None is none = absurd is
+      go (Some seat) (Some t) is none = (t, refl, none_of t.waits (sym is.waits ∙ ap is_some (same_Some seat.waiting None none)))
+
+  -- one that failed before anything was asked
+  pub failed_at_once : (p q : Parts C B) (s : ℕ) (c : C) (f : Option ℕ) → is_valid c → wait_in (get nat_cmp p.places s) ≡ Some None → IsFailed is_valid m told p s c 0 f q → Goes is_valid m told p (fail_entry s c 0 f) q
+  failed_at_once p q s c f valid free is = goes_by is_valid m told p (fail_entry s c 0 f) q is.book valid is.prepared moves
+    where
+      moves : (st : State C) → Stands is_valid m told p st → (o : steps.Outcome C) × (steps.step m st s (event.Fail (Some c) 0 f) ≡ Some o) × (said.Nothing ≡ o.answer) × Stands is_valid m told q o.state
+      moves st stands =
+          let live = rests p st s stands free in
+          let t = live.0 in
+          let named = found_named s st.live t live.1 in
+          let test : ((is_some f || nat_lt 0 0) && nat_le 0 (length (machine.granted m st t c))) ≡ true = ap₂ (λ (x y : Bool). x && y) is.some (least (length (machine.granted m st t c))) in
+          let final : unqueued st s ≡ (steps.failed m st t c 0).state =
+          ap₂ (λ (l : List (Live C)) (w : List ℕ). record st { live = l; waiting = w })
+          (sym (put_same t st.live stands.rise (subst (λ x. of_session x st.live ≡ Some t) (sym named) live.1)) ∙ ap₂ (λ (gs : List Request) (w : Option (Waiting C)). put (record t { grants = gs; waits = w }) st.live) (sym (append-nil t.grants)) live.2)
+          (ap (λ x. without x st.waiting) (sym named)) in (
+            steps.failed m st t c 0,
+            ap (λ (o : Option (Live C)). steps.step_of m st s o (event.Fail (Some c) 0 f)) live.1
+                ∙ ap (λ (w : Option (Waiting C)). steps.given_up m st t (Some c) w 0 f) live.2
+                ∙ ap (λ (b : Bool). if b then Some (steps.failed m st t c 0) else None) test,
+            refl,
+            subst (λ (x : State C). Stands is_valid m told q x) final (is.state st stands),
+          )
+
+  -- what was only read before
+  pub failed_on : (p p1 q : Parts C B) (s : ℕ) (c : C) (k : ℕ) (f : Option ℕ) → Stays is_valid m told p p1 → IsFailed is_valid m told p1 s c k f q → IsFailed is_valid m told p s c k f q
+  failed_on p p1 q s c k f stays is = record {
+    book = is.book ∙ ap (λ xs. xs ++ fail_entry s c k f ∷ []) stays.book;
+    prepared = is.prepared;
+    some = is.some;
+    state = λ st stands. is.state st (stays.state st stands);
+  }
+
+  pub left_after : (count : B → ℕ) (p p1 q : Parts C B) (s : ℕ) (c : C) (k : ℕ) (e : CallError) → Stays is_valid m told p p1 → IsLeft is_valid m told count p1 s c k e q → IsLeft is_valid m told count p s c k e q
+  left_after count p p1 q s c k (call_error.Session why) stays is = is
+  left_after count p p1 q s c k call_error.NoMemory stays (inl (none, on)) = inl (none, stays_on is_valid m told p p1 q stays on)
+  left_after count p p1 q s c k call_error.NoMemory stays (inr (some, is)) = inr (some, failed_on p p1 q s c k None stays is)
+  left_after count p p1 q s c k call_error.DiskFault stays is = failed_on p p1 q s c k (Some (count q.base)) stays is
+
+  -- what is left where nothing was asked
+  pub left_at_once : (count : B → ℕ) (p q : Parts C B) (s : ℕ) (c : C) (e : CallError) → is_valid c → wait_in (get nat_cmp p.places s) ≡ Some None → IsLeft is_valid m told count p s c 0 e q → IsUnanswered is_valid m told count p s c e q
+  left_at_once count p q s c (call_error.Session why) valid free is = absurd is
+  left_at_once count p q s c call_error.NoMemory valid free (inl (none, stays)) = inl stays
+  left_at_once count p q s c call_error.NoMemory valid free (inr (some, is)) = absurd (omega (arith, some))
+  left_at_once count p q s c call_error.DiskFault valid free is = (0, failed_at_once p q s c (Some (count q.base)) valid free is)
 
   pub settled_goes : (p p1 p2 q : Parts C B) (s : ℕ) (c : C) (asks : List Request) (got : Got) (a : Answer) → is_valid c
       → ((st : State C) → Stands is_valid m told p st → IsAsked m st s c asks)
       → ((st : State C) → Stands is_valid m told p st → Stands is_valid m told p1 st)
       → ((st : State C) (t : Live C) → Stands is_valid m told p1 st → of_session s st.live ≡ Some t → Reaches is_valid m told st t asks p2 got)
-      → IsInside asks got → p2.book.items ≡ p.book.items → p2.faults ≡ p.faults
+      → IsInside asks got → p2.book.items ≡ p.book.items
       → IsSettled is_valid m told p2 s c asks got a q → Goes is_valid m told p (call_entry s c a) q
-  settled_goes p p1 p2 q s c asks All a valid asked stays reach inside same faults is = answered_goes p p1 p2 q s c asks a valid asked stays reach same faults is
-  settled_goes p p1 p2 q s c asks (Barred k hs) a valid asked stays reach inside same faults is =
+  settled_goes p p1 p2 q s c asks All a valid asked stays reach inside same is = answered_goes p p1 p2 q s c asks a valid asked stays reach same is
+  settled_goes p p1 p2 q s c asks (Barred k hs) a valid asked stays reach inside same is =
       let g = there_is asks k inside in
       let reached : (st : State C) (t : Live C) → Stands is_valid m told p1 st → of_session s st.live ≡ Some t → IsFreeUpTo is_valid m told st t asks k g.0 hs × Stands is_valid m told p2 (with_grants st t (take k asks)) =
       λ st t stands found.
       let got = reach st t stands found in
       (subst (λ x. IsFreeUpTo is_valid m told st t asks k x hs) (same_at asks k got.0 g.0 inside got.1.here g.1) got.1, got.2) in
-      stopped_goes p p1 p2 q s c asks k g.0 hs a valid asked stays reached same faults (is g.0 g.1)
-  settled_goes p p1 p2 q s c asks (NoMemory k) a valid asked stays reach inside same faults is = absurd is
+      stopped_goes p p1 p2 q s c asks k g.0 hs a valid asked stays reached same (is g.0 g.1)
+  settled_goes p p1 p2 q s c asks (NoMemory k) a valid asked stays reach inside same is = absurd is
 
-  pub left_goes : (p p1 p2 q : Parts C B) (s : ℕ) (c : C) (asks : List Request) (got : Got) → is_valid c
+  pub left_goes : (count : B → ℕ) (p p1 p2 q : Parts C B) (s : ℕ) (c : C) (asks : List Request) (got : Got) (e : CallError) → is_valid c
       → ((st : State C) → Stands is_valid m told p st → IsAsked m st s c asks)
       → ((st : State C) → Stands is_valid m told p st → Stands is_valid m told p1 st)
       → ((st : State C) (t : Live C) → Stands is_valid m told p1 st → of_session s st.live ≡ Some t → Reaches is_valid m told st t asks p2 got)
-      → (granted_in asks got ≡ 0 → (st : State C) → Stands is_valid m told p1 st → Stands is_valid m told p2 st) → p2.book.items ≡ p.book.items → p2.faults ≡ p.faults → p2.prepared ≡ p.prepared
-      → IsLeft is_valid m told p2 s c (granted_in asks got) q → IsUnanswered is_valid m told p s c q
-  left_goes p p1 p2 q s c asks got valid asked stays reach untouched same faults prepared (inl (none, is)) =
-      inl (record { book = is.book ∙ same; faults = is.faults ∙ faults; prepared = is.prepared ∙ prepared; state = λ st stands. is.state st (untouched none st (stays st stands)) })
-  left_goes p p1 p2 q s c asks got valid asked stays reach untouched same faults prepared (inr (f, is)) =
-      inr (granted_in asks got, f, failed_goes p p1 p2 q s c asks (granted_in asks got) f valid asked stays (λ st t stands found. front_in is_valid m told st t asks p2 got (reach st t stands found)) same faults is)
+      → (granted_in asks got ≡ 0 → (st : State C) → Stands is_valid m told p1 st → Stands is_valid m told p2 st) → p2.book.items ≡ p.book.items → p2.prepared ≡ p.prepared
+      → IsLeft is_valid m told count p2 s c (granted_in asks got) e q → IsUnanswered is_valid m told count p s c e q
+  left_goes count p p1 p2 q s c asks got (call_error.Session why) valid asked stays reach untouched same prepared is = absurd is
+  left_goes count p p1 p2 q s c asks got call_error.NoMemory valid asked stays reach untouched same prepared (inl (none, is)) =
+      inl (record { book = is.book ∙ same; prepared = is.prepared ∙ prepared; state = λ st stands. is.state st (untouched none st (stays st stands)) })
+  left_goes count p p1 p2 q s c asks got call_error.NoMemory valid asked stays reach untouched same prepared (inr (some, is)) =
+      inr (granted_in asks got, some, failed_goes p p1 p2 q s c asks (granted_in asks got) None valid asked stays (λ st t stands found. front_in is_valid m told st t asks p2 got (reach st t stands found)) same is)
+  left_goes count p p1 p2 q s c asks got call_error.DiskFault valid asked stays reach untouched same prepared is =
+      (granted_in asks got, failed_goes p p1 p2 q s c asks (granted_in asks got) (Some (count q.base)) valid asked stays (λ st t stands found. front_in is_valid m told st t asks p2 got (reach st t stands found)) same is)

@@ -1,6 +1,7 @@
 -- How an entry moves what a book tells of its sessions.
-use Rattle.std.proofs.Common.{◌≡◌, ◌≤◌, ℕ, ◌+◌, Bool, true, false, cond, ◌&&◌, zero, suc, List, [], ◌∷◌, ◌++◌, length, filter, Option, Some, None, ◌==◌, nat_lt, slice_get, refl, ap, ◌∙◌, arith, if◌then◌else◌}
+use Rattle.std.proofs.Common.{◌≡◌, ◌≤◌, ℕ, ◌+◌, Bool, true, false, cond, ◌&&◌, zero, suc, List, [], ◌∷◌, ◌++◌, length, filter, Option, Some, None, ◌==◌, nat_lt, slice_get, refl, sym, ap, ◌∙◌, arith, if◌then◌else◌}
 use Rattle.std.proofs.lemmas.Bool.Decides.{nat_tests}
+use Rattle.std.proofs.lemmas.Option.{same_Some}
 use Rattle.std.specs.List.{AllByRecursion, list_any}
 use Rattle.wait_cycles.specs.Walks.{Rises}
 use Rattle.call_contract.specs.Books.{Book, open_after, open_of, called, called_again}
@@ -146,6 +147,23 @@ module _ {C : Type 0} where
           apart : of_session t.session vs ≡ None → of_session t.session vs ≡ Some u → ⊥
           apart x y = cc
       go false at false less e h = grind (arith, h e)
+
+  -- a transaction is put in its own place
+  pub put_same : (t : Live C) (ts : List (Live C)) → Rises (sessions ts) → of_session t.session ts ≡ Some t → put t ts ≡ ts
+  put_same t [] rise e = cc
+  put_same t (v ∷ vs) rise e = go (v.session == t.session) refl (nat_lt t.session v.session) refl e (put_same t vs rise.1)
+    where
+      go : (a : Bool) → (v.session == t.session) ≡ a → (b : Bool) → nat_lt t.session v.session ≡ b → (if a then Some v else of_session t.session vs) ≡ Some t
+          → (of_session t.session vs ≡ Some t → put t vs ≡ vs) → (if a then t ∷ vs else if b then t ∷ v ∷ vs else v ∷ put t vs) ≡ v ∷ vs
+      go true at b less e h = ap (λ (x : Live C). x ∷ vs) (sym (same_Some v t e))
+      go false at true less e h = absurd (apart (not_above v.session t.session vs rise.0 (behind less)) e)
+        where
+          behind : nat_lt t.session v.session ≡ true → nat_lt v.session t.session ≡ false
+          behind less = grind (arith, nat_tests, less)
+
+          apart : of_session t.session vs ≡ None → of_session t.session vs ≡ Some t → ⊥
+          apart x y = cc
+      go false at false less e h = ap (λ (xs : List (Live C)). v ∷ xs) (h e)
 
   pub length_others : (s : ℕ) (ts : List (Live C)) (u : Live C) → Rises (sessions ts) → of_session s ts ≡ Some u → length (others s ts) + 1 ≡ length ts
   length_others s [] u rise e = cc

@@ -8,7 +8,7 @@ use Rattle.tree_model.specs.Tree.{Tree, map_of}
 use Rattle.node_seq.specs.Trees.{StandsFor}
 use Rattle.call_contract.specs.Calls.{CallMeaning, CallLaws}
 use Rattle.call_contract.specs.States.{State, start}
-use Rattle.call_contract.specs.Books.{last, IsRun, FaultsRise, last_fault, HasValidCalls}
+use Rattle.call_contract.specs.Books.{last, IsRun, HasValidCalls}
 use Rattle.call_contract.proofs.BookLaws.{reached_commits}
 use Rattle.tx_core.specs.Commits.{IsPrepared, ReplaysOthers}
 use Rattle.tx_core.specs.Cores.{CoreView, next_number}
@@ -18,6 +18,7 @@ use Rattle.tx_core.specs.inside.Committing.{IsCommit, IsReady, KeepsPrepared}
 use Rattle.tx_core.specs.inside.Kept.{IsCore}
 use Rattle.tx_core.specs.inside.Standing.{Stands, seat_in}
 use Rattle.tx_core.specs.inside.Sessions.{IsSeated}
+use Rattle.tx_core.proofs.Counted.{counts_stay}
 use Rattle.tx_core.proofs.Kept.{core_reached}
 
 -- what is prepared of this number is the next commit
@@ -49,13 +50,12 @@ module _ {C B : Type 0} (is_valid : C → Type 0) (m : CallMeaning C) (told : B 
   pub core_rebased : (count : B → ℕ) (opening : B) (number limit : ℕ) (p q : Parts C B) (base : B) → q ≡ record p { base = base; layers = q.layers }
       → ((st : State C) → Stands is_valid m told p st → told base ≡ Some (map_of st.tree) → Stands is_valid m told q st)
       → ((t : Tree) → StandsFor (told opening) t → told base ≡ Some (map_of (last m (start t number limit) p.book.items).tree))
-      → IsSeated q → IsCore is_valid m told count opening number limit p → IsCore is_valid m told count opening number limit q
-  core_rebased count opening number limit p q base is state committed rebased core =
+      → IsSeated q → count p.base ≤ count q.base → IsCore is_valid m told count opening number limit p → IsCore is_valid m told count opening number limit q
+  core_rebased count opening number limit p q base is state committed rebased later core =
       let book : q.book ≡ p.book = ap (λ (x : Parts C B). x.book) is in
       record {
         valid = subst (λ b. HasValidCalls is_valid b.items) (sym book) core.valid;
-        rise = subst (λ b. FaultsRise (Some (count opening)) b.items) (sym book) core.rise;
-        last = ap (λ (x : Parts C B). x.faults) is ∙ core.last ∙ sym (ap (λ b. last_fault (Some (count opening)) b.items) book);
+        faults = counts_stay count opening p q (ap (λ b. b.items) book) later core.faults;
         seated = rebased;
         opened = ap (λ (x : Parts C B). x.opened) is ∙ core.opened;
         limited = ap (λ (x : Parts C B). x.limit) is ∙ core.limited;

@@ -23,7 +23,8 @@ use Rattle.call_contract.proofs.Lists.{found_named, found_others, found_ended}
 use Rattle.call_contract.proofs.Rising.{rises_others}
 use Rattle.tx_core.specs.declared.parts.Parts.{Parts}
 use Rattle.tx_core.specs.declared.parts.Seat.{Seat}
-use Rattle.tx_core.specs.inside.Standing.{seat_in, ordinal_in, Stands, IsSeat, IsSeatOf, grants_of, request_of}
+use Rattle.tx_core.specs.Holding.{grants_of, request_of}
+use Rattle.tx_core.specs.inside.Standing.{seat_in, ordinal_in, Stands, IsSeat, IsSeatOf}
 use Rattle.tx_core.specs.inside.Committing.{GoesOn}
 use Rattle.tx_core.proofs.Holding.{table_same}
 use Rattle.tx_core.proofs.Moves.{is_live}
@@ -119,13 +120,11 @@ module _ {C B : Type 0} (is_valid : C → Type 0) (m : CallMeaning C) (told : B 
         → ((es : Entries) → Sorted es → changed q.layers.changes es ≡ changed seat.own (changed p.layers.changes es))
         → q.opened ≡ p.opened → q.limit ≡ p.limit → n ≡ p.number + 1 → q.number ≡ n → q.begun ≡ p.begun
         → IsReleased p.table s q.table → ((o : ℕ) → waits q.graph o ≡ with_request (waits p.graph) s None o) → q.waiting.items ≡ without s p.waiting.items
-        → q.faults ≡ p.faults → q.book.items ≡ p.book.items ++ entry s event.Commit (said.Number n) ∷ []
+        → q.book.items ≡ p.book.items ++ entry s event.Commit (said.Number n) ∷ []
         → GoesOn is_valid m told p (entry s event.Commit (said.Number n)) q
-    commit_goes p q s n seat there free seats ordinals base sorted effect opened limit numbered number begun released stopped waiting faults adds = record {
+    commit_goes p q s n seat there free seats ordinals base sorted effect opened limit numbered number begun released stopped waiting adds = record {
       book = adds;
       valid = tt;
-      above = tt;
-      faults = faults;
       entry = λ st reached stands. subst (λ (o : Option (steps.Outcome C)). IsAnswer (said.Number n) o) (sym (moves st stands)) (ap said.Number (numbered ∙ ap (λ x. x + 1) stands.number));
       state = λ st reached stands. subst (λ (x : State C). Stands is_valid m told q x) (sym (ap (state_of st) (moves st stands)))
           (stands_committed p q s seat there seats ordinals base sorted effect opened limit (number ∙ numbered) begun released stopped waiting st (one st stands) reached stands (found st stands));

@@ -15,7 +15,7 @@ use Rattle.call_contract.specs.Waits.{stops, waits_for, cycle_through}
 use Rattle.call_contract.proofs.Held.{held_bars}
 use Rattle.call_contract.proofs.Lists.{found_named}
 use Rattle.call_contract.proofs.NoCycles.{nobody_for_himself, waiters_live}
-use Rattle.tx_core.specs.inside.Standing.{grants_of, waited_of, request_of}
+use Rattle.tx_core.specs.Holding.{grants_of, waited_of, request_of}
 
 and_false : (a : Bool) → (a && false) ≡ false
 and_false true = refl

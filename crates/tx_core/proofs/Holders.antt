@@ -11,7 +11,7 @@ use Rattle.tree_cells.specs.Clashes.{bars}
 use Rattle.wait_cycles.specs.Walks.{Rises}
 use Rattle.call_contract.specs.States.{Live, of_session, others, sessions}
 use Rattle.call_contract.specs.Attempts.{holders, is_barred, free, barred}
-use Rattle.tx_core.specs.inside.Standing.{grants_of}
+use Rattle.tx_core.specs.Holding.{grants_of}
 
 different : (q y : ℕ) → nat_cmp q y ≡ Less → (y == q) ≡ false
 different q y e = grind (arith, nat_tests, unsigned_ties q y, e)

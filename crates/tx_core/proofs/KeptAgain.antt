@@ -1,26 +1,31 @@
 -- What the type of a core keeps at a retry.
-use Rattle.std.proofs.Common.{◌≡◌, ℕ, Bool, true, false, [], ◌∷◌, ◌++◌, Option, Some, None, sym, ap, ap₂, subst, ◌∙◌, refl}
+use Rattle.std.proofs.Common.{◌≡◌, ℕ, ◌≤◌, Bool, true, false, [], ◌∷◌, ◌++◌, Option, Some, None, sym, ap, ap₂, subst, ◌∙◌, refl}
 use Rattle.tree_model.specs.Entries.{Entries}
 use Rattle.tree_model.specs.Tree.{Tree}
 use Rattle.node_seq.specs.Trees.{StandsFor}
 use Rattle.call_contract.specs.Calls.{CallMeaning}
 use Rattle.call_contract.specs.Sessions.{live_in}
 use Rattle.call_contract.specs.States.{State, Live, Waiting, start, of_session}
-use Rattle.call_contract.specs.Books.{Book, last, IsRun, FaultsRise, last_fault, HasValidCall, HasValidCalls, fault_in, latest, IsAbove}
+use Rattle.call_contract.specs.Books.{Book, last, IsRun, HasValidCall, HasValidCalls, fault_in}
 use Rattle.call_contract.specs.declared.events.Answer.{Answer}
 use Rattle.call_contract.specs.declared.events.Noted.{Noted}
-use Rattle.call_contract.proofs.Appends.{last_append, run_append, faults_append}
+use Rattle.call_contract.proofs.Appends.{last_append, run_append}
 use Rattle.call_contract.proofs.SerialRun.{told_found, told_option}
 use Rattle.call_contract.proofs.SessionBooks.{live_told}
-use Rattle.tx_core.specs.Cores.{CoreView, with_entry, over, waits_in}
+use Rattle.tx_core.specs.Cores.{CoreView, with_entry, over, waits_in, count_told}
 use Rattle.tx_core.specs.Retries.{HasRetried, with_retry}
 use Rattle.tx_core.specs.declared.parts.Parts.{Parts}
 use Rattle.tx_core.specs.inside.Standing.{Stands}
 use Rattle.tx_core.specs.inside.Retrying.{IsWaitingWith, GoesAgain, StaysWaiting, HasMoved, IsAgain, waiting_call, retry_entry, failed_retry}
 use Rattle.tx_core.specs.inside.Sessions.{IsSeatedAs}
 use Rattle.tx_core.specs.inside.Kept.{IsCore}
-use Rattle.tx_core.proofs.Kept.{last_fault_append}
+use Rattle.tx_core.specs.declared.errors.CallError.{CallError}
+use Rattle.tx_core.specs.declared.errors.CallError.TheVariants as call_error
+use Rattle.outside_traits.specs.Faults.{FaultCounted}
+use Rattle.tx_core.proofs.Counted.{IsTold, counts_go, counts_stay}
 use Rattle.tx_core.specs.inside.Goes.{Stays}
+use Rattle.overlays.specs.Views.{contents_after}
+use Rattle.tx_core.proofs.Kept.{shown, shown_so}
 use Rattle.tx_core.proofs.Reached.{all_append, stands_same}
 use Rattle.tx_core.proofs.ToldAgain.{seat_waits, told_waiting, waits_with}
 
@@ -30,11 +35,10 @@ module _ {C B : Type 0} (is_valid : C → Type 0) (m : CallMeaning C) (told : B 
   WaitsIn opening number limit book s c = (t : Tree) → StandsFor (told opening) t → IsWaitingWith (last m (start t number limit) book) s c
 
   pub core_goes_again : (count : B → ℕ) (opening : B) (number limit : ℕ) (p : Parts C B) (s : ℕ) (c : C) (n : Noted C) (q : Parts C B) → IsCore is_valid m told count opening number limit p → WaitsIn opening number limit p.book.items s c
-      → HasValidCall is_valid n.event → GoesAgain is_valid m told p s c n q → IsSeatedAs p q → IsCore is_valid m told count opening number limit q
-  core_goes_again count opening number limit p s c n q core waits valid goes same = record {
+      → HasValidCall is_valid n.event → GoesAgain is_valid m told p s c n q → IsSeatedAs p q → IsTold (fault_in n.event) (count p.base) (count q.base) → IsCore is_valid m told count opening number limit q
+  core_goes_again count opening number limit p s c n q core waits valid goes same counted = record {
     valid = subst (HasValidCalls is_valid) (sym goes.book) (all_append (λ x. HasValidCall is_valid x.event) p.book.items (n ∷ []) core.valid (valid, tt));
-    rise = subst (FaultsRise (Some (count opening))) (sym goes.book) (faults_append (Some (count opening)) p.book.items (n ∷ []) core.rise (subst (λ (f : Option ℕ). IsAbove f (fault_in n.event)) core.last goes.above, tt));
-    last = goes.faults ∙ ap (λ (f : Option ℕ). latest f (fault_in n.event)) core.last ∙ sym (ap (last_fault (Some (count opening))) goes.book ∙ last_fault_append (Some (count opening)) p.book.items n);
+    faults = counts_go count opening p q n goes.book counted core.faults;
     seated = same.seated;
     opened = same.opened ∙ core.opened;
     limited = same.limit ∙ core.limited;
@@ -48,11 +52,10 @@ module _ {C B : Type 0} (is_valid : C → Type 0) (m : CallMeaning C) (told : B 
   }
 
   pub core_stays_waiting : (count : B → ℕ) (opening : B) (number limit : ℕ) (p : Parts C B) (s : ℕ) (c : C) (q : Parts C B) → IsCore is_valid m told count opening number limit p → WaitsIn opening number limit p.book.items s c
-      → StaysWaiting is_valid m told p s c q → IsSeatedAs p q → IsCore is_valid m told count opening number limit q
-  core_stays_waiting count opening number limit p s c q core waits stays same = record {
+      → StaysWaiting is_valid m told p s c q → IsSeatedAs p q → count p.base ≤ count q.base → IsCore is_valid m told count opening number limit q
+  core_stays_waiting count opening number limit p s c q core waits stays same later = record {
     valid = subst (HasValidCalls is_valid) (sym stays.book) core.valid;
-    rise = subst (FaultsRise (Some (count opening))) (sym stays.book) core.rise;
-    last = stays.faults ∙ core.last ∙ sym (ap (last_fault (Some (count opening))) stays.book);
+    faults = counts_stay count opening p q stays.book later core.faults;
     seated = same.seated;
     opened = same.opened ∙ core.opened;
     limited = same.limit ∙ core.limited;
@@ -66,17 +69,23 @@ module _ {C B : Type 0} (is_valid : C → Type 0) (m : CallMeaning C) (told : B 
 
   -- a retry that was answered
   pub core_retries : (count : B → ℕ) (opening : B) (number limit : ℕ) (p : Parts C B) (s : ℕ) (c : C) (a : Answer) (q : Parts C B) → IsCore is_valid m told count opening number limit p → WaitsIn opening number limit p.book.items s c
-      → IsAgain is_valid m told p s c a q → IsSeatedAs p q → IsCore is_valid m told count opening number limit q
-  core_retries count opening number limit p s c a q core waits is same = go is.noted is.moved
+      → IsAgain is_valid m told p s c a q → IsSeatedAs p q → count p.base ≤ count q.base → IsCore is_valid m told count opening number limit q
+  core_retries count opening number limit p s c a q core waits is same later = go is.noted is.moved
     where
       go : (noted : Bool) → HasMoved is_valid m told p s c a noted q → IsCore is_valid m told count opening number limit q
-      go true goes = core_goes_again count opening number limit p s c (retry_entry s a) q core waits tt goes same
-      go false stays = core_stays_waiting count opening number limit p s c q core waits stays same
+      go true goes = core_goes_again count opening number limit p s c (retry_entry s a) q core waits tt goes same later
+      go false stays = core_stays_waiting count opening number limit p s c q core waits stays same later
 
   -- one that failed
-  pub core_retry_fails : (count : B → ℕ) (opening : B) (number limit : ℕ) (p : Parts C B) (s : ℕ) (c : C) (k : ℕ) (f : Option ℕ) (q : Parts C B) → IsCore is_valid m told count opening number limit p → WaitsIn opening number limit p.book.items s c
-      → GoesAgain is_valid m told p s c (failed_retry s k f) q → IsSeatedAs p q → IsCore is_valid m told count opening number limit q
-  core_retry_fails count opening number limit p s c k f q core waits goes same = core_goes_again count opening number limit p s c (failed_retry s k f) q core waits tt goes same
+  pub core_retry_fails : (count : B → ℕ) (opening : B) (number limit : ℕ) (p : Parts C B) (s : ℕ) (c : C) (k : ℕ) (e : CallError) (q : Parts C B) → IsCore is_valid m told count opening number limit p → WaitsIn opening number limit p.book.items s c
+      → GoesAgain is_valid m told p s c (failed_retry s k (count_told e (count q.base))) q → IsSeatedAs p q → count p.base ≤ count q.base → (e ≡ call_error.DiskFault → FaultCounted (count p.base) (count q.base)) → IsCore is_valid m told count opening number limit q
+  core_retry_fails count opening number limit p s c k e q core waits goes same later cause =
+      core_goes_again count opening number limit p s c (failed_retry s k (count_told e (count q.base))) q core waits tt goes same (tells e later cause)
+    where
+      tells : (e : CallError) → count p.base ≤ count q.base → (e ≡ call_error.DiskFault → FaultCounted (count p.base) (count q.base)) → IsTold (count_told e (count q.base)) (count p.base) (count q.base)
+      tells call_error.DiskFault later cause = (refl, later, cause refl)
+      tells call_error.NoMemory later cause = later
+      tells (call_error.Session why) later cause = later
 
   -- ---- who waits by the book waits in the state after it
 
@@ -105,41 +114,30 @@ module _ {C B : Type 0} (is_valid : C → Type 0) (m : CallMeaning C) (told : B 
 
   -- ---- as contracts see it
 
-  -- a core with these parts
-  abbrev pub shown : B → ℕ → ℕ → Parts C B → CoreView C B
-  shown opening number limit p = record { opening = opening; number = number; limit = limit; base = p.base; book = p.book.items; prepared = p.prepared }
-
-  pub has_retried : (count : B → ℕ) (opening : B) (number limit : ℕ) (p : Parts C B) (s : ℕ) (c : C) (a : Answer) (q : Parts C B) (v w : CoreView C B) → v ≡ shown opening number limit p → w ≡ shown opening number limit q
+  pub has_retried : (count : B → ℕ) (opening : B) (number limit : ℕ) (p : Parts C B) (s : ℕ) (c : C) (a : Answer) (q : Parts C B) (v w : CoreView C B) → v ≡ shown told opening number limit p → w ≡ shown told opening number limit q
+      → contents_after q.layers.changes (told q.base) ≡ contents_after p.layers.changes (told p.base)
       → IsCore is_valid m told count opening number limit p → WaitsIn opening number limit p.book.items s c → IsAgain is_valid m told p s c a q → HasRetried m told v s a w
-  has_retried count opening number limit p s c a q v w old new core waits is = subst (λ (x : CoreView C B). HasRetried m told x s a w) (sym old) (subst (HasRetried m told (shown opening number limit p) s a) (sym new) (record {
+  has_retried count opening number limit p s c a q v w old new committed core waits is = subst (λ (x : CoreView C B). HasRetried m told x s a w) (sym old) (subst (HasRetried m told (shown told opening number limit p) s a) (sym new) (record {
     noted = is.noted;
     may_be = is.may_be;
     view = go is.noted is.moved;
     step = λ t opens. is.step (last m (start t number limit) p.book.items) (core.run t opens).stands (waits t opens);
   }))
     where
-      so : Book C → Option ℕ → CoreView C B
-      so b session = record { opening = opening; number = number; limit = limit; base = q.base; book = b; prepared = session }
+      go : (noted : Bool) → HasMoved is_valid m told p s c a noted q → shown told opening number limit q ≡ over (with_retry (shown told opening number limit p) s a noted) q.base
+      go true goes = shown_so is_valid m told opening number limit p q (p.book.items ++ retry_entry s a ∷ []) None goes.book goes.prepared committed
+      go false stays = shown_so is_valid m told opening number limit p q p.book.items p.prepared stays.book stays.prepared committed
 
-      go : (noted : Bool) → HasMoved is_valid m told p s c a noted q → shown opening number limit q ≡ over (with_retry (shown opening number limit p) s a noted) q.base
-      go true goes = ap₂ so goes.book goes.prepared
-      go false stays = ap₂ so stays.book stays.prepared
-
-  pub has_failed : (opening : B) (number limit : ℕ) (p : Parts C B) (s : ℕ) (c : C) (n : Noted C) (q : Parts C B) (v w : CoreView C B) → v ≡ shown opening number limit p → w ≡ shown opening number limit q
-      → GoesAgain is_valid m told p s c n q → w ≡ over (with_entry v n) w.base
-  has_failed opening number limit p s c n q v w old new goes =
-      new ∙ ap₂ so goes.book goes.prepared ∙ sym (ap₂ (λ (x y : CoreView C B). over (with_entry x n) y.base) old new)
-    where
-      so : Book C → Option ℕ → CoreView C B
-      so b session = record { opening = opening; number = number; limit = limit; base = q.base; book = b; prepared = session }
+  pub has_failed : (opening : B) (number limit : ℕ) (p : Parts C B) (s : ℕ) (c : C) (n : Noted C) (q : Parts C B) (v w : CoreView C B) → v ≡ shown told opening number limit p → w ≡ shown told opening number limit q
+      → contents_after q.layers.changes (told q.base) ≡ contents_after p.layers.changes (told p.base) → GoesAgain is_valid m told p s c n q → w ≡ over (with_entry v n) w.base
+  has_failed opening number limit p s c n q v w old new committed goes =
+      new ∙ shown_so is_valid m told opening number limit p q (p.book.items ++ n ∷ []) None goes.book goes.prepared committed ∙ sym (ap₂ (λ (x y : CoreView C B). over (with_entry x n) y.base) old new)
 
   -- where nothing but room was made before
   pub goes_after_room : (p p1 : Parts C B) (s : ℕ) (c : C) (n : Noted C) (q : Parts C B) → Stays is_valid m told p p1 → GoesAgain is_valid m told p1 s c n q → GoesAgain is_valid m told p s c n q
   goes_after_room p p1 s c n q stays goes = record {
     book = goes.book ∙ ap (λ (b : Book C). b ++ n ∷ []) stays.book;
     prepared = goes.prepared;
-    above = subst (λ (f : Option ℕ). IsAbove f (fault_in n.event)) stays.faults goes.above;
-    faults = goes.faults ∙ ap (λ (f : Option ℕ). latest f (fault_in n.event)) stays.faults;
     entry = λ st stands. goes.entry st (stays.state st stands);
     state = λ st stands. goes.state st (stays.state st stands);
   }
@@ -158,7 +156,6 @@ module _ {C B : Type 0} (is_valid : C → Type 0) (m : CallMeaning C) (told : B 
       go false kept = record {
         book = kept.book ∙ stays.book;
         prepared = kept.prepared ∙ stays.prepared;
-        faults = kept.faults ∙ stays.faults;
         places = kept.places ∙ places;
         queue = kept.queue ∙ queue;
         state = λ st stands. kept.state st (stays.state st stands);
@@ -168,7 +165,6 @@ module _ {C B : Type 0} (is_valid : C → Type 0) (m : CallMeaning C) (told : B 
   pub roomy_stays : (p q : Parts C B) → q ≡ record p { book = q.book } → q.book.items ≡ p.book.items → Stays is_valid m told p q
   roomy_stays p q same items = record {
     book = items;
-    faults = ap (λ (x : Parts C B). x.faults) same;
     prepared = ap (λ (x : Parts C B). x.prepared) same;
     state = λ st stands. subst (λ (x : Parts C B). Stands is_valid m told x st) (sym same) (stands_same is_valid m told p (record p { book = q.book }) (record { base = refl; layers = refl; opened = refl; limit = refl; number = refl }) refl refl (λ grants is. is) (λ o. refl) refl st stands);
   }

@@ -3,6 +3,7 @@ pub mod Attempted
 pub mod Booked
 pub mod Bodies
 pub mod Committed
+pub mod Counted
 pub mod CommitsKept
 pub mod Cycles
 pub mod Granted
@@ -21,5 +22,6 @@ pub mod Seats
 pub mod Spared
 pub mod Told
 pub mod ToldAgain
+pub mod Truths
 pub mod Waited
 pub mod WaitedAgain

@@ -1,5 +1,5 @@
 -- What the type of a core keeps where its layers were merged into the base.
-use Rattle.std.proofs.Common.{◌≡◌, ℕ, Option, sym, ap, subst, ◌∙◌}
+use Rattle.std.proofs.Common.{◌≡◌, ◌≤◌, ℕ, Option, sym, ap, subst, ◌∙◌}
 use Rattle.overlays.specs.Views.{contents_after}
 use Rattle.tree_model.specs.Entries.{Entries}
 use Rattle.call_contract.specs.Calls.{CallMeaning}
@@ -34,8 +34,8 @@ module _ {C B : Type 0} (is_valid : C → Type 0) (m : CallMeaning C) (told : B 
       }
 
   pub core_merged : (count : B → ℕ) (opening : B) (number limit : ℕ) (p q : Parts C B) → q ≡ record p { base = q.base; layers = q.layers } → q.layers.spare ≡ p.layers.spare
-      → contents_after q.layers.changes (told q.base) ≡ contents_after p.layers.changes (told p.base) → IsCore is_valid m told count opening number limit p → IsCore is_valid m told count opening number limit q
-  core_merged count opening number limit p q same spare contents core =
-      core_still is_valid m told count opening number limit p q core (ap (λ (x : Parts C B). x.book.items) same) (ap (λ (x : Parts C B). x.faults) same) (merged_stands p q same contents)
+      → contents_after q.layers.changes (told q.base) ≡ contents_after p.layers.changes (told p.base) → count p.base ≤ count q.base → IsCore is_valid m told count opening number limit p → IsCore is_valid m told count opening number limit q
+  core_merged count opening number limit p q same spare contents later core =
+      core_still is_valid m told count opening number limit p q core (ap (λ (x : Parts C B). x.book.items) same) later (merged_stands p q same contents)
       (layered_seated p q q.base q.layers p.prepared core.seated same
       (same_prepared p q (ap (λ (x : Parts C B). x.prepared) same) (ap (λ (x : Parts C B). x.places) same) spare core.seated.prepared))

@@ -14,14 +14,15 @@ use Rattle.wait_graph.specs.Graphs.{Graph, waits, with_request}
 use Rattle.call_contract.specs.Calls.{CallMeaning}
 use Rattle.call_contract.specs.States.{Live, State, of_session, put, others, without, ended}
 use Rattle.call_contract.specs.Steps as steps
-use Rattle.call_contract.specs.Books.{state_of, IsAnswer, HasValidCall, IsAbove, latest, fault_in, entry}
+use Rattle.call_contract.specs.Books.{state_of, IsAnswer, HasValidCall, entry}
 use Rattle.call_contract.specs.declared.events.Event.TheVariants as event
 use Rattle.call_contract.specs.declared.events.EventAnswer.TheVariants as said
 use Rattle.call_contract.specs.declared.events.Noted.{Noted}
 use Rattle.call_contract.proofs.Rising.{rises_put, rises_others}
 use Rattle.tx_core.specs.declared.parts.Parts.{Parts}
 use Rattle.tx_core.specs.declared.parts.Seat.{Seat}
-use Rattle.tx_core.specs.inside.Standing.{seat_in, ordinal_in, Stands, IsSeat, grants_of, request_of}
+use Rattle.tx_core.specs.Holding.{grants_of, request_of}
+use Rattle.tx_core.specs.inside.Standing.{seat_in, ordinal_in, Stands, IsSeat}
 use Rattle.tx_core.specs.inside.Goes.{Goes}
 use Rattle.tx_core.proofs.Holding.{table_same}
 use Rattle.tx_core.proofs.Seats.{seats_put, seats_out, told_kept, told_out, numbers_turned}
@@ -56,14 +57,12 @@ module _ {C B : Type 0} (is_valid : C → Type 0) (m : CallMeaning C) (told : B 
 
   -- a step that the machine makes, and the state that it leaves
   pub goes_by : (p : Parts C B) (n : Noted C) (q : Parts C B)
-      → q.book.items ≡ p.book.items ++ n ∷ [] → HasValidCall is_valid n.event → IsAbove p.faults (fault_in n.event) → q.faults ≡ latest p.faults (fault_in n.event) → q.prepared ≡ None
+      → q.book.items ≡ p.book.items ++ n ∷ [] → HasValidCall is_valid n.event → q.prepared ≡ None
       → ((st : State C) → Stands is_valid m told p st → (o : steps.Outcome C) × (steps.step m st n.session n.event ≡ Some o) × (n.answer ≡ o.answer) × Stands is_valid m told q o.state)
       → Goes is_valid m told p n q
-  goes_by p n q book valid above faults prepared moves = record {
+  goes_by p n q book valid prepared moves = record {
     book = book;
     valid = valid;
-    above = above;
-    faults = faults;
     prepared = prepared;
     entry = λ st stands. subst (λ (o : Option (steps.Outcome C)). IsAnswer n.answer o) (sym (moves st stands).1) (moves st stands).2;
     state = λ st stands. subst (λ (x : State C). Stands is_valid m told q x) (sym (ap (state_of st) (moves st stands).1)) (moves st stands).3;
@@ -76,11 +75,11 @@ module _ {C B : Type 0} (is_valid : C → Type 0) (m : CallMeaning C) (told : B 
       → ordinal ≡ ordinal_in (get nat_cmp p.places s) + 1
       → ((o : ℕ) → seat_in (get nat_cmp q.places o) ≡ cond (s == o) (Some (record { own = own; waiting = None })) (seat_in (get nat_cmp p.places o)))
       → ((o : ℕ) → ordinal_in (get nat_cmp q.places o) ≡ cond (s == o) ordinal (ordinal_in (get nat_cmp p.places o)))
-      → Alike p q → q.begun ≡ p.begun + 1 → q.table ≡ p.table → q.graph ≡ p.graph → q.waiting.items ≡ p.waiting.items → q.faults ≡ p.faults → q.prepared ≡ None
+      → Alike p q → q.begun ≡ p.begun + 1 → q.table ≡ p.table → q.graph ≡ p.graph → q.waiting.items ≡ p.waiting.items → q.prepared ≡ None
       → q.book.items ≡ p.book.items ++ entry s event.Begin (said.Number ordinal) ∷ []
       → Goes is_valid m told p (entry s event.Begin (said.Number ordinal)) q
-  begin_goes p q s ordinal own empty free room is seats ordinals alike begun table graph waiting faults prepared adds =
-      goes_by p (entry s event.Begin (said.Number ordinal)) q adds tt tt faults prepared (λ st stands. (record { state = steps.begun_by st s; answer = said.Number (st.ordinals s + 1) }, steps_so st stands, ap said.Number (rank st stands), stands_then st stands))
+  begin_goes p q s ordinal own empty free room is seats ordinals alike begun table graph waiting prepared adds =
+      goes_by p (entry s event.Begin (said.Number ordinal)) q adds tt prepared (λ st stands. (record { state = steps.begun_by st s; answer = said.Number (st.ordinals s + 1) }, steps_so st stands, ap said.Number (rank st stands), stands_then st stands))
     where
       test : (st : State C) → Stands is_valid m told p st → (st.opening + st.begun == st.limit) ≡ false
       test st stands = ap₂ (λ (x y : ℕ). x + y == st.limit) (sym stands.opened) (sym stands.begun) ∙ ap (λ x. p.opened + p.begun == x) (sym stands.limit) ∙ room
@@ -153,11 +152,11 @@ module _ {C B : Type 0} (is_valid : C → Type 0) (m : CallMeaning C) (told : B 
       → ((o : ℕ) → seat_in (get nat_cmp q.places o) ≡ cond (s == o) None (seat_in (get nat_cmp p.places o)))
       → ((o : ℕ) → ordinal_in (get nat_cmp q.places o) ≡ ordinal_in (get nat_cmp p.places o))
       → Alike p q → q.begun ≡ p.begun → IsReleased p.table s q.table → ((o : ℕ) → waits q.graph o ≡ with_request (waits p.graph) s None o) → q.waiting.items ≡ without s p.waiting.items
-      → q.faults ≡ p.faults → q.prepared ≡ None
+      → q.prepared ≡ None
       → q.book.items ≡ p.book.items ++ entry s event.Abort said.Nothing ∷ []
       → Goes is_valid m told p (entry s event.Abort said.Nothing) q
-  abort_goes p q s seat some seats ordinals alike begun released stopped waiting faults prepared adds =
-      goes_by p (entry s event.Abort said.Nothing) q adds tt tt faults prepared (λ st stands. (
+  abort_goes p q s seat some seats ordinals alike begun released stopped waiting prepared adds =
+      goes_by p (entry s event.Abort said.Nothing) q adds tt prepared (λ st stands. (
         record { state = ended st s; answer = said.Nothing },
         ap (λ (o : Option (Live C)). steps.step_of m st s o event.Abort) (is_live p st s seat stands some).1,
         refl,

@@ -36,7 +36,8 @@ use Rattle.tx_core.specs.declared.parts.Seat.{Seat}
 use Rattle.tx_core.specs.declared.asking.Got.{Got}
 use Rattle.tx_core.specs.declared.asking.Got.TheVariants.{All, Barred, NoMemory}
 use Rattle.tx_core.specs.inside.Asking.{IsGot, granted_in, IsInside}
-use Rattle.tx_core.specs.inside.Standing.{seat_in, ordinal_in, Stands, IsSeat, IsSeatOf, grants_of, request_of}
+use Rattle.tx_core.specs.Holding.{grants_of, request_of}
+use Rattle.tx_core.specs.inside.Standing.{seat_in, ordinal_in, Stands, IsSeat, IsSeatOf}
 use Rattle.tx_core.specs.inside.Goes.{with_grants, Reaches, IsFreeFront, with_answer, with_wait}
 use Rattle.tx_core.proofs.Granted.{untouched}
 use Rattle.tx_core.proofs.Holding.{with_more, table_same, table_kept, granted_all, AreBarring, barring_of, barring_more, all_free}

@@ -15,7 +15,8 @@ use Rattle.call_contract.proofs.Rising as rising
 use Rattle.tx_core.specs.declared.parts.Parts.{Parts}
 use Rattle.tx_core.specs.declared.parts.Place.{Place}
 use Rattle.tx_core.specs.declared.parts.Seat.{Seat}
-use Rattle.tx_core.specs.inside.Standing.{seat_in, ordinal_in, Stands, IsSeat, IsSeatOf, grants_of, request_of}
+use Rattle.tx_core.specs.Holding.{grants_of, request_of}
+use Rattle.tx_core.specs.inside.Standing.{seat_in, ordinal_in, Stands, IsSeat, IsSeatOf}
 use Rattle.tx_core.specs.inside.Goes.{with_wait, unqueued}
 use Rattle.tx_core.specs.inside.Retrying.{at_rest}
 use Rattle.tx_core.proofs.Holding.{table_same}

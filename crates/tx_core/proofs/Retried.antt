@@ -9,7 +9,7 @@ use Rattle.call_contract.specs.States.{Waiting, Live, State, view, of_session, p
 use Rattle.call_contract.specs.Attempts as machine
 use Rattle.call_contract.specs.Waits.{cycle_through}
 use Rattle.call_contract.specs.Steps as steps
-use Rattle.call_contract.specs.Books.{state_of, IsAnswer, IsAbove, latest, fault_in}
+use Rattle.call_contract.specs.Books.{state_of, IsAnswer}
 use Rattle.call_contract.specs.declared.events.Answer.{Answer}
 use Rattle.call_contract.specs.declared.events.Answer.TheVariants as answer
 use Rattle.call_contract.specs.declared.events.Event.TheVariants as event
@@ -45,14 +45,12 @@ module _ {C B : Type 0} (is_valid : C → Type 0) (m : CallMeaning C) (told : B 
 
   -- where the step is this one, the entry and the state after it are so
   goes_again : (p : Parts C B) (s : ℕ) (c : C) (n : Noted C) (q : Parts C B)
-      → q.book.items ≡ p.book.items ++ n ∷ [] → q.prepared ≡ None → IsAbove p.faults (fault_in n.event) → q.faults ≡ latest p.faults (fault_in n.event)
+      → q.book.items ≡ p.book.items ++ n ∷ [] → q.prepared ≡ None
       → ((st : State C) → Stands is_valid m told p st → IsWaitingWith st s c → (o : steps.Outcome C) × (steps.step m st n.session n.event ≡ Some o) × (n.answer ≡ o.answer) × Stands is_valid m told q o.state)
       → GoesAgain is_valid m told p s c n q
-  goes_again p s c n q book prepared above faults moves = record {
+  goes_again p s c n q book prepared moves = record {
     book = book;
     prepared = prepared;
-    above = above;
-    faults = faults;
     entry = λ st stands with_call. subst (λ (o : Option (steps.Outcome C)). IsAnswer n.answer o) (sym (moves st stands with_call).1) (moves st stands with_call).2;
     state = λ st stands with_call. subst (λ (x : State C). Stands is_valid m told q x) (sym (ap (state_of st) (moves st stands with_call).1)) (moves st stands with_call).3;
   }
@@ -102,14 +100,14 @@ module _ {C B : Type 0} (is_valid : C → Type 0) (m : CallMeaning C) (told : B 
       }
 
   answered_again : (p p2 q : Parts C B) (s : ℕ) (c : C) (asks : List Request) (a : Answer)
-      → AsksFor p s c asks → ReachesFor p s asks p2 All → p2.book.items ≡ p.book.items → p2.faults ≡ p.faults
+      → AsksFor p s c asks → ReachesFor p s asks p2 All → p2.book.items ≡ p.book.items
       → IsAnsweredAgain is_valid m told p2 s c a q → IsAgain is_valid m told p s c a q
-  answered_again p p2 q s c asks a asked reach same faults is =
+  answered_again p p2 q s c asks a asked reach same is =
       let step = answered_step p p2 q s c asks a asked reach is in
       record {
         noted = true;
         may_be = subst (λ x. IsNotedRetry x true) (sym is.is) refl;
-        moved = goes_again p s c (retry_entry s a) q (is.book ∙ ap (λ xs. xs ++ retry_entry s a ∷ []) same) is.prepared tt (is.faults ∙ faults)
+        moved = goes_again p s c (retry_entry s a) q (is.book ∙ ap (λ xs. xs ++ retry_entry s a ∷ []) same) is.prepared
             (λ st stands at. ((step st stands at).outcome, (step st stands at).step, (step st stands at).is, (step st stands at).stands));
         step = λ st stands at. record { after = (step st stands at).outcome; step = (step st stands at).step; answer = sym (step st stands at).is; changed = (step st stands at).changed };
       }
@@ -118,13 +116,13 @@ module _ {C B : Type 0} (is_valid : C → Type 0) (m : CallMeaning C) (told : B 
   closed_again : (p p2 q : Parts C B) (s : ℕ) (c : C) (asks : List Request) (k : ℕ) (g : Request) (hs : List ℕ) (a : Answer)
       → AsksFor p s c asks
       → ((st : State C) (t : Live C) → Stands is_valid m told p st → of_session s st.live ≡ Some t → IsFreeUpTo is_valid m told st t asks k g hs × Stands is_valid m told p2 (with_grants st t (take k asks)))
-      → p2.book.items ≡ p.book.items → p2.faults ≡ p.faults
+      → p2.book.items ≡ p.book.items
       → IsClosedAgain is_valid m told p2 s g a q → IsAgain is_valid m told p s c a q
-  closed_again p p2 q s c asks k g hs a asked reach same faults is =
+  closed_again p p2 q s c asks k g hs a asked reach same is =
       record {
         noted = true;
         may_be = subst (λ x. IsNotedRetry x true) (sym is.is) refl;
-        moved = goes_again p s c (retry_entry s a) q (is.book ∙ ap (λ xs. xs ++ retry_entry s a ∷ []) same) is.prepared tt (is.faults ∙ faults)
+        moved = goes_again p s c (retry_entry s a) q (is.book ∙ ap (λ xs. xs ++ retry_entry s a ∷ []) same) is.prepared
             (λ st stands at. (outcome st at.live, step_is st stands at, ap said.Call is.is, state_is st stands at));
         step = λ st stands at. record {
           after = outcome st at.live;
@@ -171,9 +169,9 @@ module _ {C B : Type 0} (is_valid : C → Type 0) (m : CallMeaning C) (told : B 
       → AsksFor p s c asks
       → ((st : State C) (t : Live C) → Stands is_valid m told p st → of_session s st.live ≡ Some t → IsFreeUpTo is_valid m told st t asks k g hs × Stands is_valid m told p2 (with_grants st t (take k asks)))
       → AreAsked is_valid m told p s asks (Barred k hs) more p2
-      → p2.book.items ≡ p.book.items → p2.faults ≡ p.faults → p2.prepared ≡ p.prepared → p2.places ≡ p.places → p2.waiting.items ≡ p.waiting.items
+      → p2.book.items ≡ p.book.items → p2.prepared ≡ p.prepared → p2.places ≡ p.places → p2.waiting.items ≡ p.waiting.items
       → WaitsAgain is_valid m told p2 s g hs more a q → IsAgain is_valid m told p s c a q
-  waits_again p p2 q s c asks k g hs more a asked reach held same faults prepared places queue is =
+  waits_again p p2 q s c asks k g hs more a asked reach held same prepared places queue is =
       record {
         noted = is.noted;
         may_be = subst (λ x. IsNotedRetry x is.noted) (sym is.is) tt;
@@ -241,7 +239,7 @@ module _ {C B : Type 0} (is_valid : C → Type 0) (m : CallMeaning C) (told : B 
 
       moved : (noted : Bool) → is.noted ≡ noted → IsPutAgain is_valid m told p2 s g a noted q → HasMoved is_valid m told p s c a noted q
       moved true e put_so =
-          goes_again p s c (retry_entry s a) q (put_so.book ∙ ap (λ xs. xs ++ retry_entry s a ∷ []) same) put_so.prepared tt (is.faults ∙ faults)
+          goes_again p s c (retry_entry s a) q (put_so.book ∙ ap (λ xs. xs ++ retry_entry s a ∷ []) same) put_so.prepared
           (λ st stands at.
           let t = at.live in
           let front = take k asks in
@@ -256,7 +254,6 @@ module _ {C B : Type 0} (is_valid : C → Type 0) (m : CallMeaning C) (told : B 
       moved false e kept = record {
         book = kept.book ∙ same;
         prepared = kept.prepared ∙ prepared;
-        faults = is.faults ∙ faults;
         places = kept.places ∙ places;
         queue = kept.queue ∙ queue;
         state = λ st stands at. kept.state st (held.kept (none_more more (not (same_request at.waiting.request g)) (more_at st stands at ∙ e)) st stands);
@@ -266,11 +263,10 @@ module _ {C B : Type 0} (is_valid : C → Type 0) (m : CallMeaning C) (told : B 
   failed_again : (p p2 q : Parts C B) (s : ℕ) (c : C) (asks : List Request) (k : ℕ) (f : Option ℕ)
       → AsksFor p s c asks
       → ((st : State C) (t : Live C) → Stands is_valid m told p st → of_session s st.live ≡ Some t → IsFreeFront is_valid m told st t asks k × Stands is_valid m told p2 (with_grants st t (take k asks)))
-      → p2.book.items ≡ p.book.items → p2.faults ≡ p.faults
+      → p2.book.items ≡ p.book.items
       → IsFailedAgain is_valid m told p2 s k f q → GoesAgain is_valid m told p s c (failed_retry s k f) q
-  failed_again p p2 q s c asks k f asked reach same faults is =
-      goes_again p s c (failed_retry s k f) q (is.book ∙ ap (λ xs. xs ++ failed_retry s k f ∷ []) same) is.prepared
-      (subst (λ (b : Option ℕ). IsAbove b f) faults is.above) (is.faults ∙ ap (λ (b : Option ℕ). latest b f) faults) moves
+  failed_again p p2 q s c asks k f asked reach same is =
+      goes_again p s c (failed_retry s k f) q (is.book ∙ ap (λ xs. xs ++ failed_retry s k f ∷ []) same) is.prepared moves
     where
       moves : (st : State C) → Stands is_valid m told p st → IsWaitingWith st s c → (o : steps.Outcome C) × (steps.step m st s (event.Fail None k f) ≡ Some o) × (said.Nothing ≡ o.answer) × Stands is_valid m told q o.state
       moves st stands at =
@@ -300,10 +296,10 @@ module _ {C B : Type 0} (is_valid : C → Type 0) (m : CallMeaning C) (told : B 
   -- a retry that was settled
   pub settled_again : (p p2 q : Parts C B) (s : ℕ) (c : C) (asks : List Request) (got : Got) (more : Bool) (a : Answer)
       → AsksFor p s c asks → ReachesFor p s asks p2 got → AreAsked is_valid m told p s asks got more p2 → IsInside asks got
-      → p2.book.items ≡ p.book.items → p2.faults ≡ p.faults → p2.prepared ≡ p.prepared → p2.places ≡ p.places → p2.waiting.items ≡ p.waiting.items
+      → p2.book.items ≡ p.book.items → p2.prepared ≡ p.prepared → p2.places ≡ p.places → p2.waiting.items ≡ p.waiting.items
       → IsSettledAgain is_valid m told p2 s c asks got more a q → IsAgain is_valid m told p s c a q
-  settled_again p p2 q s c asks All more a asked reach held inside same faults prepared places queue is = answered_again p p2 q s c asks a asked reach same faults is
-  settled_again p p2 q s c asks (Barred k hs) more a asked reach held inside same faults prepared places queue is = stopped (is g.0 g.1)
+  settled_again p p2 q s c asks All more a asked reach held inside same prepared places queue is = answered_again p p2 q s c asks a asked reach same is
+  settled_again p p2 q s c asks (Barred k hs) more a asked reach held inside same prepared places queue is = stopped (is g.0 g.1)
     where
       g : (x : Request) × (x ≡ get_or asks k x)
       g = there_is asks k inside
@@ -314,21 +310,21 @@ module _ {C B : Type 0} (is_valid : C → Type 0) (m : CallMeaning C) (told : B 
           (subst (λ x. IsFreeUpTo is_valid m told st t asks k x hs) (same_at asks k got.0 g.0 inside got.1.here g.1) got.1, got.2)
 
       stopped : IsStoppedAgain is_valid m told p2 s g.0 hs more a q → IsAgain is_valid m told p s c a q
-      stopped (inl is) = waits_again p p2 q s c asks k g.0 hs more a asked reached held same faults prepared places queue is
-      stopped (inr is) = closed_again p p2 q s c asks k g.0 hs a asked reached same faults is
-  settled_again p p2 q s c asks (NoMemory k) more a asked reach held inside same faults prepared places queue is = absurd is
+      stopped (inl is) = waits_again p p2 q s c asks k g.0 hs more a asked reached held same prepared places queue is
+      stopped (inr is) = closed_again p p2 q s c asks k g.0 hs a asked reached same is
+  settled_again p p2 q s c asks (NoMemory k) more a asked reach held inside same prepared places queue is = absurd is
 
   -- a retry that failed after as many grants
   pub left_again : (p p2 q : Parts C B) (s : ℕ) (c : C) (asks : List Request) (got : Got) (f : Option ℕ)
-      → AsksFor p s c asks → ReachesFor p s asks p2 got → p2.book.items ≡ p.book.items → p2.faults ≡ p.faults
+      → AsksFor p s c asks → ReachesFor p s asks p2 got → p2.book.items ≡ p.book.items
       → IsFailedAgain is_valid m told p2 s (granted_in asks got) f q → GoesAgain is_valid m told p s c (failed_retry s (granted_in asks got) f) q
-  left_again p p2 q s c asks got f asked reach same faults is =
-      failed_again p p2 q s c asks (granted_in asks got) f asked (λ st t stands found. front_in is_valid m told st t asks p2 got (reach st t stands found)) same faults is
+  left_again p p2 q s c asks got f asked reach same is =
+      failed_again p p2 q s c asks (granted_in asks got) f asked (λ st t stands found. front_in is_valid m told st t asks p2 got (reach st t stands found)) same is
 
   -- one that failed before anything was asked
   pub failed_early : (p q : Parts C B) (s : ℕ) (c : C) (f : Option ℕ) → IsFailedAgain is_valid m told p s 0 f q → GoesAgain is_valid m told p s c (failed_retry s 0 f) q
   failed_early p q s c f is =
-      goes_again p s c (failed_retry s 0 f) q is.book is.prepared is.above is.faults moves
+      goes_again p s c (failed_retry s 0 f) q is.book is.prepared moves
     where
       moves : (st : State C) → Stands is_valid m told p st → IsWaitingWith st s c → (o : steps.Outcome C) × (steps.step m st s (event.Fail None 0 f) ≡ Some o) × (said.Nothing ≡ o.answer) × Stands is_valid m told q o.state
       moves st stands at =
@@ -359,7 +355,5 @@ module _ {C B : Type 0} (is_valid : C → Type 0) (m : CallMeaning C) (told : B 
   failed_after p p1 q s k f stays is = record {
     book = is.book ∙ ap (λ xs. xs ++ failed_retry s k f ∷ []) stays.book;
     prepared = is.prepared;
-    above = subst (λ (b : Option ℕ). IsAbove b f) stays.faults is.above;
-    faults = is.faults ∙ ap (λ (b : Option ℕ). latest b f) stays.faults;
     state = λ st t stands found. is.state st t (stays.state st stands) found;
   }

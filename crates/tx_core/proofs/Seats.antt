@@ -7,7 +7,8 @@ use Rattle.call_contract.specs.Calls.{CallMeaning}
 use Rattle.call_contract.specs.States.{Live, of_session, put, others}
 use Rattle.call_contract.proofs.Lists.{found_put, found_put_other, found_others, found_ended}
 use Rattle.tx_core.specs.declared.parts.Seat.{Seat}
-use Rattle.tx_core.specs.inside.Standing.{IsSeat, IsSeatOf, grants_of}
+use Rattle.tx_core.specs.Holding.{grants_of}
+use Rattle.tx_core.specs.inside.Standing.{IsSeat, IsSeatOf}
 use Rattle.tx_core.proofs.Holding.{with_more}
 
 pub is_self : (o p : ℕ) → (o == p) ≡ true → o ≡ p

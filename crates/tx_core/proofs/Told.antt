@@ -25,7 +25,7 @@ use Rattle.tx_core.specs.declared.parts.Parts.{Parts}
 use Rattle.tx_core.specs.declared.parts.Seat.{Seat}
 use Rattle.tx_core.specs.inside.Standing.{seat_in, ordinal_in}
 use Rattle.tx_core.specs.inside.Goes.{call_entry, fail_entry}
-use Rattle.tx_core.specs.inside.Sessions.{wait_of, wait_in, IsWait, IsToldSeat, HasRoom, IsSeated, IsSeatedAs}
+use Rattle.tx_core.specs.inside.Sessions.{wait_of, wait_in, IsWait, IsToldSeat, HasRoom, IsSeated, IsSeatedAs, IsSeatedFor}
 use Rattle.tx_core.proofs.Booked.{times_without, times_behind, length_without, at_end, live_rises, length_put_new, length_put_old, length_others, told_stays, no_begin, no_begin_of, no_commit, begins_of_all}
 use Rattle.tx_core.proofs.Seats.{told_put, told_out, is_self, not_equal}
 use Rattle.tx_core.specs.declared.errors.SessionError.TheVariants.{IsWaiting, TxLimit}
@@ -45,6 +45,14 @@ is_ready (Some seat) e = cc
 pub ready_waits : (x : Option Seat) → IsReady x → wait_of x ≡ Some None
 ready_waits None is = absurd is
 ready_waits (Some seat) is = ap Some is
+
+pub may_call : (x : Option Seat) → commit_refused x ≡ None → wait_of x ≡ Some None
+may_call None e = cc
+may_call (Some seat) e = ap Some (none_of seat.waiting e)
+  where
+    none_of : (w : Option ℕ) → cond (is_some w) (Some IsWaiting) None ≡ None → w ≡ None
+    none_of None e = refl
+    none_of (Some i) e = cc
 
 pub none_prepared : {C B : Type 0} (q : Parts C B) → q.prepared ≡ None → KeepsPrepared q
 none_prepared q none s some = absurd (apart (sym none ∙ some))
@@ -96,7 +104,7 @@ pub record SameSeats {C B : Type 0} (p q : Parts C B) : Type 0 where
   pub begun : q.begun ≡ p.begun
   pub live : q.live ≡ p.live
   pub prepared : q.prepared ≡ p.prepared
-  pub spare : q.layers.spare ≡ p.layers.spare
+  pub layers : q.layers ≡ p.layers
 
 module _ {C B : Type 0} where
   pub seated_same : (p q : Parts C B) → IsSeated p → SameSeats p q → HasRoom 0 q → IsSeatedAs p q
@@ -116,10 +124,11 @@ module _ {C B : Type 0} where
       room = room;
       prepared = λ s some.
           let was = is.prepared s (sym same.prepared ∙ some) in
-          (is_ready (seat_in (get nat_cmp q.places s)) (same.seats s ∙ ready_waits (seat_in (get nat_cmp p.places s)) was.0), subst (λ (n : ℕ). 1 ≤ n) (sym same.spare) was.1);
+          (is_ready (seat_in (get nat_cmp q.places s)) (same.seats s ∙ ready_waits (seat_in (get nat_cmp p.places s)) was.0), subst (λ (l : Layered). 1 ≤ l.spare) (sym same.layers) was.1);
     };
     opened = same.opened;
     limit = same.limit;
+    layers = same.layers;
   }
 
   -- room stays where the book does
@@ -130,10 +139,17 @@ module _ {C B : Type 0} where
   less_room k j p less room = omega (arith, less, room)
 
   pub seated_on : (p q r : Parts C B) → IsSeatedAs p q → IsSeatedAs q r → IsSeatedAs p r
-  seated_on p q r one two = record { seated = two.seated; opened = two.opened ∙ one.opened; limit = two.limit ∙ one.limit }
+  seated_on p q r one two = record { seated = two.seated; opened = two.opened ∙ one.opened; limit = two.limit ∙ one.limit; layers = two.layers ∙ one.layers }
 
   pub seated_itself : (p : Parts C B) → IsSeated p → IsSeatedAs p p
-  seated_itself p is = record { seated = is; opened = refl; limit = refl }
+  seated_itself p is = record { seated = is; opened = refl; limit = refl; layers = refl }
+
+  -- whatever its layers are, and with those of before
+  pub seated_for : (p q : Parts C B) → IsSeatedAs p q → IsSeatedFor p q
+  seated_for p q is = record { seated = is.seated; opened = is.opened; limit = is.limit }
+
+  pub seated_with : (p q : Parts C B) → IsSeatedFor p q → q.layers ≡ p.layers → IsSeatedAs p q
+  seated_with p q is layers = record { seated = is.seated; opened = is.opened; limit = is.limit; layers = layers }
 
   -- ---- what is told of a seat
 
@@ -165,7 +181,7 @@ module _ {C B : Type 0} where
       → ((o : ℕ) → times o (queued_by n.session n.event n.answer p.waiting.items) ≡ cond (n.session == o) (once (waits_in x)) (times o p.waiting.items))
       → q.begun ≡ p.begun + begins (n ∷ []) → q.number ≡ p.number + commits_in (n ∷ []) → q.live ≡ length (open_after (live_after [] p.book.items) n)
       → q.opened ≡ p.opened → q.limit ≡ p.limit → q.opened + q.begun ≤ q.limit → q.number + q.live ≤ q.opened + q.begun → HasRoom 0 q → q.prepared ≡ None
-      → IsSeatedAs p q
+      → IsSeatedFor p q
   seated_after p q n w x is adds found seats here ordinals queue waits begun number live opened limit limited numbered room free =
       let ts = live_after [] p.book.items in
       let told : live_after [] q.book.items ≡ open_after ts n = ap (λ (b : Book C). live_after [] b) adds ∙ live_append [] p.book.items (n ∷ []) in
@@ -223,14 +239,15 @@ module _ {C B : Type 0} where
       → q.waiting.items ≡ queued_by n.session n.event n.answer p.waiting.items
       → ((o : ℕ) → times o (queued_by n.session n.event n.answer p.waiting.items) ≡ cond (n.session == o) (once (is_some t.waits)) (times o p.waiting.items))
       → q.number ≡ p.number → q.live ≡ p.live → HasRoom 0 q
-      → IsSeatedAs p q
-  seated_goes_on p q n w t u is same adds begins commits found named goes seats here queue waits number live room =
+      → q.layers ≡ p.layers → IsSeatedAs p q
+  seated_goes_on p q n w t u is same adds begins commits found named goes seats here queue waits number live room layers =
       let kept : q.begun ≡ p.begun + Rattle.call_contract.specs.Sessions.begins (n ∷ []) = same.begun ∙ plus_none p.begun _ (no_begin n begins) in
+      seated_with p q (
       seated_after p q n (Some w) (Some t) is adds (told_next p.book.items n t goes named) seats here
       (λ o. same.ordinals o ∙ plus_none (ordinal_in (get nat_cmp p.places o)) _ (no_begin_of n o begins)) queue waits kept
       (number ∙ plus_none p.number _ (no_commit n commits))
       (live ∙ is.live ∙ sym (ap length goes ∙ same_length p.book.items t u (ap (live_in p.book.items) named ∙ found)))
-      same.opened same.limit (omega (arith, is.limited, same.opened, same.begun, same.limit)) (omega (arith, is.numbered, same.opened, same.begun, number, live)) room same.prepared
+      same.opened same.limit (omega (arith, is.limited, same.opened, same.begun, same.limit)) (omega (arith, is.numbered, same.opened, same.begun, number, live)) room same.prepared) layers
 
   -- a transaction ends; by a commit the number rises
   pub seated_ends : (p q : Parts C B) (n : Noted C) (u : Live C) → IsSeated p → SameCounts p q
@@ -240,7 +257,7 @@ module _ {C B : Type 0} where
       → queued_by n.session n.event n.answer p.waiting.items ≡ without n.session p.waiting.items
       → q.waiting.items ≡ without n.session p.waiting.items
       → q.number ≡ p.number + commits_in (n ∷ []) → commits_in (n ∷ []) ≤ 1 → q.live + 1 ≡ p.live → vec_capacity p.book ≤ vec_capacity q.book
-      → IsSeatedAs p q
+      → IsSeatedFor p q
   seated_ends p q n u is same adds begins found ends seats by queue number once live capacity =
       let shorter = length_others n.session (live_after [] p.book.items) u (live_rises [] p.book.items tt) found in
       let kept : q.begun ≡ p.begun + Rattle.call_contract.specs.Sessions.begins (n ∷ []) = same.begun ∙ plus_none p.begun _ (no_begin n begins) in
@@ -293,17 +310,18 @@ module _ {C B : Type 0} where
       → ((o : ℕ) → wait_in (get nat_cmp q.places o) ≡ cond (s == o) (Some None) (wait_in (get nat_cmp p.places o)))
       → ((o : ℕ) → ordinal_in (get nat_cmp q.places o) ≡ cond (s == o) ordinal (ordinal_in (get nat_cmp p.places o)))
       → q.opened ≡ p.opened → q.limit ≡ p.limit → q.number ≡ p.number → q.begun ≡ p.begun + 1 → q.live ≡ p.live + 1 → q.waiting.items ≡ p.waiting.items → HasRoom 0 q → q.prepared ≡ None
-      → IsSeatedAs p q
-  seated_begins p q s ordinal is free below rank adds seats ordinals opened limit number begun live queue room none_is =
+      → q.layers ≡ p.layers → IsSeatedAs p q
+  seated_begins p q s ordinal is free below rank adds seats ordinals opened limit number begun live queue room none_is layers =
       let n = entry {C = C} s event.Begin (said.Number ordinal) in
       let ts = live_after [] p.book.items in
       let none = told_none p s is free in
       let new : Live C = new_live s ordinal in
       let goes : open_after ts n ≡ put new ts = ap (λ (o : Option (Live C)). open_of s o event.Begin (said.Number ordinal) ts) none in
+      seated_with p q (
       seated_after p q n (Some None) (Some new) is adds (told_next p.book.items n new goes refl) seats tt (ordinal_moves p q s ordinal rank ordinals) queue
       (λ o. not_in o (s == o) refl) begun (number ∙ plus_none p.number _ refl)
       (live ∙ ap (λ k. k + 1) is.live ∙ sym (ap length goes ∙ length_put_new new ts none))
-      opened limit (fits is.limited below opened begun limit) (omega (arith, is.numbered, opened, begun, number, live)) room none_is
+      opened limit (fits is.limited below opened begun limit) (omega (arith, is.numbered, opened, begun, number, live)) room none_is) layers
     where
       not_in : (o : ℕ) (b : Bool) → (s == o) ≡ b → times o p.waiting.items ≡ cond b 0 (times o p.waiting.items)
       not_in o true e = ap (λ (x : ℕ). times x p.waiting.items) (sym (is_self s o e)) ∙ is.waits s ∙ ap (λ (y : Option (Live C)). once (waits_in y)) (told_none p s is free)
@@ -336,8 +354,8 @@ module _ {C B : Type 0} where
   -- an attempt of a transaction that doesn't wait failed
   pub seated_fails : (p q : Parts C B) (s : ℕ) (c : C) (k : ℕ) (f : Option ℕ) → IsSeated p → wait_in (get nat_cmp p.places s) ≡ Some None → SameCounts p q
       → q.places ≡ p.places → q.waiting.items ≡ without s p.waiting.items → q.number ≡ p.number → q.live ≡ p.live
-      → q.book.items ≡ p.book.items ++ fail_entry s c k f ∷ [] → HasRoom 0 q → IsSeatedAs p q
-  seated_fails p q s c k f is ready same places queue number live adds room =
+      → q.book.items ≡ p.book.items ++ fail_entry s c k f ∷ [] → HasRoom 0 q → q.layers ≡ p.layers → IsSeatedAs p q
+  seated_fails p q s c k f is ready same places queue number live adds room layers =
       let n = fail_entry s c k f in
       let ts = live_after [] p.book.items in
       let told = told_live p s None is ready in
@@ -345,13 +363,13 @@ module _ {C B : Type 0} where
       let named : told.0.session ≡ s = found_named s ts told.0 told.1 in
       seated_goes_on p q n None t told.0 is same adds refl refl told.1 named
       (ap (λ (o : Option (Live C)). open_of s o n.event n.answer ts) told.1)
-      (λ o. ap (λ x. wait_in (get nat_cmp x o)) places ∙ at_self p s None o ready (s == o) refl) tt queue (λ o. times_without s o p.waiting.items) number live room
+      (λ o. ap (λ x. wait_in (get nat_cmp x o)) places ∙ at_self p s None o ready (s == o) refl) tt queue (λ o. times_without s o p.waiting.items) number live room layers
 
   -- a call of a transaction that doesn't wait was answered
   pub seated_answers : (p q : Parts C B) (s : ℕ) (c : C) (r : Reply) → IsSeated p → wait_in (get nat_cmp p.places s) ≡ Some None → SameCounts p q
       → ((o : ℕ) → wait_in (get nat_cmp q.places o) ≡ cond (s == o) (Some None) (wait_in (get nat_cmp p.places o))) → q.waiting.items ≡ without s p.waiting.items → q.number ≡ p.number → q.live ≡ p.live
-      → q.book.items ≡ p.book.items ++ call_entry s c (answer.Answered r) ∷ [] → HasRoom 0 q → IsSeatedAs p q
-  seated_answers p q s c r is ready same seats queue number live adds room =
+      → q.book.items ≡ p.book.items ++ call_entry s c (answer.Answered r) ∷ [] → HasRoom 0 q → q.layers ≡ p.layers → IsSeatedAs p q
+  seated_answers p q s c r is ready same seats queue number live adds room layers =
       let n = call_entry s c (answer.Answered r) in
       let ts = live_after [] p.book.items in
       let told = told_live p s None is ready in
@@ -359,13 +377,13 @@ module _ {C B : Type 0} where
       let named : told.0.session ≡ s = found_named s ts told.0 told.1 in
       seated_goes_on p q n None t told.0 is same adds refl refl told.1 named
       (ap (λ (o : Option (Live C)). open_of s o n.event n.answer ts) told.1)
-      seats tt queue (λ o. times_without s o p.waiting.items) number live room
+      seats tt queue (λ o. times_without s o p.waiting.items) number live room layers
 
   -- a transaction begins to wait with a call
   pub seated_waits : (p q : Parts C B) (s : ℕ) (c : C) (g : Request) (hs : List ℕ) → IsSeated p → wait_in (get nat_cmp p.places s) ≡ Some None → SameCounts p q
       → ((o : ℕ) → wait_in (get nat_cmp q.places o) ≡ cond (s == o) (Some (Some (length p.book.items))) (wait_in (get nat_cmp p.places o))) → q.waiting.items ≡ p.waiting.items ++ s ∷ [] → q.number ≡ p.number → q.live ≡ p.live
-      → q.book.items ≡ p.book.items ++ call_entry s c (answer.Waits g.resource g.ask hs) ∷ [] → HasRoom 0 q → IsSeatedAs p q
-  seated_waits p q s c g hs is ready same seats queue number live adds room =
+      → q.book.items ≡ p.book.items ++ call_entry s c (answer.Waits g.resource g.ask hs) ∷ [] → HasRoom 0 q → q.layers ≡ p.layers → IsSeatedAs p q
+  seated_waits p q s c g hs is ready same seats queue number live adds room layers =
       let n = call_entry s c (answer.Waits g.resource g.ask hs) in
       let ts = live_after [] p.book.items in
       let told = told_live p s None is ready in
@@ -373,7 +391,7 @@ module _ {C B : Type 0} where
       let named : told.0.session ≡ s = found_named s ts told.0 told.1 in
       seated_goes_on p q n (Some (length p.book.items)) t told.0 is same adds refl refl told.1 named
       (ap (λ (o : Option (Live C)). open_of s o n.event n.answer ts) told.1)
-      seats (record { entry = n; there = at_end p.book.items n; call = refl }) queue (λ o. last_in o (s == o) refl) number live room
+      seats (record { entry = n; there = at_end p.book.items n; call = refl }) queue (λ o. last_in o (s == o) refl) number live room layers
     where
       not_yet : times s p.waiting.items ≡ 0
       not_yet =
@@ -388,32 +406,34 @@ module _ {C B : Type 0} where
   -- a deadlock
   pub seated_closes : (p q : Parts C B) (s : ℕ) (c : C) (cycle : List ℕ) (w : Option ℕ) → IsSeated p → wait_in (get nat_cmp p.places s) ≡ Some w → SameCounts p q
       → ((o : ℕ) → wait_in (get nat_cmp q.places o) ≡ cond (s == o) None (wait_in (get nat_cmp p.places o))) → q.waiting.items ≡ without s p.waiting.items → q.number ≡ p.number → q.live + 1 ≡ p.live
-      → q.book.items ≡ p.book.items ++ call_entry s c (answer.Deadlock cycle) ∷ [] → vec_capacity p.book ≤ vec_capacity q.book → IsSeatedAs p q
-  seated_closes p q s c cycle w is there same seats queue number live adds capacity =
+      → q.book.items ≡ p.book.items ++ call_entry s c (answer.Deadlock cycle) ∷ [] → vec_capacity p.book ≤ vec_capacity q.book → q.layers ≡ p.layers → IsSeatedAs p q
+  seated_closes p q s c cycle w is there same seats queue number live adds capacity layers =
       let n = call_entry s c (answer.Deadlock cycle) in
       let ts = live_after [] p.book.items in
       let told = told_live p s w is there in
       let named : told.0.session ≡ s = found_named s ts told.0 told.1 in
+      seated_with p q (
       seated_ends p q n told.0 is same adds refl told.1
       (ap (λ (o : Option (Live C)). open_of s o n.event n.answer ts) told.1 ∙ ap (λ (x : ℕ). others x ts) named)
-      seats refl queue (number ∙ plus_none p.number _ refl) (omega (arith)) live capacity
+      seats refl queue (number ∙ plus_none p.number _ refl) (omega (arith)) live capacity) layers
 
   -- an abort
   pub seated_aborts : (p q : Parts C B) (s : ℕ) (w : Option ℕ) → IsSeated p → wait_in (get nat_cmp p.places s) ≡ Some w → SameCounts p q
       → ((o : ℕ) → wait_in (get nat_cmp q.places o) ≡ cond (s == o) None (wait_in (get nat_cmp p.places o))) → q.waiting.items ≡ without s p.waiting.items → q.number ≡ p.number → q.live + 1 ≡ p.live
-      → q.book.items ≡ p.book.items ++ entry s event.Abort said.Nothing ∷ [] → vec_capacity p.book ≤ vec_capacity q.book → IsSeatedAs p q
-  seated_aborts p q s w is there same seats queue number live adds capacity =
+      → q.book.items ≡ p.book.items ++ entry s event.Abort said.Nothing ∷ [] → vec_capacity p.book ≤ vec_capacity q.book → q.layers ≡ p.layers → IsSeatedAs p q
+  seated_aborts p q s w is there same seats queue number live adds capacity layers =
       let n = entry {C = C} s event.Abort said.Nothing in
       let ts = live_after [] p.book.items in
       let told = told_live p s w is there in
+      seated_with p q (
       seated_ends p q n told.0 is same adds refl told.1
       (ap (λ (o : Option (Live C)). open_of s o n.event n.answer ts) told.1)
-      seats refl queue (number ∙ plus_none p.number _ refl) (omega (arith)) live capacity
+      seats refl queue (number ∙ plus_none p.number _ refl) (omega (arith)) live capacity) layers
 
   -- a commit
   pub seated_commits : (p q : Parts C B) (s k : ℕ) (w : Option ℕ) → IsSeated p → wait_in (get nat_cmp p.places s) ≡ Some w → SameCounts p q
       → ((o : ℕ) → wait_in (get nat_cmp q.places o) ≡ cond (s == o) None (wait_in (get nat_cmp p.places o))) → q.waiting.items ≡ without s p.waiting.items → q.number ≡ p.number + 1 → q.live + 1 ≡ p.live
-      → q.book.items ≡ p.book.items ++ entry s event.Commit (said.Number k) ∷ [] → vec_capacity p.book ≤ vec_capacity q.book → IsSeatedAs p q
+      → q.book.items ≡ p.book.items ++ entry s event.Commit (said.Number k) ∷ [] → vec_capacity p.book ≤ vec_capacity q.book → IsSeatedFor p q
   seated_commits p q s k w is there same seats queue number live adds capacity =
       let n = entry {C = C} s event.Commit (said.Number k) in
       let ts = live_after [] p.book.items in
@@ -438,7 +458,7 @@ module _ {C B : Type 0} where
         begun = ap (λ (x : Parts C B). x.begun) same;
         live = ap (λ (x : Parts C B). x.live) same;
         prepared = ap (λ (x : Parts C B). x.prepared) same;
-        spare = ap (λ (x : Parts C B). x.layers.spare) same;
+        layers = ap (λ (x : Parts C B). x.layers) same;
       }
 
   -- one more ordinal fits the limit
@@ -467,7 +487,7 @@ module _ {C B : Type 0} where
         begun = ap (λ (x : Parts C B). x.begun) same;
         live = ap (λ (x : Parts C B). x.live) same;
         prepared = ap (λ (x : Parts C B). x.prepared) same;
-        spare = ap (λ (x : Parts C B). x.layers.spare) same;
+        layers = ap (λ (x : Parts C B). x.layers) same;
       }
 
   -- who has no seat may begin, up to the limit
@@ -507,7 +527,7 @@ module _ {C B : Type 0} where
         begun = ap (λ (x : Parts C B). x.begun) same;
         live = ap (λ (x : Parts C B). x.live) same;
         prepared = ap (λ (x : Parts C B). x.prepared) same;
-        spare = ap (λ (x : Parts C B). x.layers.spare) same;
+        layers = ap (λ (x : Parts C B). x.layers) same;
       }
 
   -- requests were asked
@@ -526,7 +546,7 @@ module _ {C B : Type 0} where
         begun = ap (λ (x : Parts C B). x.begun) same;
         live = ap (λ (x : Parts C B). x.live) same;
         prepared = ap (λ (x : Parts C B). x.prepared) same;
-        spare = ap (λ (x : Parts C B). x.layers.spare) same;
+        layers = ap (λ (x : Parts C B). x.layers) same;
       }
 
 -- a cause stays one after what was read with success before
@@ -555,10 +575,10 @@ module _ {C B : Type 0} where
       go (Some seat) e = sym (call_refused p s seat.waiting is (ap wait_of e))
 
   -- the base and the layers say nothing of sessions
-  pub layered_seated : (p q : Parts C B) (base : B) (layers : Layered) (prepared : Option ℕ) → IsSeated p → q ≡ record p { base = base; layers = layers; prepared = prepared } → KeepsPrepared q → IsSeatedAs p q
-  layered_seated p q base layers prepared is same kept = subst (λ (x : Parts C B). KeepsPrepared x → IsSeatedAs p x) (sym same) one kept
+  pub layered_seated : (p q : Parts C B) (base : B) (layers : Layered) (prepared : Option ℕ) → IsSeated p → q ≡ record p { base = base; layers = layers; prepared = prepared } → KeepsPrepared q → IsSeatedFor p q
+  layered_seated p q base layers prepared is same kept = subst (λ (x : Parts C B). KeepsPrepared x → IsSeatedFor p x) (sym same) one kept
     where
-      one : KeepsPrepared (record p { base = base; layers = layers; prepared = prepared }) → IsSeatedAs p (record p { base = base; layers = layers; prepared = prepared })
+      one : KeepsPrepared (record p { base = base; layers = layers; prepared = prepared }) → IsSeatedFor p (record p { base = base; layers = layers; prepared = prepared })
       one kept = record {
         seated = record {
           seats = is.seats;
@@ -604,5 +624,5 @@ module _ {C B : Type 0} where
         begun = ap (λ (x : Parts C B). x.begun) same;
         live = ap (λ (x : Parts C B). x.live) same;
         prepared = ap (λ (x : Parts C B). x.prepared) same;
-        spare = ap (λ (x : Parts C B). x.layers.spare) same;
+        layers = ap (λ (x : Parts C B). x.layers) same;
       }

@@ -20,7 +20,7 @@ use Rattle.tx_core.specs.inside.Sessions.{wait_of, wait_in, HasCallAt, IsWait, I
 use Rattle.tx_core.specs.inside.Retrying.{call_of, call_at, call_by, call_in, waiting_call, retry_entry, failed_retry}
 use Rattle.tx_core.proofs.Booked.{times_without, call_stays, length_without, longer}
 use Rattle.tx_core.proofs.Seats.{is_self}
-use Rattle.tx_core.proofs.Told.{SameCounts, at_self, live_one, once, plus_none, seated_ends, seated_goes_on, told_live, told_waits}
+use Rattle.tx_core.proofs.Told.{SameCounts, at_self, live_one, once, plus_none, seated_ends, seated_goes_on, seated_with, told_live, told_waits}
 
 -- one of them fewer
 pub one_less : (s : ℕ) (xs : List ℕ) → 1 ≤ times s xs → length (without s xs) + 1 ≤ length xs
@@ -120,8 +120,8 @@ module _ {C B : Type 0} where
   -- a waiting call was answered
   pub seated_answers_again : (p q : Parts C B) (s i : ℕ) (r : Reply) → IsSeated p → wait_in (get nat_cmp p.places s) ≡ Some (Some i) → SameCounts p q
       → ((o : ℕ) → wait_in (get nat_cmp q.places o) ≡ cond (s == o) (Some None) (wait_in (get nat_cmp p.places o))) → q.waiting.items ≡ without s p.waiting.items → q.number ≡ p.number → q.live ≡ p.live
-      → q.book.items ≡ p.book.items ++ retry_entry s (answer.Answered r) ∷ [] → vec_capacity p.book ≤ vec_capacity q.book → IsSeatedAs p q
-  seated_answers_again p q s i r is there same seats queue number live adds capacity =
+      → q.book.items ≡ p.book.items ++ retry_entry s (answer.Answered r) ∷ [] → vec_capacity p.book ≤ vec_capacity q.book → q.layers ≡ p.layers → IsSeatedAs p q
+  seated_answers_again p q s i r is there same seats queue number live adds capacity layers =
       let n : Noted C = retry_entry s (answer.Answered r) in
       let ts = live_after [] p.book.items in
       let told = told_waiting p s i is there in
@@ -129,13 +129,13 @@ module _ {C B : Type 0} where
       let named : told.0.session ≡ s = found_named s ts told.0 told.2 in
       seated_goes_on p q n None t told.0 is same adds refl refl told.2 named
       (ap (λ (o : Option (Live C)). open_of s o n.event n.answer ts) told.2 ∙ ap (λ (w : Option (Waiting C)). called_again told.0 w n.answer ts) told.3)
-      seats tt queue (λ o. times_without s o p.waiting.items) number live (rest_room p q s i n is there adds queue live capacity)
+      seats tt queue (λ o. times_without s o p.waiting.items) number live (rest_room p q s i n is there adds queue live capacity) layers
 
   -- it waits again
   pub seated_waits_again : (p q : Parts C B) (s i : ℕ) (g : Request) (hs : List ℕ) → IsSeated p → wait_in (get nat_cmp p.places s) ≡ Some (Some i) → SameCounts p q
       → q.places ≡ p.places → q.waiting.items ≡ p.waiting.items → q.number ≡ p.number → q.live ≡ p.live
-      → q.book.items ≡ p.book.items ++ retry_entry s (answer.Waits g.resource g.ask hs) ∷ [] → HasRoom 0 q → IsSeatedAs p q
-  seated_waits_again p q s i g hs is there same places queue number live adds room =
+      → q.book.items ≡ p.book.items ++ retry_entry s (answer.Waits g.resource g.ask hs) ∷ [] → HasRoom 0 q → q.layers ≡ p.layers → IsSeatedAs p q
+  seated_waits_again p q s i g hs is there same places queue number live adds room layers =
       let n : Noted C = retry_entry s (answer.Waits g.resource g.ask hs) in
       let ts = live_after [] p.book.items in
       let told = told_waiting p s i is there in
@@ -144,7 +144,7 @@ module _ {C B : Type 0} where
       seated_goes_on p q n (Some i) t told.0 is same adds refl refl told.2 named
       (ap (λ (o : Option (Live C)). open_of s o n.event n.answer ts) told.2 ∙ ap (λ (w : Option (Waiting C)). called_again told.0 w n.answer ts) told.3)
       (λ o. ap (λ x. wait_in (get nat_cmp x o)) places ∙ at_self p s (Some i) o there (s == o) refl)
-      (call_stays p.book.items (n ∷ []) i told.1.call told.4) queue (λ o. in_queue o (s == o) refl) number live room
+      (call_stays p.book.items (n ∷ []) i told.1.call told.4) queue (λ o. in_queue o (s == o) refl) number live room layers
     where
       in_queue : (o : ℕ) (b : Bool) → (s == o) ≡ b → times o p.waiting.items ≡ cond b 1 (times o p.waiting.items)
       in_queue o true e = ap (λ (x : ℕ). times x p.waiting.items) (sym (is_self s o e)) ∙ queued p s i is there
@@ -153,21 +153,22 @@ module _ {C B : Type 0} where
   -- its retry was a deadlock
   pub seated_closes_again : (p q : Parts C B) (s i : ℕ) (cycle : List ℕ) → IsSeated p → wait_in (get nat_cmp p.places s) ≡ Some (Some i) → SameCounts p q
       → ((o : ℕ) → wait_in (get nat_cmp q.places o) ≡ cond (s == o) None (wait_in (get nat_cmp p.places o))) → q.waiting.items ≡ without s p.waiting.items → q.number ≡ p.number → q.live + 1 ≡ p.live
-      → q.book.items ≡ p.book.items ++ retry_entry s (answer.Deadlock cycle) ∷ [] → vec_capacity p.book ≤ vec_capacity q.book → IsSeatedAs p q
-  seated_closes_again p q s i cycle is there same seats queue number live adds capacity =
+      → q.book.items ≡ p.book.items ++ retry_entry s (answer.Deadlock cycle) ∷ [] → vec_capacity p.book ≤ vec_capacity q.book → q.layers ≡ p.layers → IsSeatedAs p q
+  seated_closes_again p q s i cycle is there same seats queue number live adds capacity layers =
       let n : Noted C = retry_entry s (answer.Deadlock cycle) in
       let ts = live_after [] p.book.items in
       let told = told_waiting p s i is there in
       let named : told.0.session ≡ s = found_named s ts told.0 told.2 in
+      seated_with p q (
       seated_ends p q n told.0 is same adds refl told.2
       (ap (λ (o : Option (Live C)). open_of s o n.event n.answer ts) told.2 ∙ ap (λ (w : Option (Waiting C)). called_again told.0 w n.answer ts) told.3 ∙ ap (λ (x : ℕ). others x ts) named)
-      seats refl queue (number ∙ plus_none p.number _ refl) (omega (arith)) live capacity
+      seats refl queue (number ∙ plus_none p.number _ refl) (omega (arith)) live capacity) layers
 
   -- its retry failed
   pub seated_fails_again : (p q : Parts C B) (s i k : ℕ) (f : Option ℕ) → IsSeated p → wait_in (get nat_cmp p.places s) ≡ Some (Some i) → SameCounts p q
       → ((o : ℕ) → wait_in (get nat_cmp q.places o) ≡ cond (s == o) (Some None) (wait_in (get nat_cmp p.places o))) → q.waiting.items ≡ without s p.waiting.items → q.number ≡ p.number → q.live ≡ p.live
-      → q.book.items ≡ p.book.items ++ failed_retry s k f ∷ [] → vec_capacity p.book ≤ vec_capacity q.book → IsSeatedAs p q
-  seated_fails_again p q s i k f is there same seats queue number live adds capacity =
+      → q.book.items ≡ p.book.items ++ failed_retry s k f ∷ [] → vec_capacity p.book ≤ vec_capacity q.book → q.layers ≡ p.layers → IsSeatedAs p q
+  seated_fails_again p q s i k f is there same seats queue number live adds capacity layers =
       let n : Noted C = failed_retry s k f in
       let ts = live_after [] p.book.items in
       let told = told_waiting p s i is there in
@@ -175,4 +176,4 @@ module _ {C B : Type 0} where
       let named : told.0.session ≡ s = found_named s ts told.0 told.2 in
       seated_goes_on p q n None t told.0 is same adds refl refl told.2 named
       (ap (λ (o : Option (Live C)). open_of s o n.event n.answer ts) told.2)
-      seats tt queue (λ o. times_without s o p.waiting.items) number live (rest_room p q s i n is there adds queue live capacity)
+      seats tt queue (λ o. times_without s o p.waiting.items) number live (rest_room p q s i n is there adds queue live capacity) layers

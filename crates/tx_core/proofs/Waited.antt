@@ -9,7 +9,8 @@ use Rattle.call_contract.specs.Waits.{cycle_through}
 use Rattle.call_contract.proofs.Lists.{found_named}
 use Rattle.call_contract.proofs.Rising.{rises_put}
 use Rattle.tx_core.specs.declared.parts.Parts.{Parts}
-use Rattle.tx_core.specs.inside.Standing.{Stands, grants_of, request_of}
+use Rattle.tx_core.specs.Holding.{grants_of, request_of}
+use Rattle.tx_core.specs.inside.Standing.{Stands}
 use Rattle.call_contract.specs.Books.{Book}
 use Rattle.tx_core.specs.inside.Goes.{Stays, IsPut, IsClosed, IsStopped, shown_wait, call_entry, with_wait}
 use Rattle.call_contract.specs.declared.events.Answer.{Answer}
@@ -37,11 +38,10 @@ module _ {C B : Type 0} (is_valid : C → Type 0) (m : CallMeaning C) (told : B 
       → waited ≡ g → noted ≡ g → shown ≡ g → named ≡ hs → b ≡ shown_wait noted named → a ≡ shown_wait shown hs
       → ((st : State C) (t : Live C) → Stands is_valid m told p st → of_session s st.live ≡ Some t → cycle_through (with_wait st t c g).live s ≡ None)
       → ((st : State C) (t : Live C) → Stands is_valid m told p st → of_session s st.live ≡ Some t → Stands is_valid m told q (record (with_wait st t c waited) { waiting = st.waiting ++ s ∷ [] }))
-      → q.book.items ≡ p.book.items ++ call_entry s c b ∷ [] → q.faults ≡ p.faults → q.prepared ≡ None
+      → q.book.items ≡ p.book.items ++ call_entry s c b ∷ [] → q.prepared ≡ None
       → IsPut is_valid m told p s c g hs a q
-  is_put p q s c g waited noted shown hs named a b waited_is noted_is shown_is named_is b_is a_is alone state book faults prepared = record {
+  is_put p q s c g waited noted shown hs named a b waited_is noted_is shown_is named_is b_is a_is alone state book prepared = record {
     book = book ∙ ap (λ (x : Answer). p.book.items ++ call_entry s c x ∷ []) (b_is ∙ ap (λ (x : Request). shown_wait x named) noted_is ∙ ap (shown_wait g) named_is ∙ sym is_shown);
-    faults = faults;
     prepared = prepared;
     is = is_shown;
     alone = alone;
@@ -56,7 +56,6 @@ module _ {C B : Type 0} (is_valid : C → Type 0) (m : CallMeaning C) (told : B 
       → IsPut is_valid m told p1 s c g hs a q → IsStopped is_valid m told p s c g hs a q
   put_after p p1 q s c g hs a stays is = inl (record {
     book = is.book ∙ ap (λ (b : Book C). b ++ call_entry s c a ∷ []) stays.book;
-    faults = is.faults ∙ stays.faults;
     prepared = is.prepared;
     is = is.is;
     alone = λ st t stands found. is.alone st t (stays.state st stands) found;
@@ -67,7 +66,6 @@ module _ {C B : Type 0} (is_valid : C → Type 0) (m : CallMeaning C) (told : B 
       → IsClosed is_valid m told p1 s c g a q → IsStopped is_valid m told p s c g hs a q
   closed_after p p1 q s c g hs a stays is = inr (record {
     book = is.book ∙ ap (λ (b : Book C). b ++ call_entry s c a ∷ []) stays.book;
-    faults = is.faults ∙ stays.faults;
     prepared = is.prepared;
     cycle = is.cycle;
     is = is.is;
@@ -78,7 +76,6 @@ module _ {C B : Type 0} (is_valid : C → Type 0) (m : CallMeaning C) (told : B 
   pub stays_on : (p p1 q : Parts C B) → Stays is_valid m told p p1 → Stays is_valid m told p1 q → Stays is_valid m told p q
   stays_on p p1 q one two = record {
     book = two.book ∙ one.book;
-    faults = two.faults ∙ one.faults;
     prepared = two.prepared ∙ one.prepared;
     state = λ st stands. two.state st (one.state st stands);
   }

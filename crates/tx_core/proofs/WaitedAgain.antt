@@ -9,7 +9,8 @@ use Rattle.call_contract.specs.Waits.{cycle_through}
 use Rattle.call_contract.specs.declared.events.Answer.{Answer}
 use Rattle.tx_core.specs.Retries.{same_request}
 use Rattle.tx_core.specs.declared.parts.Parts.{Parts}
-use Rattle.tx_core.specs.inside.Standing.{Stands, request_of, waited_of}
+use Rattle.tx_core.specs.Holding.{request_of, waited_of}
+use Rattle.tx_core.specs.inside.Standing.{Stands}
 use Rattle.call_contract.specs.Books.{Book}
 use Rattle.tx_core.specs.inside.Goes.{Stays, shown_wait, with_wait}
 use Rattle.tx_core.specs.inside.Retrying.{WaitsAgain, IsPutAgain, IsClosedAgain, IsStoppedAgain, retry_entry, waits_for_it}
@@ -32,7 +33,6 @@ module _ {C B : Type 0} (is_valid : C → Type 0) (m : CallMeaning C) (told : B 
       → WaitsAgain is_valid m told p s g hs more a p
   kept_waiting p s g shown hs more r a is same none by on alone = record {
     is = is ∙ ap (λ (x : Request). shown_wait x hs) same;
-    faults = refl;
     alone = alone;
     noted = false;
     changed = λ st t w stands found waiting. both_off more (same_request w.request g) none (sym (same_wait p s g st t w stands found waiting) ∙ sym by ∙ on);
@@ -44,11 +44,10 @@ module _ {C B : Type 0} (is_valid : C → Type 0) (m : CallMeaning C) (told : B 
       → (more || not r) ≡ true → r ≡ waits_for_it (waits p.graph s) g
       → ((st : State C) (t : Live C) (c : C) → Stands is_valid m told p st → of_session s st.live ≡ Some t → cycle_through (with_wait st t c g).live s ≡ None)
       → mid ≡ q → Alike p mid → mid.begun ≡ p.begun → mid.places ≡ p.places → mid.table ≡ p.table → ((o : ℕ) → waits mid.graph o ≡ with_request (waits p.graph) s (Some waited) o) → mid.waiting.items ≡ p.waiting.items
-      → mid.faults ≡ p.faults → mid.prepared ≡ None → q.book.items ≡ p.book.items ++ retry_entry s b ∷ []
+      → mid.prepared ≡ None → q.book.items ≡ p.book.items ++ retry_entry s b ∷ []
       → WaitsAgain is_valid m told p s g hs more a q
-  put_waiting_again p q mid s g waited noted shown hs named more r a b waited_is noted_is shown_is named_is b_is a_is on by alone same alike begun places table graph queue faults prepared book = record {
+  put_waiting_again p q mid s g waited noted shown hs named more r a b waited_is noted_is shown_is named_is b_is a_is on by alone same alike begun places table graph queue prepared book = record {
     is = is_shown;
-    faults = sym (ap (λ (x : Parts C B). x.faults) same) ∙ faults;
     alone = alone;
     noted = true;
     changed = λ st t w stands found waiting. ap (λ (x : Bool). more || not x) (sym (same_wait p s g st t w stands found waiting) ∙ sym by) ∙ on;
@@ -81,7 +80,6 @@ module _ {C B : Type 0} (is_valid : C → Type 0) (m : CallMeaning C) (told : B 
   closed_after_again p p1 q s g hs more a stays is = inr (record {
     book = is.book ∙ ap (λ (b : Book C). b ++ retry_entry s a ∷ []) stays.book;
     prepared = is.prepared;
-    faults = is.faults ∙ stays.faults;
     cycle = is.cycle;
     is = is.is;
     closes = λ st t c stands found. is.closes st t c (stays.state st stands) found;
@@ -93,7 +91,6 @@ module _ {C B : Type 0} (is_valid : C → Type 0) (m : CallMeaning C) (told : B 
       → WaitsAgain is_valid m told p1 s g hs more a q → IsStoppedAgain is_valid m told p s g hs more a q
   waits_after_again p p1 q s g hs more a stays prepared places queue is = inl (record {
     is = is.is;
-    faults = is.faults ∙ stays.faults;
     alone = λ st t c stands found. is.alone st t c (stays.state st stands) found;
     noted = is.noted;
     changed = λ st t w stands found waiting. is.changed st t w (stays.state st stands) found waiting;

@@ -1,5 +1,6 @@
 -- A core as contracts see it: what it was opened with, its base, and its book.
-use Rattle.std.specs.Prelude.{◌≡◌, ◌⊎◌, ℕ, ◌+◌, Bool, false, [], ◌∷◌, ◌++◌, Option, Some, None, is_some}
+use Rattle.std.specs.Prelude.{◌≡◌, ◌⊎◌, ℕ, ◌+◌, ◌<◌, Bool, false, [], ◌∷◌, ◌++◌, Option, Some, None, is_some}
+use Rattle.tree_model.specs.Entries.{Entries}
 use Rattle.tree_model.specs.Tree.{Tree}
 use Rattle.call_contract.specs.Calls.{CallMeaning}
 use Rattle.call_contract.specs.States.{Live, State, start}
@@ -8,14 +9,17 @@ use Rattle.call_contract.specs.declared.events.Event.TheVariants as event
 use Rattle.call_contract.specs.declared.events.EventAnswer.TheVariants as said
 use Rattle.call_contract.specs.declared.events.Noted.{Noted}
 use Rattle.call_contract.specs.Books.{Book, entry, last}
+use Rattle.tx_core.specs.declared.errors.CallError.{CallError}
+use Rattle.tx_core.specs.declared.errors.CallError.TheVariants.{Session, DiskFault, NoMemory}
 
--- the base that it was opened over, the number of the opening's commit, the limit, the base now, the book,
+-- the base that it was opened over, the number of the opening's commit, the limit, the base now, the map of what is committed where it is known, the book,
 -- and the session whose commit was prepared since the last entry, if one was
 pub record CoreView (C B : Type 0) : Type 0 where
   pub opening : B
   pub number : ℕ
   pub limit : ℕ
   pub base : B
+  pub committed : Option Entries
   pub book : Book C
   pub prepared : Option ℕ
 
@@ -26,6 +30,10 @@ with_entry v n = record v { book = v.book ++ n ∷ []; prepared = None }
 -- over a base that was read
 abbrev pub over : {C B : Type 0} → CoreView C B → B → CoreView C B
 over v base = record v { base = base }
+
+-- with this committed map
+abbrev pub with_committed : {C B : Type 0} → CoreView C B → Option Entries → CoreView C B
+with_committed v committed = record v { committed = committed }
 
 -- the state after its book, from the tree that it was opened over
 abbrev pub state_from : {C B : Type 0} → CallMeaning C → Tree → CoreView C B → State C
@@ -40,6 +48,23 @@ abbrev pub waits_in : {C : Type 0} → Option (Live C) → Bool
 waits_in None = false
 waits_in (Some t) = is_some t.waits
 
--- an attempt without an answer: the core is as it was, or its book gains that the attempt failed after so many grants
-abbrev pub HasNoAnswer : {C B : Type 0} → CoreView C B → ℕ → C → CoreView C B → Type 0
-HasNoAnswer v s c w = (w ≡ over v w.base) ⊎ ((k : ℕ) × (f : Option ℕ) × (w ≡ over (with_entry v (entry s (event.Fail (Some c) k f) said.Nothing)) w.base))
+-- ---- failed attempts
+
+-- the book gains that a call, or a retry where there is none, failed after so many grants
+abbrev pub with_failed : {C B : Type 0} → CoreView C B → ℕ → Option C → ℕ → Option ℕ → CoreView C B
+with_failed v s c k f = with_entry v (entry s (event.Fail c k f) said.Nothing)
+
+-- the count that such an entry tells: the base's after a fault, none after want of memory
+abbrev pub count_told : CallError → ℕ → Option ℕ
+count_told DiskFault now = Some now
+count_told e now = None
+
+-- what an attempt leaves that isn't answered, by why: a fault is always noted, with the base's count now; want of memory only where something was granted
+abbrev pub IsLeftBy : {C B : Type 0} → (B → ℕ) → CoreView C B → ℕ → C → CallError → CoreView C B → Type 0
+IsLeftBy count v s c (Session why) w = w ≡ v
+IsLeftBy count v s c NoMemory w = (w ≡ over v w.base) ⊎ ((k : ℕ) × (0 < k) × (w ≡ over (with_failed v s (Some c) k None) w.base))
+IsLeftBy count v s c DiskFault w = (k : ℕ) × (w ≡ over (with_failed v s (Some c) k (Some (count w.base))) w.base)
+
+-- what a retry leaves that isn't answered, by why: it is always noted
+abbrev pub IsGivenUpBy : {C B : Type 0} → (B → ℕ) → CoreView C B → ℕ → CallError → CoreView C B → Type 0
+IsGivenUpBy count v s e w = (k : ℕ) × (w ≡ over (with_failed v s None k (count_told e (count w.base))) w.base)

@@ -7,7 +7,7 @@ ghost use Rattle.node_seq.specs.ChangeLists.{IsChangeList};
 ghost use Rattle.wait_graph.specs.Graphs.{place as place_by, ClosesNone, IsClosedCycle};
 ghost use Rattle.call_contract.specs.States.{State, Live, of_session};
 ghost use Rattle.call_contract.specs.Waits.{cycle_through};
-ghost use Rattle.call_contract.specs.Books.{IsAbove, latest as latest_of};
+ghost use Rattle.tx_core.specs.inside.Committing.{commit_refused};
 ghost use Rattle.tx_core.specs.inside.Asking.{granted_in, IsInside};
 ghost use Rattle.tx_core.specs.inside.Known.{IsKnown, seen_by};
 ghost use Rattle.outside_traits.specs.Faults.{HasCause};
@@ -17,12 +17,12 @@ ghost use Rattle.tx_core.specs.Refusals.{shown_call_refusal, refused_call};
 ghost use Rattle.tx_core.specs.declared.errors.CallError.TheVariants as call_error;
 ghost use Rattle.tx_core.specs.inside.Sessions.{HasRoom, IsSeated, IsSeatedAs, wait_in, call_error_of};
 ghost use Rattle.tx_core.specs.inside.Standing.{Stands, seat_in, ordinal_in};
-ghost use Rattle.tx_core.specs.inside.Goes.{Stays, Goes, Reaches, IsAsked, IsMade, IsAccepted, IsAnswered, IsClosed, IsFailed, IsPut, IsStopped, IsGivenUp, IsLeft, IsSettled, IsUnanswered, call_entry, fail_entry, shown_wait, with_wait};
+ghost use Rattle.tx_core.specs.inside.Goes.{Stays, Goes, Reaches, IsAsked, IsMade, IsAccepted, IsAnswered, IsClosed, IsFailed, IsPut, IsStopped, IsLeft, IsSettled, IsUnanswered, call_entry, fail_entry, shown_wait, with_wait};
 
 use crate::asking::{Got, Outcome, Wanted, ask_all, asked, made};
 use crate::ends::{make_room, note, stop_waiting};
 use crate::errors::{CallError, SessionError};
-use crate::parts::{Parts, Seat};
+use crate::parts::{Parts, Places, Seat};
 use crate::places::{seat_again, seat_at, unseat};
 use call_contract::{Answer, Event, EventAnswer, Noted, TreeCall};
 use dewey_labels::{List, NoMemory};
@@ -37,30 +37,20 @@ pub fn requests_of<C: TreeCall + Drop, B: NodeRead>(
     parts: &mut Parts<C, B>,
     session: u32,
     call: &C,
-) -> Result<Wanted, CallError>
-    requires { IsSeated parts.old }
+) -> Result<Wanted, SeqError>
+    requires ready { wait_in (get nat_cmp parts.old.places session) ≡ Some None }
     ensures value { IfOk result (λ wanted. (st : State C) → Stands C.is_valid C.meaning B.contents parts.old st
         → IsAsked C.meaning st session call.now wanted.requests) }
     ensures known { IfOk result (λ wanted. IsKnown C.is_valid C.meaning (seen_by B.contents parts.new session) call.now wanted.reply) }
-    ensures valid { OnOk result (C.is_valid call.now) }
-    ensures ready { OnOk result (wait_in (get nat_cmp parts.old.places session) ≡ Some None) }
-    ensures refused { shown_call_refusal result ≡ refused_call (live_in parts.old.book.items session) }
-    ensures refused_same { IfSome (shown_call_refusal result) (λ why. parts.new ≡ parts.old) }
+    ensures valid { C.is_valid call.now }
     ensures stays { Stays C.is_valid C.meaning B.contents parts.old parts.new }
     ensures same { parts.new ≡ record parts.old { base = parts.new.base } }
     ensures unchanged { B.unchanged parts.old.base parts.new.base }
-    ensures cause { HasCause call_error.DiskFault (B.count parts.old.base) (B.count parts.new.base) result }
+    ensures cause { HasCause DiskFault (B.count parts.old.base) (B.count parts.new.base) result }
 {
-    let Some(seat) = seat_at(&parts.places, session) else {
-        return Err(CallError::Session(SessionError::NoTransaction));
-    };
-    if seat.waiting.is_some() {
-        return Err(CallError::Session(SessionError::IsWaiting));
-    }
-    match asked(alloc, &mut parts.base, &parts.layers, &seat.own, call) {
-        Ok(wanted) => Ok(wanted),
-        Err(SeqError::DiskFault) => Err(CallError::DiskFault),
-        Err(SeqError::NoMemory) => Err(CallError::NoMemory),
+    match seat_at(&parts.places, session) {
+        Some(seat) => asked(alloc, &mut parts.base, &parts.layers, &seat.own, call),
+        None => unreachable!(),
     }
 }
 
@@ -149,26 +139,6 @@ pub fn accept<C: TreeCall + Drop, B: NodeRead>(
     }
 }
 
-/// The count of faults now, if it is above the last one that was noted.
-pub fn later_fault(last: Option<u64>, now: u64) -> Option<u64>
-    ensures { IsAbove last result }
-{
-    match last {
-        Some(before) if now <= before => None,
-        _ => Some(now),
-    }
-}
-
-/// The last count of two.
-pub fn latest(before: Option<u64>, now: Option<u64>) -> Option<u64>
-    ensures { result ≡ latest_of before now }
-{
-    match now {
-        Some(faults) => Some(faults),
-        None => before,
-    }
-}
-
 /// Notes that an attempt failed after so many grants.
 pub fn fail<C: TreeCall + Drop, B: NodeRead>(
     parts: &mut Parts<C, B>,
@@ -180,7 +150,6 @@ pub fn fail<C: TreeCall + Drop, B: NodeRead>(
     requires seated { IsSeated parts.old }
     requires ready { wait_in (get nat_cmp parts.old.places session) ≡ Some None }
     requires room { HasRoom 1 parts.old }
-    requires above { IsAbove parts.old.faults faults }
     requires some { (is_some faults || nat_lt 0 grants) ≡ true }
     ensures failed { IsFailed C.is_valid C.meaning B.contents parts.old session call grants faults parts.new }
     ensures seated { IsSeatedAs parts.old parts.new }
@@ -188,7 +157,6 @@ pub fn fail<C: TreeCall + Drop, B: NodeRead>(
 {
     stop_waiting(&mut parts.waiting, session);
     parts.prepared = None;
-    parts.faults = latest(parts.faults, faults);
     note(
         &mut parts.book,
         Noted {
@@ -287,7 +255,6 @@ fn set_waiting<C: TreeCall + Drop, B: NodeRead>(
     ensures state { (st : State C) (t : Live C) → Stands C.is_valid C.meaning B.contents parts.old st → of_session session st.live ≡ Some t
         → Stands C.is_valid C.meaning B.contents parts.new (record (with_wait st t call request) { waiting = st.waiting ++ session ∷ [] }) }
     ensures book { parts.new.book.items ≡ parts.old.book.items ++ call_entry session call noted ∷ [] }
-    ensures faults { parts.new.faults ≡ parts.old.faults }
     ensures prepared { parts.new.prepared ≡ None }
     ensures seated { IsSeatedAs parts.old parts.new }
     ensures base { parts.new.base ≡ parts.old.base }
@@ -470,7 +437,7 @@ fn end_by_cycle<C: TreeCall + Drop, B: NodeRead>(
 /// The most requests of a call, so that their number fits an entry.
 pub const MOST_REQUESTS: usize = 4_294_967_295;
 
-/// Gives an attempt up after so many grants: where something was granted or the count of faults rose, that is noted.
+/// Gives an attempt up after so many grants. That is noted after a fault, with the base's count, and where something was granted.
 fn give_up<C: TreeCall + Drop, B: NodeRead>(
     parts: &mut Parts<C, B>,
     session: u32,
@@ -482,17 +449,15 @@ fn give_up<C: TreeCall + Drop, B: NodeRead>(
     requires ready { wait_in (get nat_cmp parts.old.places session) ≡ Some None }
     requires room { HasRoom 2 parts.old }
     requires fits { granted ≤ 4_294_967_295 }
-    ensures given_up { IsGivenUp C.is_valid C.meaning B.contents parts.old session call granted parts.new }
+    ensures left { IsLeft C.is_valid C.meaning B.contents B.count parts.old session call granted result parts.new }
     ensures error { result ≡ call_error_of error }
     ensures seated { IsSeatedAs parts.old parts.new }
     ensures base { parts.new.base ≡ parts.old.base }
 {
     match error {
         SeqError::DiskFault => {
-            let faults = later_fault(parts.faults, parts.base.faults());
-            if granted > 0 || faults.is_some() {
-                fail(parts, session, call, granted as u32, faults);
-            }
+            let faults = parts.base.faults();
+            fail(parts, session, call, granted as u32, Some(faults));
             CallError::DiskFault
         }
         SeqError::NoMemory => {
@@ -505,6 +470,7 @@ fn give_up<C: TreeCall + Drop, B: NodeRead>(
 }
 
 /// Answers, waits or gives up, as far as the requests were granted.
+#[tactic(auto, using(crate::proofs::Attempted::left_after))]
 fn settle<C: TreeCall + Drop, B: NodeRead>(
     alloc: Global,
     parts: &mut Parts<C, B>,
@@ -521,7 +487,7 @@ fn settle<C: TreeCall + Drop, B: NodeRead>(
     requires inside { IsInside requests.now got }
     requires fits { granted_in requests.now got ≤ 4_294_967_295 }
     ensures ok { IfOk result (λ a. IsSettled C.is_valid C.meaning B.contents parts.old session call requests.now got a parts.new) }
-    ensures err { OnErr result (IsLeft C.is_valid C.meaning B.contents parts.old session call (granted_in requests.now got) parts.new) }
+    ensures err { IfErr result (λ e. IsLeft C.is_valid C.meaning B.contents B.count parts.old session call (granted_in requests.now got) e parts.new) }
     ensures refused { shown_call_refusal result ≡ None }
     ensures seated { IsSeatedAs parts.old parts.new }
     ensures unchanged { B.unchanged parts.old.base parts.new.base }
@@ -544,6 +510,50 @@ fn settle<C: TreeCall + Drop, B: NodeRead>(
     }
 }
 
+/// An attempt of a call by a transaction that doesn't wait, with room in the book for what it comes to.
+fn attempt_in_room<C: TreeCall + Drop, B: NodeRead>(
+    alloc: Global,
+    parts: &mut Parts<C, B>,
+    session: u32,
+    call: C,
+) -> Result<Answer, CallError>
+    requires seated { IsSeated parts.old }
+    requires ready { wait_in (get nat_cmp parts.old.places session) ≡ Some None }
+    requires room { HasRoom 2 parts.old }
+    ensures ok { IfOk result (λ a. Goes C.is_valid C.meaning B.contents parts.old (call_entry session call a) parts.new) }
+    ensures err { IfErr result (λ e. IsUnanswered C.is_valid C.meaning B.contents B.count parts.old session call e parts.new) }
+    ensures refused { shown_call_refusal result ≡ None }
+    ensures seated { IsSeatedAs parts.old parts.new }
+    ensures unchanged { B.unchanged parts.old.base parts.new.base }
+    ensures cause { HasCause call_error.DiskFault (B.count parts.old.base) (B.count parts.new.base) result }
+{
+    let Wanted { requests, reply } = match requests_of(alloc, parts, session, &call) {
+        Ok(wanted) => wanted,
+        Err(error) => return Err(give_up(parts, session, call, 0, error)),
+    };
+    if requests.len() > MOST_REQUESTS {
+        return Err(CallError::NoMemory);
+    }
+    let got = ask_in_turn(alloc, parts, session, requests.as_slice());
+    settle(alloc, parts, session, call, requests.as_slice(), reply, got)
+}
+
+/// Why a session's transaction may not attempt a call, if it may not.
+fn refusal_at(places: &Places, session: u32) -> Option<SessionError>
+    ensures { result ≡ commit_refused (seat_in (get nat_cmp places.now session)) }
+{
+    match seat_at(places, session) {
+        Some(seat) => {
+            if seat.waiting.is_some() {
+                Some(SessionError::IsWaiting)
+            } else {
+                None
+            }
+        }
+        None => Some(SessionError::NoTransaction),
+    }
+}
+
 /// An attempt of a call: it is answered, waits or ends in a deadlock, or it is given up.
 pub fn attempt<C: TreeCall + Drop, B: NodeRead>(
     alloc: Global,
@@ -553,20 +563,17 @@ pub fn attempt<C: TreeCall + Drop, B: NodeRead>(
 ) -> Result<Answer, CallError>
     requires { IsSeated parts.old }
     ensures ok { IfOk result (λ a. Goes C.is_valid C.meaning B.contents parts.old (call_entry session call a) parts.new) }
-    ensures err { OnErr result (IsUnanswered C.is_valid C.meaning B.contents parts.old session call parts.new) }
+    ensures err { IfErr result (λ e. IsUnanswered C.is_valid C.meaning B.contents B.count parts.old session call e parts.new) }
     ensures refused { shown_call_refusal result ≡ refused_call (live_in parts.old.book.items session) }
-    ensures same { IfSome (shown_call_refusal result) (λ why. parts.new ≡ parts.old) }
     ensures seated { IsSeatedAs parts.old parts.new }
     ensures unchanged { B.unchanged parts.old.base parts.new.base }
     ensures cause { HasCause call_error.DiskFault (B.count parts.old.base) (B.count parts.new.base) result }
 {
-    let Wanted { requests, reply } = requests_of(alloc, parts, session, &call)?;
-    if requests.len() > MOST_REQUESTS {
-        return Err(CallError::NoMemory);
+    if let Some(why) = refusal_at(&parts.places, session) {
+        return Err(CallError::Session(why));
     }
-    let Ok(()) = make_room(parts) else {
-        return Err(CallError::NoMemory);
-    };
-    let got = ask_in_turn(alloc, parts, session, requests.as_slice());
-    settle(alloc, parts, session, call, requests.as_slice(), reply, got)
+    match make_room(parts) {
+        Ok(()) => attempt_in_room(alloc, parts, session, call),
+        Err(_) => Err(CallError::NoMemory),
+    }
 }

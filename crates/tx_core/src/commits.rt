@@ -15,7 +15,7 @@ ghost use Rattle.tx_core.specs.declared.errors.SessionError.TheVariants as error
 ghost use Rattle.tx_core.specs.Commits.{body_limit, HasChangesOf, IsPastLimitIn};
 ghost use Rattle.tx_core.specs.Refusals.{shown_prepare_refusal};
 ghost use Rattle.tx_core.specs.inside.Committing.{IsReady, HasChanges, commit_refused, IsCommit, GoesOn};
-ghost use Rattle.tx_core.specs.inside.Sessions.{IsSeated, IsSeatedAs};
+ghost use Rattle.tx_core.specs.inside.Sessions.{IsSeated, IsSeatedFor};
 ghost use Rattle.tx_core.specs.inside.Standing.{Stands, seat_in, ordinal_in};
 
 use crate::SessionError;
@@ -96,6 +96,7 @@ pub fn prepare<C: TreeCall + Drop, B: NodeRead>(
         → HasChangesOf C.meaning st session prepared) }
     ensures prepared { OnOk result (parts.new.prepared ≡ Some session) }
     ensures spare { OnOk result (1 ≤ parts.new.layers.spare) }
+    ensures layers { parts.new.layers.changes ≡ parts.old.layers.changes }
     ensures ready { OnOk result (IsReady (seat_in (get nat_cmp parts.new.places session))) }
     ensures refused { shown_prepare_refusal result ≡ commit_refused (seat_in (get nat_cmp parts.old.places session)) }
     ensures limit { result ≡ Err error.CommitLimit → (st : State C) → Stands C.is_valid C.meaning B.contents parts.old st → IsPastLimitIn C.meaning st session }
@@ -128,7 +129,7 @@ pub fn commit<C: TreeCall + Drop, B: NodeRead>(
     requires number { prepared.number ≡ parts.old.number + 1 }
     ensures number { result ≡ prepared.number }
     ensures goes { GoesOn C.is_valid C.meaning B.contents parts.old (entry_of session event.Commit (said.Number result)) parts.new }
-    ensures seated { IsSeatedAs parts.old parts.new }
+    ensures seated { IsSeatedFor parts.old parts.new }
     ensures base { parts.new.base ≡ parts.old.base }
     ensures none_prepared { parts.new.prepared ≡ None }
 {

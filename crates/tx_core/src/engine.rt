@@ -7,15 +7,18 @@ ghost use Rattle.wait_graph.specs.Graphs.{waits};
 ghost use Rattle.outside_traits.specs.Faults.{HasCause};
 ghost use Rattle.tree_model.specs.Tree.{Tree, map_of};
 ghost use Rattle.node_seq.specs.Trees.{StandsFor};
-ghost use Rattle.call_contract.specs.Books.{entry as entry_of, FaultsRise, HasValidCalls, IsBookFrom, IsSerial};
+ghost use Rattle.call_contract.specs.Books.{entry as entry_of, FaultsRise, HasValidCalls, IsAtMost, IsBookFrom, IsSerial, last_fault};
+ghost use Rattle.call_contract.specs.Ends.{LeavesAllElse};
+ghost use Rattle.call_contract.specs.Lives.{NoCellIsShared};
 ghost use Rattle.call_contract.specs.Sessions.{live_in, begins_of, queue_after};
 ghost use Rattle.call_contract.specs.declared.events.Event.TheVariants as event;
 ghost use Rattle.call_contract.specs.declared.events.EventAnswer.TheVariants as said;
 ghost use Rattle.tx_core.specs.Commits.{IsPrepared, HasChangesOf, IsPastLimitIn, ReplaysOthers};
-ghost use Rattle.tx_core.specs.Cores.{with_entry, over, state_from, next_number, waits_in, HasNoAnswer};
+ghost use Rattle.tx_core.specs.Cores.{with_entry, with_committed, over, state_from, next_number, waits_in, IsLeftBy, IsGivenUpBy};
 ghost use Rattle.tx_core.specs.Queues.{HasQueue};
 ghost use Rattle.tx_core.specs.Refusals.{begin_refused, call_refused, abort_refused, shown_refusal, shown_prepare_refusal, shown_call_refusal};
 ghost use Rattle.tx_core.specs.Retries.{HasRetried};
+ghost use Rattle.tx_core.specs.Truths.{LiveStand, ShowsCycle};
 
 use crate::attempts::attempt;
 use crate::commits::{Prepared, commit, merge, prepare, rebase};
@@ -46,6 +49,7 @@ pub struct Core<C: TreeCall + Drop, B: NodeRead + Drop> {
 impl<C: TreeCall + Drop, B: NodeRead + Drop> Model for Core<C, B> {
     ghost use Rattle.tx_core.specs.Cores.{CoreView};
     ghost use Rattle.tx_core.specs.inside.Kept.{IsCore};
+    ghost use Rattle.overlays.specs.Views.{contents_after};
     ghost use Rattle.tree_model.specs.contracts.fragment.Fragment as fragment;
     ghost use Rattle.std.specs.Coded.{codes};
 
@@ -58,6 +62,7 @@ impl<C: TreeCall + Drop, B: NodeRead + Drop> Model for Core<C, B> {
       number = h.number;
       limit = h.limit;
       base = h.parts.base;
+      committed = contents_after h.parts.layers.changes (B.contents h.parts.base);
       book = h.parts.book.items;
       prepared = h.parts.prepared;
     } };
@@ -83,14 +88,14 @@ impl<C: TreeCall + Drop, B: NodeRead + Drop> Core<C, B> {
     /// A core over a base, whose last commit has this number, with an empty book.
     pub fn new(alloc: Global, base: B, number: u32, limit: u32) -> Result<Core<C, B>, NoCore<B>>
         requires { number ≤ limit }
-        ensures ok { IfOk result (λ core. core ≡ record { opening = base; number = number; limit = limit; base = base; book = []; prepared = None }) }
+        ensures ok { IfOk result (λ core. core
+            ≡ record { opening = base; number = number; limit = limit; base = base; committed = B.contents base; book = []; prepared = None }) }
         ensures err { IfErr result (λ none. none.base ≡ base) }
     {
         let Ok(locks) = no_locks(alloc) else {
             return Err(NoCore { base });
         };
         let (table, graph) = locks;
-        let count = base.faults();
         Ok(Core {
             opening: Snapshot::of(&base),
             number,
@@ -107,7 +112,6 @@ impl<C: TreeCall + Drop, B: NodeRead + Drop> Core<C, B> {
                 table,
                 graph,
                 waiting: Vec::new(alloc),
-                faults: Some(count),
                 book: Vec::new(alloc),
                 prepared: None,
             },
@@ -125,14 +129,15 @@ impl<C: TreeCall + Drop, B: NodeRead + Drop> Core<C, B> {
     }
 
     /// An attempt of a call: it is answered, waits or ends in a deadlock, or it is given up.
-    /// After a refusal all is as it was. After a fault or want of memory the session sees what it saw and doesn't wait, and may hold more.
+    /// After a refusal all is as it was. After a fault or want of memory the session sees what it saw and doesn't wait, and may hold more; a fault is always noted in the book.
     pub fn attempt(&mut self, alloc: Global, session: u32, call: C) -> Result<Answer, CallError>
         ensures ok { IfOk result (λ a. self.new ≡ over (with_entry self.old (entry_of session (event.Call call) (said.Call a))) self.new.base) }
-        ensures err { OnErr result (HasNoAnswer self.old session call self.new) }
+        ensures err { IfErr result (λ e. IsLeftBy B.count self.old session call e self.new) }
         ensures refused { shown_call_refusal result ≡ call_refused self.old session }
-        ensures same { IfSome (shown_call_refusal result) (λ why. self.new ≡ self.old) }
         ensures unchanged { B.unchanged self.old.base self.new.base }
         ensures cause { HasCause CallError.DiskFault (B.count self.old.base) (B.count self.new.base) result }
+        ensures deadlock { (t : Tree) → StandsFor (B.contents self.old.opening) t
+            → ShowsCycle C.meaning (state_from C.meaning t self.old) (state_from C.meaning t self.new) session (event.Call call) result }
     {
         attempt(alloc, &mut self.parts, session, call)
     }
@@ -141,11 +146,12 @@ impl<C: TreeCall + Drop, B: NodeRead + Drop> Core<C, B> {
     pub fn retry(&mut self, alloc: Global, session: u32) -> Result<Answer, CallError>
         requires { IsTrue (waits_in (live_in self.old.book session)) }
         ensures ok { IfOk result (λ a. HasRetried C.meaning B.contents self.old session a self.new) }
-        ensures err { OnErr result ((k : ℕ) × (f : Option ℕ)
-            × (self.new ≡ over (with_entry self.old (entry_of session (event.Fail None k f) said.Nothing)) self.new.base)) }
+        ensures err { IfErr result (λ e. IsGivenUpBy B.count self.old session e self.new) }
         ensures refused { shown_call_refusal result ≡ None }
         ensures unchanged { B.unchanged self.old.base self.new.base }
         ensures cause { HasCause CallError.DiskFault (B.count self.old.base) (B.count self.new.base) result }
+        ensures deadlock { (t : Tree) → StandsFor (B.contents self.old.opening) t
+            → ShowsCycle C.meaning (state_from C.meaning t self.old) (state_from C.meaning t self.new) session event.Retry result }
     {
         retry(alloc, &mut self.parts, session)
     }
@@ -156,7 +162,7 @@ impl<C: TreeCall + Drop, B: NodeRead + Drop> Core<C, B> {
         ensures commit { IfOk result (λ prepared. IsPrepared self.old prepared) }
         ensures changes { IfOk result (λ prepared. (t : Tree) → StandsFor (B.contents self.old.opening) t
             → HasChangesOf C.meaning (state_from C.meaning t self.old) session prepared) }
-        ensures err { OnErr result (self.new ≡ record self.old { prepared = self.new.prepared }) }
+        ensures err { OnErr result (self.new ≡ self.old) }
         ensures refused { shown_prepare_refusal result ≡ call_refused self.old session }
         ensures limit { result ≡ Err SessionError.CommitLimit → (t : Tree) → StandsFor (B.contents self.old.opening) t
             → IsPastLimitIn C.meaning (state_from C.meaning t self.old) session }
@@ -170,7 +176,8 @@ impl<C: TreeCall + Drop, B: NodeRead + Drop> Core<C, B> {
         requires prepared { self.old.prepared ≡ Some session }
         requires commit { IsPrepared self.old prepared }
         ensures number { result ≡ next_number self.old }
-        ensures committed { self.new ≡ with_entry self.old (entry_of session event.Commit (said.Number result)) }
+        ensures committed { self.new ≡ with_committed (with_entry self.old (entry_of session event.Commit (said.Number result))) self.new.committed }
+        ensures apart { (t : Tree) → StandsFor (B.contents self.old.opening) t → NoCellIsShared (state_from C.meaning t self.old) }
         ensures others { (t : Tree) → StandsFor (B.contents self.old.opening) t → ReplaysOthers C.meaning (state_from C.meaning t self.old) session }
     {
         commit(&mut self.parts, session, prepared)
@@ -179,6 +186,8 @@ impl<C: TreeCall + Drop, B: NodeRead + Drop> Core<C, B> {
     /// Ends a session's transaction, a waiting call with it. It takes no memory.
     pub fn abort(&mut self, session: u32) -> Result<(), SessionError>
         ensures ok { IfOk result (λ _. self.new ≡ with_entry self.old (entry_of session event.Abort said.Nothing)) }
+        ensures others { IfOk result (λ _. (t : Tree) → StandsFor (B.contents self.old.opening) t
+            → LeavesAllElse (state_from C.meaning t self.old) (state_from C.meaning t self.new) session) }
         ensures err { OnErr result (self.new ≡ self.old) }
         ensures refused { shown_refusal result ≡ abort_refused self.old session }
         ensures memory { result ≢ Err SessionError.NoMemory }
@@ -191,14 +200,15 @@ impl<C: TreeCall + Drop, B: NodeRead + Drop> Core<C, B> {
         requires committed { (t : Tree) → StandsFor (B.contents self.old.opening) t → B.contents base ≡ Some (map_of (state_from C.meaning t self.old).tree) }
         requires later { B.count self.old.base ≤ B.count base }
         ensures old { result ≡ self.old.base }
-        ensures same { self.new ≡ over self.old base }
+        ensures same { self.new ≡ with_committed (over self.old base) self.new.committed }
     {
         rebase(alloc, &mut self.parts, base)
     }
 
-    /// All that came to the core, in its order, with the answers.
+    /// All that came to the core, in its order, with the answers. It is serial from the tree of the opening's map.
     pub fn book(&self) -> &[Noted<C>]
-        ensures { result.now ≡ self.now.book }
+        ensures book { result.now ≡ self.now.book }
+        ensures serial { (t : Tree) → StandsFor (B.contents self.now.opening) t → IsSerial C.meaning t self.now.number self.now.limit self.now.book }
     {
         self.parts.book.as_slice()
     }
@@ -210,14 +220,17 @@ impl<C: TreeCall + Drop, B: NodeRead + Drop> Core<C, B> {
         self.parts.waiting.as_slice()
     }
 
-    /// The book's calls are valid, its counts of faults rise, all above the base's at the opening, and who waits stands in its queue.
-    /// It is legal from the tree of the opening's map: so it is serial, its live transactions were answered what they would be answered on the committed tree, and nobody waits for himself.
+    /// The book's calls are valid, its counts of faults rise from the base's at the opening, none is above the base's now, and who waits stands in its queue.
+    /// It is legal from the tree of the opening's map. In the state that it comes to from there, what base and commits make is the committed tree,
+    /// the live transactions were answered what they would be answered on it, and nobody waits for himself.
     pub fn is_legal(&self)
         ensures valid { HasValidCalls C.is_valid self.now.book }
         ensures faults { FaultsRise (Some (B.count self.now.opening)) self.now.book }
+        ensures counted { IsAtMost (last_fault (Some (B.count self.now.opening)) self.now.book) (B.count self.now.base) }
         ensures queue { HasQueue self.now.book }
         ensures book { (t : Tree) → StandsFor (B.contents self.now.opening) t → IsBookFrom C.is_valid C.meaning t self.now.number self.now.limit self.now.book }
-        ensures serial { (t : Tree) → StandsFor (B.contents self.now.opening) t → IsSerial C.meaning t self.now.number self.now.limit self.now.book }
+        ensures committed { (t : Tree) → StandsFor (B.contents self.now.opening) t → self.now.committed ≡ Some (map_of (state_from C.meaning t self.now).tree) }
+        ensures live { (t : Tree) → StandsFor (B.contents self.now.opening) t → LiveStand C.meaning (state_from C.meaning t self.now) }
     {
         // The invariant is read off the parts.
         let _parts = &self.parts;

@@ -12,6 +12,7 @@ mod commits;
 mod ends;
 mod engine;
 mod errors;
+pub mod laws;
 mod modes;
 mod parts;
 mod places;

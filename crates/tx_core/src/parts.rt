@@ -43,8 +43,6 @@ pub struct Parts<C, B> {
     pub graph: WaitGraph,
     /// The waiting sessions, in the order in which they began to wait.
     pub waiting: Vec<u32>,
-    /// The last count of faults in the book, or the base's at the opening.
-    pub faults: Option<u64>,
     /// The book has room for a further entry of each live and of each waiting transaction.
     pub book: Vec<Noted<C>>,
     /// The session whose commit was prepared since the last entry, if one was.

@@ -11,7 +11,7 @@ ghost use Rattle.wait_graph.specs.Graphs.{waits as waits_by, place as place_by, 
 ghost use Rattle.call_contract.specs.States.{State, Live, of_session, ended, without};
 ghost use Rattle.call_contract.specs.Attempts.{asked as asked_of};
 ghost use Rattle.call_contract.specs.Waits.{cycle_through};
-ghost use Rattle.call_contract.specs.Books.{IsAbove};
+ghost use Rattle.tx_core.specs.Cores.{count_told};
 ghost use Rattle.tx_core.specs.Refusals.{shown_call_refusal};
 ghost use Rattle.tx_core.specs.Retries.{has_mode, same_request};
 ghost use Rattle.tx_core.specs.inside.Asking.{granted_in, IsInside};
@@ -21,9 +21,7 @@ ghost use Rattle.tx_core.specs.inside.Goes.{Stays, Reaches, IsMade, unqueued, wi
 ghost use Rattle.tx_core.specs.inside.Retrying.{call_at, call_in, waiting_call, first_at, retry_entry, failed_retry, at_rest, waits_for_it, GoesAgain, IsAgain, IsAnsweredAgain, IsPutAgain, WaitsAgain, IsClosedAgain, IsStoppedAgain, IsFailedAgain, IsSettledAgain, AreAsked};
 
 use crate::asking::{Got, Outcome, Wanted, ask_all, asked, made};
-use crate::attempts::{
-    Copies, MOST_REQUESTS, accept, answer_of, copies_of, cycle_of, later_fault, latest,
-};
+use crate::attempts::{Copies, MOST_REQUESTS, accept, answer_of, copies_of, cycle_of};
 use crate::ends::{make_room, note, stop_waiting};
 use crate::errors::CallError;
 use crate::modes::has;
@@ -339,10 +337,10 @@ fn cease<C: TreeCall + Drop, B: NodeRead>(parts: &mut Parts<C, B>, session: u32)
 
 /// The count of faults that a failed retry tells.
 fn fault_now<C: TreeCall + Drop, B: NodeRead>(parts: &Parts<C, B>, error: SeqError) -> Option<u64>
-    ensures { IsAbove parts.now.faults result }
+    ensures { result ≡ count_told (call_error_of error) (B.count parts.now.base) }
 {
     match error {
-        SeqError::DiskFault => later_fault(parts.faults, parts.base.faults()),
+        SeqError::DiskFault => Some(parts.base.faults()),
         SeqError::NoMemory => None,
     }
 }
@@ -366,14 +364,13 @@ fn fail_again<C: TreeCall + Drop, B: NodeRead>(
 ) -> CallError
     requires seated { IsSeated parts.old }
     requires waits { IsSome (waiting_call parts.old session) }
-    ensures failed { (f : Option ℕ) × IsFailedAgain C.is_valid C.meaning B.contents parts.old session grants f parts.new }
+    ensures failed { IsFailedAgain C.is_valid C.meaning B.contents parts.old session grants (count_told result (B.count parts.new.base)) parts.new }
     ensures seated { IsSeatedAs parts.old parts.new }
     ensures base { parts.new.base ≡ parts.old.base }
     ensures error { result ≡ call_error_of error }
 {
     let faults = fault_now(parts, error);
     cease(parts, session);
-    parts.faults = latest(parts.faults, faults);
     parts.prepared = None;
     note(
         &mut parts.book,
@@ -391,6 +388,7 @@ fn fail_again<C: TreeCall + Drop, B: NodeRead>(
 }
 
 /// Answers, waits or gives up, as far as the requests were granted.
+#[tactic(auto, using(crate::proofs::Retried::failed_after))]
 fn settle_again<C: TreeCall + Drop, B: NodeRead>(
     alloc: Global,
     parts: &mut Parts<C, B>,
@@ -407,7 +405,8 @@ fn settle_again<C: TreeCall + Drop, B: NodeRead>(
     requires within { granted_in requests.now got ≤ length requests.now }
     ensures ok { IfOk result (λ a. (c : C) → waiting_call parts.old session ≡ Some c
         → IsSettledAgain C.is_valid C.meaning B.contents parts.old session c requests.now got more a parts.new) }
-    ensures err { OnErr result ((f : Option ℕ) × IsFailedAgain C.is_valid C.meaning B.contents parts.old session (granted_in requests.now got) f parts.new) }
+    ensures err { IfErr result (λ e. IsFailedAgain C.is_valid C.meaning B.contents parts.old session (granted_in requests.now got)
+        (count_told e (B.count parts.new.base)) parts.new) }
     ensures refused { shown_call_refusal result ≡ None }
     ensures seated { IsSeatedAs parts.old parts.new }
     ensures unchanged { B.unchanged parts.old.base parts.new.base }
@@ -444,8 +443,8 @@ fn retry_in_room<C: TreeCall + Drop, B: NodeRead>(
     requires room { HasRoom 1 parts.old }
     ensures ok { IfOk result (λ a. (c : C) → waiting_call parts.old session ≡ Some c
         → IsAgain C.is_valid C.meaning B.contents parts.old session c a parts.new) }
-    ensures err { OnErr result ((c : C) → waiting_call parts.old session ≡ Some c → (k : ℕ) × (f : Option ℕ)
-        × GoesAgain C.is_valid C.meaning B.contents parts.old session c (failed_retry session k f) parts.new) }
+    ensures err { IfErr result (λ e. (c : C) → waiting_call parts.old session ≡ Some c → (k : ℕ)
+        × GoesAgain C.is_valid C.meaning B.contents parts.old session c (failed_retry session k (count_told e (B.count parts.new.base))) parts.new) }
     ensures refused { shown_call_refusal result ≡ None }
     ensures seated { IsSeatedAs parts.old parts.new }
     ensures unchanged { B.unchanged parts.old.base parts.new.base }
@@ -473,8 +472,8 @@ pub fn retry<C: TreeCall + Drop, B: NodeRead>(
     requires waits { IsSome (waiting_call parts.old session) }
     ensures ok { IfOk result (λ a. (c : C) → waiting_call parts.old session ≡ Some c
         → IsAgain C.is_valid C.meaning B.contents parts.old session c a parts.new) }
-    ensures err { OnErr result ((c : C) → waiting_call parts.old session ≡ Some c → (k : ℕ) × (f : Option ℕ)
-        × GoesAgain C.is_valid C.meaning B.contents parts.old session c (failed_retry session k f) parts.new) }
+    ensures err { IfErr result (λ e. (c : C) → waiting_call parts.old session ≡ Some c → (k : ℕ)
+        × GoesAgain C.is_valid C.meaning B.contents parts.old session c (failed_retry session k (count_told e (B.count parts.new.base))) parts.new) }
     ensures refused { shown_call_refusal result ≡ None }
     ensures seated { IsSeatedAs parts.old parts.new }
     ensures unchanged { B.unchanged parts.old.base parts.new.base }

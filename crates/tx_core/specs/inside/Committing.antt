@@ -6,7 +6,7 @@ use Rattle.node_records.specs.Changes.{changes_bytes, changes_of as changes_read
 use Rattle.node_seq.specs.ChangeLists.{IsChangeList}
 use Rattle.tree_model.specs.Entries.{Entries}
 use Rattle.tree_model.specs.declared.change.Change.{Change}
-use Rattle.call_contract.specs.Books.{next, IsAnswer, HasValidCall, IsAbove, IsReached, latest, fault_in}
+use Rattle.call_contract.specs.Books.{next, IsAnswer, HasValidCall, IsReached}
 use Rattle.call_contract.specs.Calls.{CallMeaning}
 use Rattle.call_contract.specs.States.{State}
 use Rattle.call_contract.specs.Steps.{step}
@@ -51,7 +51,5 @@ module _ {C B : Type 0} (is_valid : C → Type 0) (m : CallMeaning C) (told : B 
   pub record GoesOn (p : Parts C B) (n : Noted C) (q : Parts C B) : Type 0 where
     pub book : q.book.items ≡ p.book.items ++ n ∷ []
     pub valid : HasValidCall is_valid n.event
-    pub above : IsAbove p.faults (fault_in n.event)
-    pub faults : q.faults ≡ latest p.faults (fault_in n.event)
     pub entry : (st : State C) → IsReached is_valid m st → Stands is_valid m told p st → IsAnswer n.answer (step m st n.session n.event)
     pub state : (st : State C) → IsReached is_valid m st → Stands is_valid m told p st → Stands is_valid m told q (next m st n)

@@ -8,12 +8,14 @@ use Rattle.call_contract.specs.States.{Live, State, view, of_session, put, other
 use Rattle.call_contract.specs.Attempts.{holders, free, barred, asked}
 use Rattle.call_contract.specs.Waits.{cycle_through}
 use Rattle.call_contract.specs.Steps.{step}
-use Rattle.call_contract.specs.Books.{next, IsAnswer, HasValidCall, IsAbove, latest, fault_in, entry}
+use Rattle.call_contract.specs.Books.{next, IsAnswer, HasValidCall, entry}
 use Rattle.call_contract.specs.declared.events.Noted.{Noted}
 use Rattle.call_contract.specs.declared.events.Event.TheVariants as event
 use Rattle.call_contract.specs.declared.events.EventAnswer.TheVariants as said
 use Rattle.call_contract.specs.declared.events.Answer.{Answer}
 use Rattle.call_contract.specs.declared.events.Answer.TheVariants as answer
+use Rattle.tx_core.specs.declared.errors.CallError.{CallError}
+use Rattle.tx_core.specs.declared.errors.CallError.TheVariants as call_error
 use Rattle.tx_core.specs.declared.parts.Parts.{Parts}
 use Rattle.tx_core.specs.declared.asking.Outcome.{Outcome}
 use Rattle.tx_core.specs.declared.asking.Got.{Got}
@@ -56,16 +58,13 @@ module _ {C B : Type 0} (is_valid : C → Type 0) (m : CallMeaning C) (told : B 
   -- the state stays, and so do the book and what is prepared
   pub record Stays (p q : Parts C B) : Type 0 where
     pub book : q.book.items ≡ p.book.items
-    pub faults : q.faults ≡ p.faults
     pub prepared : q.prepared ≡ p.prepared
     pub state : (st : State C) → Stands is_valid m told p st → Stands is_valid m told q st
 
-  -- the book gains the machine's entry, with a count of faults above all before, nothing is prepared, and the core stands for the state after it
+  -- the book gains the machine's entry, nothing is prepared, and the core stands for the state after it
   pub record Goes (p : Parts C B) (n : Noted C) (q : Parts C B) : Type 0 where
     pub book : q.book.items ≡ p.book.items ++ n ∷ []
     pub valid : HasValidCall is_valid n.event
-    pub above : IsAbove p.faults (fault_in n.event)
-    pub faults : q.faults ≡ latest p.faults (fault_in n.event)
     pub prepared : q.prepared ≡ None
     pub entry : (st : State C) → Stands is_valid m told p st → IsAnswer n.answer (step m st n.session n.event)
     pub state : (st : State C) → Stands is_valid m told p st → Stands is_valid m told q (next m st n)
@@ -99,7 +98,6 @@ module _ {C B : Type 0} (is_valid : C → Type 0) (m : CallMeaning C) (told : B 
   -- the call was answered to a transaction that has all that it asks for
   pub record IsAnswered (p : Parts C B) (s : ℕ) (c : C) (a : Answer) (q : Parts C B) : Type 0 where
     pub book : q.book.items ≡ p.book.items ++ call_entry s c a ∷ []
-    pub faults : q.faults ≡ p.faults
     pub prepared : q.prepared ≡ None
     pub reply : Reply
     pub is : a ≡ answer.Answered reply
@@ -109,7 +107,6 @@ module _ {C B : Type 0} (is_valid : C → Type 0) (m : CallMeaning C) (told : B 
   -- the transaction waits, and no session waits for itself by it
   pub record IsPut (p : Parts C B) (s : ℕ) (c : C) (g : Request) (hs : List ℕ) (a : Answer) (q : Parts C B) : Type 0 where
     pub book : q.book.items ≡ p.book.items ++ call_entry s c a ∷ []
-    pub faults : q.faults ≡ p.faults
     pub prepared : q.prepared ≡ None
     pub is : a ≡ shown_wait g hs
     pub alone : (st : State C) (t : Live C) → Stands is_valid m told p st → of_session s st.live ≡ Some t → cycle_through (with_wait st t c g).live s ≡ None
@@ -118,7 +115,6 @@ module _ {C B : Type 0} (is_valid : C → Type 0) (m : CallMeaning C) (told : B 
   -- waiting would close this cycle, and the transaction is ended
   pub record IsClosed (p : Parts C B) (s : ℕ) (c : C) (g : Request) (a : Answer) (q : Parts C B) : Type 0 where
     pub book : q.book.items ≡ p.book.items ++ call_entry s c a ∷ []
-    pub faults : q.faults ≡ p.faults
     pub prepared : q.prepared ≡ None
     pub cycle : List ℕ
     pub is : a ≡ answer.Deadlock cycle
@@ -129,18 +125,12 @@ module _ {C B : Type 0} (is_valid : C → Type 0) (m : CallMeaning C) (told : B 
   abbrev pub IsStopped : Parts C B → ℕ → C → Request → List ℕ → Answer → Parts C B → Type 0
   IsStopped p s c g hs a q = IsPut p s c g hs a q ⊎ IsClosed p s c g a q
 
-  -- that the attempt failed is noted, with a count of faults above all before, and nothing else
+  -- that the attempt failed is noted, and nothing else
   pub record IsFailed (p : Parts C B) (s : ℕ) (c : C) (k : ℕ) (f : Option ℕ) (q : Parts C B) : Type 0 where
     pub book : q.book.items ≡ p.book.items ++ fail_entry s c k f ∷ []
-    pub above : IsAbove p.faults f
-    pub faults : q.faults ≡ latest p.faults f
     pub prepared : q.prepared ≡ None
     pub some : (is_some f || nat_lt 0 k) ≡ true
     pub state : (st : State C) → Stands is_valid m told p st → Stands is_valid m told q (unqueued st s)
-
-  -- an attempt without an answer: nothing moved, or the failure is noted
-  abbrev pub IsUnanswered : Parts C B → ℕ → C → Parts C B → Type 0
-  IsUnanswered p s c q = Stays p q ⊎ ((k : ℕ) × (f : Option ℕ) × Goes p (fail_entry s c k f) q)
 
   -- what a settled attempt is answered
   abbrev pub IsSettled : Parts C B → ℕ → C → List Request → Got → Answer → Parts C B → Type 0
@@ -148,13 +138,19 @@ module _ {C B : Type 0} (is_valid : C → Type 0) (m : CallMeaning C) (told : B 
   IsSettled p s c qs (Barred k hs) a q = (g : Request) → g ≡ get_or qs k g → IsStopped p s c g hs a q
   IsSettled p s c qs (NoMemory k) a q = ⊥
 
-  -- what is left of one that isn't answered, after k grants
-  abbrev pub IsLeft : Parts C B → ℕ → C → ℕ → Parts C B → Type 0
-  IsLeft p s c k q = ((k ≡ 0) × Stays p q) ⊎ ((f : Option ℕ) × IsFailed p s c k f q)
+  -- ---- attempts without an answer, by why
 
-  -- what is left where it gives up after k grants
-  abbrev pub IsGivenUp : Parts C B → ℕ → C → ℕ → Parts C B → Type 0
-  IsGivenUp p s c k q = ((k ≡ 0) × (q ≡ p)) ⊎ ((f : Option ℕ) × IsFailed p s c k f q)
+  -- nothing moved, or the failure is noted: after a fault with the base's count, for want of memory only where something was granted
+  abbrev pub IsUnanswered : (B → ℕ) → Parts C B → ℕ → C → CallError → Parts C B → Type 0
+  IsUnanswered count p s c (call_error.Session why) q = q ≡ p
+  IsUnanswered count p s c call_error.NoMemory q = Stays p q ⊎ ((k : ℕ) × (0 < k) × Goes p (fail_entry s c k None) q)
+  IsUnanswered count p s c call_error.DiskFault q = (k : ℕ) × Goes p (fail_entry s c k (Some (count q.base))) q
+
+  -- what is left of one that gives up after k grants
+  abbrev pub IsLeft : (B → ℕ) → Parts C B → ℕ → C → ℕ → CallError → Parts C B → Type 0
+  IsLeft count p s c k (call_error.Session why) q = ⊥
+  IsLeft count p s c k call_error.NoMemory q = ((k ≡ 0) × Stays p q) ⊎ ((0 < k) × IsFailed p s c k None q)
+  IsLeft count p s c k call_error.DiskFault q = IsFailed p s c k (Some (count q.base)) q
 
 module _ {C : Type 0} (m : CallMeaning C) where
   -- a live transaction that doesn't wait asks for these

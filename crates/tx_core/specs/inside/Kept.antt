@@ -5,10 +5,15 @@ use Rattle.tree_model.specs.Entries.{Entries}
 use Rattle.node_seq.specs.Trees.{StandsFor}
 use Rattle.call_contract.specs.Calls.{CallMeaning}
 use Rattle.call_contract.specs.States.{start}
-use Rattle.call_contract.specs.Books.{last, IsRun, FaultsRise, last_fault, HasValidCalls}
+use Rattle.call_contract.specs.Books.{last, IsRun, FaultsRise, last_fault, IsAtMost, HasValidCalls}
 use Rattle.tx_core.specs.declared.parts.Parts.{Parts}
 use Rattle.tx_core.specs.inside.Sessions.{IsSeated}
 use Rattle.tx_core.specs.inside.Standing.{Stands}
+
+-- the book's counts of faults rise above the base's at the opening, and none is above the base's now
+pub record CountsFaults {C B : Type 0} (count : B → ℕ) (opening : B) (p : Parts C B) : Type 0 where
+  pub rise : FaultsRise (Some (count opening)) p.book.items
+  pub counted : IsAtMost (last_fault (Some (count opening)) p.book.items) (count p.base)
 
 module _ {C B : Type 0} (is_valid : C → Type 0) (m : CallMeaning C) (told : B → Option Entries) where
   -- the book is a run from the opening's tree, and the parts stand for the state after it
@@ -16,12 +21,11 @@ module _ {C B : Type 0} (is_valid : C → Type 0) (m : CallMeaning C) (told : B 
     pub run : IsRun m (start t number limit) p.book.items
     pub stands : Stands is_valid m told p (last m (start t number limit) p.book.items)
 
-  -- the book's calls are valid, its counts of faults rise, above the base's at the opening, and the sessions are as it tells;
+  -- the book's calls are valid, it counts faults rightly, and the sessions are as it tells;
   -- where the opening's map is known, the book is a run from its tree
   pub record IsCore (count : B → ℕ) (opening : B) (number limit : ℕ) (p : Parts C B) : Type 0 where
     pub valid : HasValidCalls is_valid p.book.items
-    pub rise : FaultsRise (Some (count opening)) p.book.items
-    pub last : p.faults ≡ last_fault (Some (count opening)) p.book.items
+    pub faults : CountsFaults count opening p
     pub seated : IsSeated p
     pub opened : p.opened ≡ number
     pub limited : p.limit ≡ limit

@@ -4,7 +4,6 @@ use Rattle.std.specs.Ordering.{nat_cmp}
 use Rattle.std.specs.BTreeMap.{get}
 use Rattle.tree_model.specs.Entries.{Entries}
 use Rattle.tree_model.specs.Tree.{Tree}
-use Rattle.tree_model.specs.declared.change.Change.{Change}
 use Rattle.tree_model.specs.declared.reply.Reply.{Reply}
 use Rattle.node_seq.specs.Trees.{StandsFor}
 use Rattle.overlays.specs.Views.{contents_after}

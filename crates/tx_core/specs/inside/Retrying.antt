@@ -9,7 +9,7 @@ use Rattle.call_contract.specs.Calls.{CallMeaning}
 use Rattle.call_contract.specs.States.{Waiting, Live, State, view, of_session, put, ended}
 use Rattle.call_contract.specs.Waits.{cycle_through}
 use Rattle.call_contract.specs.Steps.{step}
-use Rattle.call_contract.specs.Books.{Book, next, IsAnswer, IsAbove, latest, fault_in, entry}
+use Rattle.call_contract.specs.Books.{Book, next, IsAnswer, entry}
 use Rattle.call_contract.specs.declared.events.Event.{Event}
 use Rattle.call_contract.specs.declared.events.Event.TheVariants as event
 use Rattle.call_contract.specs.declared.events.EventAnswer.TheVariants as said
@@ -93,8 +93,6 @@ module _ {C B : Type 0} (is_valid : C → Type 0) (m : CallMeaning C) (told : B 
   pub record GoesAgain (p : Parts C B) (s : ℕ) (c : C) (n : Noted C) (q : Parts C B) : Type 0 where
     pub book : q.book.items ≡ p.book.items ++ n ∷ []
     pub prepared : q.prepared ≡ None
-    pub above : IsAbove p.faults (fault_in n.event)
-    pub faults : q.faults ≡ latest p.faults (fault_in n.event)
     pub entry : (st : State C) → Stands is_valid m told p st → IsWaitingWith st s c → IsAnswer n.answer (step m st n.session n.event)
     pub state : (st : State C) → Stands is_valid m told p st → IsWaitingWith st s c → Stands is_valid m told q (next m st n)
 
@@ -102,7 +100,6 @@ module _ {C B : Type 0} (is_valid : C → Type 0) (m : CallMeaning C) (told : B 
   pub record StaysWaiting (p : Parts C B) (s : ℕ) (c : C) (q : Parts C B) : Type 0 where
     pub book : q.book.items ≡ p.book.items
     pub prepared : q.prepared ≡ p.prepared
-    pub faults : q.faults ≡ p.faults
     pub places : q.places ≡ p.places
     pub queue : q.waiting.items ≡ p.waiting.items
     pub state : (st : State C) → Stands is_valid m told p st → IsWaitingWith st s c → Stands is_valid m told q st
@@ -125,7 +122,6 @@ module _ {C B : Type 0} (is_valid : C → Type 0) (m : CallMeaning C) (told : B 
   pub record IsAnsweredAgain (p : Parts C B) (s : ℕ) (c : C) (a : Answer) (q : Parts C B) : Type 0 where
     pub book : q.book.items ≡ p.book.items ++ retry_entry s a ∷ []
     pub prepared : q.prepared ≡ None
-    pub faults : q.faults ≡ p.faults
     pub reply : Reply
     pub is : a ≡ answer.Answered reply
     pub means : (st : State C) (t : Live C) → Stands is_valid m told p st → of_session s st.live ≡ Some t → reply ≡ m.reply c (view m t.calls st.tree)
@@ -152,7 +148,6 @@ module _ {C B : Type 0} (is_valid : C → Type 0) (m : CallMeaning C) (told : B 
   -- the transaction waits in its place, and no session waits for itself by it; more is what was granted beyond what it held
   pub record WaitsAgain (p : Parts C B) (s : ℕ) (g : Request) (hs : List ℕ) (more : Bool) (a : Answer) (q : Parts C B) : Type 0 where
     pub is : a ≡ shown_wait g hs
-    pub faults : q.faults ≡ p.faults
     pub alone : (st : State C) (t : Live C) (c : C) → Stands is_valid m told p st → of_session s st.live ≡ Some t → cycle_through (with_wait st t c g).live s ≡ None
     pub noted : Bool
     pub changed : (st : State C) (t : Live C) (w : Waiting C) → Stands is_valid m told p st → of_session s st.live ≡ Some t → t.waits ≡ Some w → (more || not (same_request w.request g)) ≡ noted
@@ -162,7 +157,6 @@ module _ {C B : Type 0} (is_valid : C → Type 0) (m : CallMeaning C) (told : B 
   pub record IsClosedAgain (p : Parts C B) (s : ℕ) (g : Request) (a : Answer) (q : Parts C B) : Type 0 where
     pub book : q.book.items ≡ p.book.items ++ retry_entry s a ∷ []
     pub prepared : q.prepared ≡ None
-    pub faults : q.faults ≡ p.faults
     pub cycle : List ℕ
     pub is : a ≡ answer.Deadlock cycle
     pub closes : (st : State C) (t : Live C) (c : C) → Stands is_valid m told p st → of_session s st.live ≡ Some t → cycle_through (with_wait st t c g).live s ≡ Some cycle
@@ -171,12 +165,10 @@ module _ {C B : Type 0} (is_valid : C → Type 0) (m : CallMeaning C) (told : B 
   abbrev pub IsStoppedAgain : Parts C B → ℕ → Request → List ℕ → Bool → Answer → Parts C B → Type 0
   IsStoppedAgain p s g hs more a q = WaitsAgain p s g hs more a q ⊎ IsClosedAgain p s g a q
 
-  -- that the retry failed is noted, with a count of faults above all before, and nothing else
+  -- that the retry failed is noted, and nothing else
   pub record IsFailedAgain (p : Parts C B) (s : ℕ) (k : ℕ) (f : Option ℕ) (q : Parts C B) : Type 0 where
     pub book : q.book.items ≡ p.book.items ++ failed_retry s k f ∷ []
     pub prepared : q.prepared ≡ None
-    pub above : IsAbove p.faults f
-    pub faults : q.faults ≡ latest p.faults f
     pub state : (st : State C) (t : Live C) → Stands is_valid m told p st → of_session s st.live ≡ Some t → Stands is_valid m told q (unqueued (at_rest st t) s)
 
   -- what a settled retry is answered

@@ -66,10 +66,17 @@ pub record IsSeated {C B : Type 0} (p : Parts C B) : Type 0 where
   pub prepared : KeepsPrepared p
 
 -- so it is of q, with the opening's numbers of p
+pub record IsSeatedFor {C B : Type 0} (p q : Parts C B) : Type 0 where
+  pub seated : IsSeated q
+  pub opened : q.opened ≡ p.opened
+  pub limit : q.limit ≡ p.limit
+
+-- and with its layers
 pub record IsSeatedAs {C B : Type 0} (p q : Parts C B) : Type 0 where
   pub seated : IsSeated q
   pub opened : q.opened ≡ p.opened
   pub limit : q.limit ≡ p.limit
+  pub layers : q.layers ≡ p.layers
 
 -- the error of an attempt whose reading ended in one
 abbrev pub call_error_of : SeqError → CallError

@@ -1,19 +1,19 @@
 -- What a core's parts keep of the machine's state.
-use Rattle.std.specs.Prelude.{◌≡◌, ℕ, List, [], Option, Some, None, is_some}
+use Rattle.std.specs.Prelude.{◌≡◌, ℕ, Option, Some, None, is_some}
 use Rattle.std.specs.List.{AllByRecursion}
 use Rattle.std.specs.Ordering.{nat_cmp}
 use Rattle.std.specs.BTreeMap.{get}
 use Rattle.tree_model.specs.Tree.{Tree, map_of}
 use Rattle.tree_model.specs.ValidTrees.{IsValidTree}
 use Rattle.tree_model.specs.Entries.{Entries, changed}
-use Rattle.lock_resources.specs.declared.request.Request.{Request}
 use Rattle.lock_table.specs.Grants.{IsTableOf}
 use Rattle.wait_cycles.specs.Walks.{Rises}
 use Rattle.wait_graph.specs.Graphs.{waits}
 use Rattle.overlays.specs.Views.{contents_after}
 use Rattle.call_contract.specs.CallChanges.{changes_of_calls}
 use Rattle.call_contract.specs.Calls.{CallMeaning}
-use Rattle.call_contract.specs.States.{Waiting, Live, State, view, of_session, sessions}
+use Rattle.call_contract.specs.States.{Live, State, view, of_session, sessions}
+use Rattle.tx_core.specs.Holding.{grants_of, request_of}
 use Rattle.tx_core.specs.declared.parts.Parts.{Parts}
 use Rattle.tx_core.specs.declared.parts.Place.{Place}
 use Rattle.tx_core.specs.declared.parts.Seat.{Seat}
@@ -28,20 +28,6 @@ ordinal_in (Some p) = p.ordinal
 abbrev pub seat_in : Option Place → Option Seat
 seat_in None = None
 seat_in (Some p) = p.seat
-
--- the grants of a transaction, if there is one
-abbrev pub grants_of : {C : Type 0} → Option (Live C) → List Request
-grants_of None = []
-grants_of (Some t) = t.grants
-
--- the request with which it waits, if it does
-abbrev pub waited_of : {C : Type 0} → Option (Waiting C) → Option Request
-waited_of None = None
-waited_of (Some w) = Some w.request
-
-abbrev pub request_of : {C : Type 0} → Option (Live C) → Option Request
-request_of None = None
-request_of (Some t) = waited_of t.waits
 
 module _ {C : Type 0} (is_valid : C → Type 0) (m : CallMeaning C) where
   -- what is kept of a live transaction: what its calls change on the committed tree, the map that it sees, whether it waits, and that its calls are valid

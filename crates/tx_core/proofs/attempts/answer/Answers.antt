@@ -42,7 +42,7 @@ returns-clause-seated g c =
     (seated_answers p1 _ s c.args.call c.in-Ok-copy.copy one.seated (ap (λ (x : Parts _ _). wait_in (tree.get nat_cmp x.places s)) a ∙ c.requires.ready)
     (record { ordinals = c.accept.ensures.ordinals; opened = ap (λ (x : Parts _ _). x.opened) b; limit = ap (λ (x : Parts _ _). x.limit) b; begun = ap (λ (x : Parts _ _). x.begun) b; prepared = refl })
     c.in-Ok-accept.ensures.waits (c.stop_waiting.ensures ∙ ap (λ (x : Parts _ _). without s x.waiting.items) b) (ap (λ (x : Parts _ _). x.number) b) (ap (λ (x : Parts _ _). x.live) b)
-    (c.note.ensures.book ∙ ap (λ (x : Parts _ _). x.book.items ++ n ∷ []) b) room)
+    (c.note.ensures.book ∙ ap (λ (x : Parts _ _). x.book.items ++ n ∷ []) b) room (ap (λ (x : Parts _ _). x.layers) b))
 
 pub returns-clause-cause : goal.returns-clause-cause
 returns-clause-cause g c = no_cause _ _ _ _ (ap (λ (x : Parts _ _). g.B.NodeRead.count x.base) c.accept.ensures.same ∙ c.in-Ok.ensures.cause.exact)

@@ -14,7 +14,6 @@ returns-clause-ok g c =
     let s = c.args.session in
     record {
       book = c.note.ensures.book ∙ ap (λ (r : List ℕ). p.book.items ++ call_entry s c.args.call (Deadlock r) ∷ []) c.in-Ok.ensures;
-      faults = refl;
       prepared = refl;
       cycle = c.args.cycle;
       is = refl;
@@ -29,4 +28,4 @@ returns-clause-seated g c =
     let s = c.args.session in
     seated_closes p _ s c.args.call _ _ c.requires.seated c.requires.ready (record { ordinals = c.unseat-seat.ensures.ordinals; opened = refl; limit = refl; begun = refl; prepared = refl })
     (wait_out s (λ o. seat_in (tree.get nat_cmp p.places o)) (λ o. seat_in (tree.get nat_cmp c.unseat-seat.new.places o)) c.unseat-seat.ensures.seats) c.stop_waiting.ensures refl
-    (omega (arith, live_one p s _ c.requires.seated c.requires.ready)) c.note.ensures.book c.note.ensures.capacity
+    (omega (arith, live_one p s _ c.requires.seated c.requires.ready)) c.note.ensures.book c.note.ensures.capacity refl

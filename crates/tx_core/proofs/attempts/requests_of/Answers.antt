@@ -1,15 +1,15 @@
-use Rattle.std.proofs.Common.{refl, sym, ap, ◌∙◌, Bool, cond, Some, None}
+use Rattle.std.proofs.Common.{refl, sym, ap, ◌∙◌, is_some, None}
+use Rattle.std.proofs.lemmas.Option.{same_Some}
+use Rattle.std.proofs.lemmas.Result.{IfOk-weaker}
 use Rattle.call_contract.specs.States.{view}
-use Rattle.tx_core.specs.declared.errors.SessionError.TheVariants.{IsWaiting}
 use Rattle.tx_core.specs.inside.Sessions.{wait_of}
-use Rattle.tx_core.proofs.Told.{call_refused}
 use Rattle.tx_core.proofs.Moves.{is_live}
 use Rattle.tx_core.proofs.Known.{known_then}
 use Rattle.tx_core.proofs.Reached.{sees, ready}
 use Rattle.tx_core.proofs.attempts.requests_of.Goals as goal
 
-pub returns-in-Ok-clause-value : goal.returns-in-Ok-clause-value
-returns-in-Ok-clause-value g c =
+pub returns-clause-value : goal.returns-clause-value
+returns-clause-value g c =
     let v = g.C.TreeCall.is_valid in
     let m = g.C.TreeCall.meaning in
     let told = g.B.NodeRead.contents in
@@ -17,21 +17,17 @@ returns-in-Ok-clause-value g c =
     let s = c.args.session in
     let seat = c.in-Some.seat.now in
     let there = sym c.in-Some.ensures in
-    λ st stands.
+    IfOk-weaker c.asked.result _ _ (λ wanted is st stands.
     let live = is_live v m told p st s seat stands there in
     record {
       live = live.0;
       found = live.1;
-      ready = ready v m told p st s seat live.0 stands there live.1 (sym c.is_some.ensures ∙ c.if-is_some.false);
-      are = c.in-Ok.ensures.value (view m live.0.calls st.tree) (sees v m told g.met.C.TreeCall.laws p st s seat live.0 stands there live.1);
-    }
+      ready = ready v m told p st s seat live.0 stands there live.1 (ap is_some (same_Some seat.waiting None (ap wait_of c.in-Some.ensures ∙ c.requires.ready)));
+      are = is (view m live.0.calls st.tree) (sees v m told g.met.C.TreeCall.laws p st s seat live.0 stands there live.1);
+    }) c.asked.ensures.value
 
-pub returns-in-Ok-clause-refused : goal.returns-in-Ok-clause-refused
-returns-in-Ok-clause-refused g c =
-    sym (call_refused c.args.parts.now c.args.session c.in-Some.seat.now.waiting c.requires (ap wait_of (sym c.in-Some.ensures))
-    ∙ ap (λ (b : Bool). cond b (Some IsWaiting) None) (sym c.if-is_some.ensures))
-
-pub returns-in-Ok-clause-known : goal.returns-in-Ok-clause-known
-returns-in-Ok-clause-known g c =
+pub returns-clause-known : goal.returns-clause-known
+returns-clause-known g c =
+    IfOk-weaker c.asked.result _ _ (λ wanted is.
     known_then g.C.TreeCall.is_valid g.C.TreeCall.meaning g.B.NodeRead.contents c.args.parts.now _ c.args.session c.in-Some.seat.now c.args.call.now _
-    refl (g.met.B.NodeRead.unchanged_contents _ _ c.asked.ensures.unchanged) (sym c.in-Some.ensures) c.asked.ensures.valid c.in-Ok.ensures.known
+    refl (g.met.B.NodeRead.unchanged_contents _ _ c.asked.ensures.unchanged) (sym c.in-Some.ensures) c.asked.ensures.valid is) c.asked.ensures.known

@@ -31,4 +31,4 @@ returns-clause-seated g c =
     let seats = taken_again s seat (λ o. seat_in (tree.get nat_cmp p.places o)) (λ o. seat_in (tree.get nat_cmp c.unseat.new.places o)) (λ o. seat_in (tree.get nat_cmp c.seat_again.new.places o)) c.unseat.ensures.seats c.seat_again.ensures.seats in
     seated_waits p _ s c.args.call c.args.request c.requires.noted.0 c.requires.seated c.requires.ready (record { ordinals = λ o. c.seat_again.ensures.ordinals o ∙ c.unseat.ensures.ordinals o; opened = refl; limit = refl; begun = refl; prepared = refl })
     (λ o. wait_put s seat (λ o. seat_in (tree.get nat_cmp p.places o)) (λ o. seat_in (tree.get nat_cmp c.seat_again.new.places o)) seats o ∙ ap (λ (k : ℕ). cond {A = Option (Option ℕ)} (s == o) (Some (Some k)) (wait_in (tree.get nat_cmp p.places o))) at)
-    c.enqueue.ensures refl refl (c.note.ensures.book ∙ ap (λ a. p.book.items ++ call_entry s c.args.call a ∷ []) c.requires.noted.1) room
+    c.enqueue.ensures refl refl (c.note.ensures.book ∙ ap (λ a. p.book.items ++ call_entry s c.args.call a ∷ []) c.requires.noted.1) room refl

@@ -13,7 +13,7 @@ returns-clause-goes g c =
     commit_goes g.C.TreeCall.is_valid g.C.TreeCall.meaning g.B.NodeRead.contents g.met.C.TreeCall.laws c.args.parts.now _ c.args.session c.args.prepared.number seat
     (sym c.in-Some.ensures.seat) (subst IsReady (sym c.in-Some.ensures.seat) c.requires.ready)
     c.unseat.ensures.seats c.unseat.ensures.ordinals refl c.faults-faults.ensures.in_order c.push_layer.ensures.effect
-    refl refl c.requires.number refl refl c.release_all.ensures c.stop.ensures.waits c.stop_waiting.ensures refl c.note.ensures.book
+    refl refl c.requires.number refl refl c.release_all.ensures c.stop.ensures.waits c.stop_waiting.ensures c.note.ensures.book
 
 pub returns-clause-seated : goal.returns-clause-seated
 returns-clause-seated g c =

@@ -12,7 +12,7 @@ pub returns-clause-ok : goal.returns-clause-ok
 returns-clause-ok g c =
     abort_goes g.C.TreeCall.is_valid g.C.TreeCall.meaning g.B.NodeRead.contents c.args.parts.now _ c.args.session c.in-Some._seat.now
     (sym c.in-Some.ensures) c.unseat.ensures.seats c.unseat.ensures.ordinals
-    (record { base = refl; layers = refl; opened = refl; limit = refl; number = refl }) refl c.release_all.ensures c.stop.ensures.waits c.stop_waiting.ensures refl refl
+    (record { base = refl; layers = refl; opened = refl; limit = refl; number = refl }) refl c.release_all.ensures c.stop.ensures.waits c.stop_waiting.ensures refl
     c.note.ensures.book
 
 pub returns-clause-refused : goal.returns-clause-refused
@@ -26,7 +26,7 @@ returns-clause-seated g c =
     let there = ap wait_of (sym c.in-Some.ensures) in
     seated_aborts p _ s _ c.requires there (record { ordinals = c.unseat.ensures.ordinals; opened = refl; limit = refl; begun = refl; prepared = refl })
     (wait_out s (λ o. seat_in (tree.get nat_cmp p.places o)) (λ o. seat_in (tree.get nat_cmp c.unseat.new.places o)) c.unseat.ensures.seats) c.stop_waiting.ensures refl
-    (omega (arith, live_one p s _ c.requires there)) c.note.ensures.book c.note.ensures.capacity
+    (omega (arith, live_one p s _ c.requires there)) c.note.ensures.book c.note.ensures.capacity refl
 
 pub note-requires : goal.note-requires
 note-requires g c = omega (arith, c.requires.room, live_one c.args.parts.now c.args.session _ c.requires (ap wait_of (sym c.in-Some.ensures)))

@@ -27,13 +27,13 @@ returns-clause-ok g c =
     let e = c.in_ok-make_room.ensures.same in
     let below : (p.opened + p.begun ≡ p.limit) → ⊥ = λ is. c.if-from.false (ap₂ (λ (x y : ℕ). x + y) c.from.ensures c.from-2.ensures ∙ is ∙ sym c.from-3.ensures) in
     let below1 : (p1.opened + p1.begun ≡ p1.limit) → ⊥ = λ is. below (sym (ap (λ (x : Parts _ _). x.opened + x.begun) e) ∙ is ∙ ap (λ (x : Parts _ _). x.limit) e) in
-    goes_after v m told p p1 _ _ c.in_ok-make_room.ensures.book (ap (λ (x : Parts _ _). x.faults) e)
+    goes_after v m told p p1 _ _ c.in_ok-make_room.ensures.book
     (λ st stands. subst (λ (x : Parts _ _). Stands v m told x st) (sym e)
     (stands_same v m told p (record p { book = p1.book }) (record { base = refl; layers = refl; opened = refl; limit = refl; number = refl }) refl refl (λ grants is. is) (λ o. refl) refl st stands))
     (begin_goes v m told p1 _ c.args.session _ c.new.result
     c.new.ensures (ap (λ (x : Parts _ _). seat_in (tree.get nat_cmp x.places c.args.session)) e ∙ sym c.in_default.ensures) (not_equal (p1.opened + p1.begun) p1.limit below1)
     (ap (λ x. x + 1) (c.ordinal_at-ordinal.ensures ∙ sym (ap (λ (x : Parts _ _). ordinal_in (tree.get nat_cmp x.places c.args.session)) e))) c.in_ok-seat_new.ensures.seats c.in_ok-seat_new.ensures.ordinals
-    (record { base = refl; layers = refl; opened = refl; limit = refl; number = refl }) refl refl refl refl refl refl
+    (record { base = refl; layers = refl; opened = refl; limit = refl; number = refl }) refl refl refl refl refl
     c.note.ensures.book)
 
 pub returns-clause-seated : goal.returns-clause-seated
@@ -50,7 +50,7 @@ returns-clause-seated g c =
     seated_on p p1 _ roomy
     (seated_begins p1 _ s _ roomy.seated (ap (λ (x : Parts _ _). wait_of (seat_in (tree.get nat_cmp x.places s))) e ∙ ap wait_of (sym c.in_default.ensures)) below1
     (ap (λ x. x + 1) (c.ordinal_at-ordinal.ensures ∙ sym (ap (λ (x : Parts _ _). ordinal_in (tree.get nat_cmp x.places s)) e))) c.note.ensures.book
-    (wait_put s _ (λ o. seat_in (tree.get nat_cmp p1.places o)) (λ o. seat_in (tree.get nat_cmp c.seat_new.new.places o)) c.in_ok-seat_new.ensures.seats) c.in_ok-seat_new.ensures.ordinals refl refl refl refl refl refl room refl)
+    (wait_put s _ (λ o. seat_in (tree.get nat_cmp p1.places o)) (λ o. seat_in (tree.get nat_cmp c.seat_new.new.places o)) c.in_ok-seat_new.ensures.seats) c.in_ok-seat_new.ensures.ordinals refl refl refl refl refl refl room refl refl)
 
 pub overflow_add-ordinal : goal.overflow_add-ordinal
 overflow_add-ordinal g c =
@@ -83,7 +83,7 @@ returns-in_err-seat_new-clause-seated g c =
       begun = refl;
       live = refl;
       prepared = refl;
-      spare = refl;
+      layers = refl;
     }) c.in_ok-make_room.ensures.room)
 
 pub returns-clause-refused : goal.returns-clause-refused

@@ -27,7 +27,6 @@ returns-clause-ok g c =
           ∙ ap (λ b. b.items ++ retry_entry s (Answered c.in_ok-copy.copy) ∷ []) (ap (λ (x : Parts g.row.C.Denot g.row.B.Denot). x.book) c.accept.ensures.same ∙ ap (λ (x : Parts g.row.C.Denot g.row.B.Denot). x.book) c.outcome_again.ensures.same)
           ∙ ap (λ (r : Reply). p.book.items ++ retry_entry s (Answered r) ∷ []) (c.in_ok-copy.ensures ∙ sym c.in_ok-reply.ensures.reply);
       prepared = ap (λ (x : Parts g.row.C.Denot g.row.B.Denot). x.prepared) c.note_again.ensures.same;
-      faults = ap (λ (x : Parts g.row.C.Denot g.row.B.Denot). x.faults) c.note_again.ensures.same ∙ ap (λ (x : Parts g.row.C.Denot g.row.B.Denot). x.faults) c.accept.ensures.same ∙ ap (λ (x : Parts g.row.C.Denot g.row.B.Denot). x.faults) c.outcome_again.ensures.same;
       reply = reply;
       is = refl;
       means = λ st t stands found. c.in_ok-reply.ensures.reply ∙ (c.in_ok-outcome.ensures.value call waits st stands).reply t found;
@@ -68,7 +67,8 @@ returns-clause-seated g c =
     (ap (λ (x : Parts _ _). x.number) e ∙ ap (λ (x : Parts _ _). x.number) b)
     (ap (λ (x : Parts _ _). x.live) e ∙ ap (λ (x : Parts _ _). x.live) b)
     (c.note_again.ensures.book ∙ ap (λ (x : Parts _ _). x.book.items ++ n ∷ []) b)
-    (omega (arith, c.note_again.ensures.capacity, ap (λ (x : Parts _ _). vec_capacity x.book) b)))
+    (omega (arith, c.note_again.ensures.capacity, ap (λ (x : Parts _ _). vec_capacity x.book) b))
+    (ap (λ (x : Parts _ _). x.layers) e ∙ ap (λ (x : Parts _ _). x.layers) b))
 
 pub note_again-requires : goal.note_again-requires
 note_again-requires g c =

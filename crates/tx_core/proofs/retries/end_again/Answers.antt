@@ -22,7 +22,6 @@ returns-clause-ok g c =
     record {
       book = c.note_again.ensures.book ∙ ap (λ (r : List ℕ). p.book.items ++ retry_entry s (Deadlock r) ∷ []) c.in_ok-copy.ensures;
       prepared = ap (λ (x : Parts g.row.C.Denot g.row.B.Denot). x.prepared) c.note_again.ensures.same;
-      faults = ap (λ (x : Parts g.row.C.Denot g.row.B.Denot). x.faults) c.note_again.ensures.same;
       cycle = c.args.cycle;
       is = refl;
       closes = c.requires.closes;
@@ -53,7 +52,7 @@ returns-clause-seated g c =
     (ap (λ (x : Parts _ _). x.number) e)
     (omega (arith, ap (λ (x : Parts _ _). x.live) e, live_one p s _ c.requires.seated at.1))
     (c.note_again.ensures.book ∙ ap (λ (r : List ℕ). p.book.items ++ retry_entry s (Deadlock r) ∷ []) c.in_ok-copy.ensures)
-    c.note_again.ensures.capacity
+    c.note_again.ensures.capacity (ap (λ (x : Parts _ _). x.layers) e)
 
 pub returns-in_err-copy-clause-seated : goal.returns-in_err-copy-clause-seated
 returns-in_err-copy-clause-seated g c = seated_itself c.args.parts.now c.requires.seated

@@ -1,8 +1,8 @@
-use Rattle.std.proofs.Common.{refl, ap, ◌∙◌, ◌++◌, ◌∷◌, [], length, vec_capacity, arith}
+use Rattle.std.proofs.Common.{◌≡◌, ℕ, Option, refl, sym, ap, ap₂, ◌∙◌, ◌++◌, ◌∷◌, [], length, vec_capacity, arith}
 use Rattle.tx_core.specs.declared.parts.Parts.{Parts}
 use Rattle.tx_core.proofs.Told.{has_seat}
 use Rattle.tx_core.proofs.ToldAgain.{waits_at, entry_room, seated_fails_again}
-use Rattle.call_contract.specs.Books.{latest}
+use Rattle.tx_core.specs.Cores.{count_told}
 use Rattle.tx_core.specs.inside.Goes.{unqueued}
 use Rattle.tx_core.specs.inside.Retrying.{at_rest, failed_retry}
 use Rattle.tx_core.proofs.Reached.{stands_same}
@@ -14,17 +14,16 @@ returns-clause-failed g c =
     let m = g.C.TreeCall.meaning in
     let told = g.B.NodeRead.contents in
     let s = c.args.session in
-    let f = c.fault_now-faults.result in (
-      f,
-      record {
-        book = c.note.ensures.book ∙ ap (λ (x : Parts _ _). x.book.items ++ failed_retry s c.args.grants f ∷ []) c.cease.ensures.same;
-        prepared = refl;
-        above = c.fault_now-faults.ensures;
-        faults = c.latest-parts.ensures ∙ ap (λ (x : Parts _ _). latest x.faults f) c.cease.ensures.same;
-        state = λ st t stands found. stands_same v m told c.cease.new.parts _ (record { base = refl; layers = refl; opened = refl; limit = refl; number = refl }) refl refl (λ grants is. is) (λ o. refl) refl
-            (unqueued (at_rest st t) s) (c.cease.ensures.state st t stands found);
-      },
-    )
+    let f = c.fault_now-faults.result in
+    let said : f ≡ count_told c.call_error.result (g.B.NodeRead.count c.cease.new.parts.base) =
+    c.fault_now-faults.ensures ∙ ap₂ count_told (sym c.call_error.ensures) (ap (λ (x : Parts _ _). g.B.NodeRead.count x.base) (sym c.cease.ensures.same)) in
+    record {
+      book = c.note.ensures.book ∙ ap (λ (x : Parts _ _). x.book.items ++ failed_retry s c.args.grants f ∷ []) c.cease.ensures.same
+          ∙ ap (λ (x : Option ℕ). c.args.parts.now.book.items ++ failed_retry s c.args.grants x ∷ []) said;
+      prepared = refl;
+      state = λ st t stands found. stands_same v m told c.cease.new.parts _ (record { base = refl; layers = refl; opened = refl; limit = refl; number = refl }) refl refl (λ grants is. is) (λ o. refl) refl
+          (unqueued (at_rest st t) s) (c.cease.ensures.state st t stands found);
+    }
 
 pub cease-requires : goal.cease-requires
 cease-requires g c = record { seated = has_seat _ (waits_at c.args.parts.now c.args.session c.requires.waits).1 }
@@ -51,4 +50,4 @@ returns-clause-seated g c =
     (record { ordinals = c.cease.ensures.ordinals; opened = ap (λ (x : Parts _ _). x.opened) e; limit = ap (λ (x : Parts _ _). x.limit) e; begun = ap (λ (x : Parts _ _). x.begun) e; prepared = refl })
     c.cease.ensures.waits c.cease.ensures.queue (ap (λ (x : Parts _ _). x.number) e) (ap (λ (x : Parts _ _). x.live) e)
     (c.note.ensures.book ∙ ap (λ (x : Parts _ _). x.book.items ++ failed_retry s c.args.grants f ∷ []) e)
-    (omega (arith, c.note.ensures.capacity, ap (λ (x : Parts _ _). vec_capacity x.book) e))
+    (omega (arith, c.note.ensures.capacity, ap (λ (x : Parts _ _). vec_capacity x.book) e)) (ap (λ (x : Parts _ _). x.layers) e)

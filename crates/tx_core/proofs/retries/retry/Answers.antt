@@ -1,7 +1,8 @@
 use Rattle.std.proofs.Common.{ap, ◌∙◌, arith}
-use Rattle.std.proofs.lemmas.Result.{on_err_weaker, IfOk-weaker}
+use Rattle.std.proofs.lemmas.Result.{IfErr-weaker, IfOk-weaker}
 use Rattle.std.specs.Ordering.{nat_cmp}
 use Rattle.std.specs.BTreeMap as tree
+use Rattle.tx_core.specs.Cores.{count_told}
 use Rattle.tx_core.specs.declared.parts.Parts.{Parts}
 use Rattle.tx_core.specs.inside.Retrying.{failed_retry}
 use Rattle.tx_core.specs.inside.Sessions.{wait_in}
@@ -38,12 +39,11 @@ pub returns-in-Ok-clause-err : goal.returns-in-Ok-clause-err
 returns-in-Ok-clause-err g c =
     let q = c.retry_in_room.new.parts in
     let s = c.args.session in
-    on_err_weaker c.retry_in_room.result
-    (λ is call waits.
+    IfErr-weaker c.retry_in_room.result _ _
+    (λ e is call waits.
     let failed = is call (calls_same c.args.parts.now c.make_room.new.parts c.args.session (ap (λ (x : Parts _ _). wait_in (tree.get nat_cmp x.places c.args.session)) c.make_room.ensures.same) c.make_room.ensures.book ∙ waits) in (
       failed.0,
-      failed.1,
-      goes_after_room g.C.TreeCall.is_valid g.C.TreeCall.meaning g.B.NodeRead.contents c.args.parts.now c.make_room.new.parts s call (failed_retry s failed.0 failed.1) q (roomy_stays g.C.TreeCall.is_valid g.C.TreeCall.meaning g.B.NodeRead.contents c.args.parts.now c.make_room.new.parts c.make_room.ensures.same c.make_room.ensures.book) failed.2,
+      goes_after_room g.C.TreeCall.is_valid g.C.TreeCall.meaning g.B.NodeRead.contents c.args.parts.now c.make_room.new.parts s call (failed_retry s failed.0 (count_told e (g.B.NodeRead.count q.base))) q (roomy_stays g.C.TreeCall.is_valid g.C.TreeCall.meaning g.B.NodeRead.contents c.args.parts.now c.make_room.new.parts c.make_room.ensures.same c.make_room.ensures.book) failed.1,
     ))
     c.retry_in_room.ensures.err
 
@@ -56,9 +56,10 @@ returns-in-Err-clause-seated g c = seated_on c.args.parts.now c.make_room.new.pa
 pub returns-in-Err-clause-err : goal.returns-in-Err-clause-err
 returns-in-Err-clause-err g c =
     let q = c.fail_again.new.parts in
-    let f = c.fail_again.ensures.failed.0 in
+    let f = count_told c.fail_again.result (g.B.NodeRead.count q.base) in
     λ call waits. (
       0,
-      f,
-      failed_early g.C.TreeCall.is_valid g.C.TreeCall.meaning g.B.NodeRead.contents c.args.parts.now q c.args.session call f (failed_after g.C.TreeCall.is_valid g.C.TreeCall.meaning g.B.NodeRead.contents c.args.parts.now c.make_room.new.parts q c.args.session 0 f (roomy_stays g.C.TreeCall.is_valid g.C.TreeCall.meaning g.B.NodeRead.contents c.args.parts.now c.make_room.new.parts c.make_room.ensures.same c.make_room.ensures.book) c.fail_again.ensures.failed.1),
+      failed_early g.C.TreeCall.is_valid g.C.TreeCall.meaning g.B.NodeRead.contents c.args.parts.now q c.args.session call f
+          (failed_after g.C.TreeCall.is_valid g.C.TreeCall.meaning g.B.NodeRead.contents c.args.parts.now c.make_room.new.parts q c.args.session 0 f
+          (roomy_stays g.C.TreeCall.is_valid g.C.TreeCall.meaning g.B.NodeRead.contents c.args.parts.now c.make_room.new.parts c.make_room.ensures.same c.make_room.ensures.book) c.fail_again.ensures.failed),
     )

@@ -2,9 +2,10 @@ use Rattle.std.proofs.Common.{sym, ap, ◌∙◌, subst, List}
 use Rattle.std.specs.Ordering.{nat_cmp}
 use Rattle.std.specs.BTreeMap as tree
 use Rattle.tx_core.specs.inside.Sessions.{HasRoom, wait_in}
-use Rattle.std.proofs.lemmas.Result.{on_err_weaker, IfOk-weaker}
+use Rattle.std.proofs.lemmas.Result.{IfErr-weaker, IfOk-weaker}
 use Rattle.lock_resources.specs.declared.request.Request.{Request}
 use Rattle.tx_core.specs.declared.parts.Parts.{Parts}
+use Rattle.tx_core.specs.Cores.{count_told}
 use Rattle.tx_core.specs.inside.Asking.{IsInside, granted_in}
 use Rattle.tx_core.specs.inside.Goes.{Reaches}
 use Rattle.tx_core.specs.inside.Retrying.{AreAsked, IsSettledAgain, IsFailedAgain, waiting_call}
@@ -18,12 +19,12 @@ returns-in-Err-clause-err g c =
     let v = g.C.TreeCall.is_valid in
     let m = g.C.TreeCall.meaning in
     let told = g.B.NodeRead.contents in
-    let f = c.fail_again.ensures.failed.0 in
+    let q = c.fail_again.new.parts in
+    let f = count_told c.fail_again.result (g.B.NodeRead.count q.base) in
     λ call waits. (
       0,
-      f,
-      failed_early v m told c.args.parts.now c.fail_again.new.parts c.args.session call f
-          (failed_after v m told c.args.parts.now c.requests_again.new.parts c.fail_again.new.parts c.args.session 0 f c.requests_again.ensures.stays c.fail_again.ensures.failed.1),
+      failed_early v m told c.args.parts.now q c.args.session call f
+          (failed_after v m told c.args.parts.now c.requests_again.new.parts q c.args.session 0 f c.requests_again.ensures.stays c.fail_again.ensures.failed),
     )
 
 pub returns-then-len-gt-MOST_REQUESTS-clause-err : goal.returns-then-len-gt-MOST_REQUESTS-clause-err
@@ -32,12 +33,11 @@ returns-then-len-gt-MOST_REQUESTS-clause-err g c =
     let m = g.C.TreeCall.meaning in
     let told = g.B.NodeRead.contents in
     let q = c.fail_again-then-len-gt-MOST_REQUESTS.new.parts in
-    let f = c.fail_again-then-len-gt-MOST_REQUESTS.ensures.failed.0 in
+    let f = count_told c.fail_again-then-len-gt-MOST_REQUESTS.result (g.B.NodeRead.count q.base) in
     λ call waits. (
       0,
-      f,
       failed_early v m told c.args.parts.now q c.args.session call f
-          (failed_after v m told c.args.parts.now c.requests_again.new.parts q c.args.session 0 f c.requests_again.ensures.stays c.fail_again-then-len-gt-MOST_REQUESTS.ensures.failed.1),
+          (failed_after v m told c.args.parts.now c.requests_again.new.parts q c.args.session 0 f c.requests_again.ensures.stays c.fail_again-then-len-gt-MOST_REQUESTS.ensures.failed),
     )
 
 pub returns-clause-ok : goal.returns-clause-ok
@@ -58,7 +58,6 @@ returns-clause-ok g c =
     (asked_after v m told p p1 p2 s c.in-Ok.wanted.requests got more c.requests_again.ensures.stays (subst (λ (xs : List Request). AreAsked v m told p1 s xs got more p2) c.as_slice.ensures c.ask_again-got.ensures.asked))
     (subst (λ (xs : List Request). IsInside xs got) c.as_slice.ensures c.ask_again-got.ensures.inside)
     (ap (λ (x : Parts g.row.C.Denot g.row.B.Denot). x.book.items) c.ask_again-got.ensures.same ∙ ap (λ (x : Parts g.row.C.Denot g.row.B.Denot). x.book.items) c.requests_again.ensures.same)
-    (ap (λ (x : Parts g.row.C.Denot g.row.B.Denot). x.faults) c.ask_again-got.ensures.same ∙ ap (λ (x : Parts g.row.C.Denot g.row.B.Denot). x.faults) c.requests_again.ensures.same)
     (ap (λ (x : Parts g.row.C.Denot g.row.B.Denot). x.prepared) c.ask_again-got.ensures.same ∙ ap (λ (x : Parts g.row.C.Denot g.row.B.Denot). x.prepared) c.requests_again.ensures.same)
     (ap (λ (x : Parts g.row.C.Denot g.row.B.Denot). x.places) c.ask_again-got.ensures.same ∙ ap (λ (x : Parts g.row.C.Denot g.row.B.Denot). x.places) c.requests_again.ensures.same)
     (ap (λ (x : Parts g.row.C.Denot g.row.B.Denot). x.waiting.items) c.ask_again-got.ensures.same ∙ ap (λ (x : Parts g.row.C.Denot g.row.B.Denot). x.waiting.items) c.requests_again.ensures.same)
@@ -76,15 +75,14 @@ returns-clause-err g c =
     let q = c.settle_again.new.parts in
     let got = c.ask_again-got.result.got in
     let s = c.args.session in
-    on_err_weaker c.settle_again.result (λ is call waits. (
+    IfErr-weaker c.settle_again.result _ _ (λ e is call waits.
+    let f = count_told e (g.B.NodeRead.count q.base) in (
       granted_in c.in-Ok.wanted.requests got,
-      is.0,
-      left_again v m told p p2 q s call c.in-Ok.wanted.requests got is.0
+      left_again v m told p p2 q s call c.in-Ok.wanted.requests got f
           (c.in-Ok.ensures.value call waits)
           (λ st t stands found. subst (λ (xs : List Request). Reaches v m told st t xs p2 got) c.as_slice.ensures (c.ask_again-got.ensures.got st t (c.requests_again.ensures.stays.state st stands) found))
           (ap (λ (x : Parts g.row.C.Denot g.row.B.Denot). x.book.items) c.ask_again-got.ensures.same ∙ ap (λ (x : Parts g.row.C.Denot g.row.B.Denot). x.book.items) c.requests_again.ensures.same)
-          (ap (λ (x : Parts g.row.C.Denot g.row.B.Denot). x.faults) c.ask_again-got.ensures.same ∙ ap (λ (x : Parts g.row.C.Denot g.row.B.Denot). x.faults) c.requests_again.ensures.same)
-          (subst (λ (xs : List Request). IsFailedAgain v m told p2 s (granted_in xs got) is.0 q) c.as_slice-2.ensures is.1),
+          (subst (λ (xs : List Request). IsFailedAgain v m told p2 s (granted_in xs got) f q) c.as_slice-2.ensures is),
     ))
     c.settle_again.ensures.err
 

@@ -28,7 +28,7 @@ returns-clause-ok g c =
     put_waiting_again g.C.TreeCall.is_valid g.C.TreeCall.meaning g.B.NodeRead.contents p c.note_again.new.parts _ c.args.session c.args.request.now
     c.in_ok-waited.field-0.waited c.in_ok-waited.field-0.noted c.in_ok-waited.field-0.shown c.args.holders c.in_ok-waited.field-0.holders c.args.more r _ _
     c.in_ok-waited.ensures.waited c.in_ok-waited.ensures.noted c.in_ok-waited.ensures.shown c.in_ok-waited.ensures.holders c.answer_of-2.ensures c.answer_of-3.ensures
-    on refl c.requires.alone (sym c.note_again.ensures.same) (record { base = refl; layers = refl; opened = refl; limit = refl; number = refl }) refl refl refl c.wait.ensures.waits refl refl refl c.note_again.ensures.book
+    on refl c.requires.alone (sym c.note_again.ensures.same) (record { base = refl; layers = refl; opened = refl; limit = refl; number = refl }) refl refl refl c.wait.ensures.waits refl refl c.note_again.ensures.book
 
 pub returns-clause-seated : goal.returns-clause-seated
 returns-clause-seated g c =
@@ -57,4 +57,4 @@ returns-clause-seated g c =
       begun = ap (λ (x : Parts _ _). x.begun) e;
       prepared = ap (λ (x : Parts _ _). x.prepared) e;
     })
-    (ap (λ (x : Parts _ _). x.places) e) (ap (λ (x : Parts _ _). x.waiting.items) e) (ap (λ (x : Parts _ _). x.number) e) (ap (λ (x : Parts _ _). x.live) e) adds room
+    (ap (λ (x : Parts _ _). x.places) e) (ap (λ (x : Parts _ _). x.waiting.items) e) (ap (λ (x : Parts _ _). x.number) e) (ap (λ (x : Parts _ _). x.live) e) adds room (ap (λ (x : Parts _ _). x.layers) e)

@@ -1,8 +1,14 @@
-use Rattle.std.proofs.Common.{Some, ap}
+use Rattle.std.proofs.Common.{Some, ap, arith}
+use Rattle.tx_core.proofs.Kept.{shown_merged}
 use Rattle.tx_core.proofs.Merged.{core_merged}
 use Rattle.tx_core.proofs.engine.Core+C+SortedSeq.merge.Goals as goal
 
 pub invariant_of-self : goal.invariant_of-self
 invariant_of-self g c =
     core_merged g.C.TreeCall.is_valid g.C.TreeCall.meaning Some (λ _. 0) c.self.inside.opening.value c.self.inside.number c.self.inside.limit
-    c.self.inside.parts c.merge.new.parts c.merge.ensures.same c.merge.ensures.spare (ap Some c.merge.ensures.contents) c.self.invariant
+    c.self.inside.parts c.merge.new.parts c.merge.ensures.same c.merge.ensures.spare (ap Some c.merge.ensures.contents) (omega (arith)) c.self.invariant
+
+pub returns : goal.returns
+returns g c =
+    let h = c.self.inside in
+    shown_merged g.C.TreeCall.is_valid g.C.TreeCall.meaning Some h.opening.value h.number h.limit h.parts c.merge.new.parts _ c.self.view_is c.merge.ensures.same (ap Some c.merge.ensures.contents)

@@ -4,8 +4,12 @@ use Rattle.node_seq.specs.Trees.{StandsFor}
 use Rattle.call_contract.specs.Sessions.{commits_in}
 use Rattle.tx_core.specs.Commits.{ReplaysOthers}
 use Rattle.tx_core.specs.Cores.{CoreView, state_from, next_number}
+use Rattle.tx_core.proofs.Counted.{same_count}
 use Rattle.tx_core.proofs.Kept.{core_commits}
 use Rattle.tx_core.proofs.CommitsKept.{core_replays}
+use Rattle.call_contract.specs.Lives.{NoCellIsShared}
+use Rattle.tx_core.proofs.Kept.{shown_commit}
+use Rattle.tx_core.proofs.Truths.{core_apart}
 use Rattle.tx_core.proofs.engine.Core.commit.Goals as goal
 
 pub commit-requires-clause-seated : goal.commit-requires-clause-seated
@@ -26,9 +30,21 @@ pub invariant_of-self : goal.invariant_of-self
 invariant_of-self g c =
     core_commits g.C.TreeCall.is_valid g.C.TreeCall.meaning g.B.NodeRead.contents g.B.NodeRead.count c.self.inside.opening.value c.self.inside.number c.self.inside.limit
     c.self.inside.parts _ c.commit.new.parts c.self.invariant c.commit.ensures.goes c.commit.ensures.seated
+    (same_count g.B.NodeRead.count c.self.inside.opening.value c.self.inside.parts c.commit.new.parts c.commit.ensures.base)
 
 pub returns-clause-others : goal.returns-clause-others
 returns-clause-others g c =
     subst (λ (v : CoreView _ _). (t : Tree) → StandsFor (g.B.NodeRead.contents v.opening) t → ReplaysOthers g.C.TreeCall.meaning (state_from g.C.TreeCall.meaning t v) c.args.session) c.self.view_is
     (λ t opens. core_replays g.C.TreeCall.is_valid g.C.TreeCall.meaning g.B.NodeRead.contents g.met.C.TreeCall.laws g.B.NodeRead.count c.self.inside.opening.value c.self.inside.number c.self.inside.limit
     c.self.inside.parts c.self.invariant t opens c.args.session)
+
+pub returns-clause-committed : goal.returns-clause-committed
+returns-clause-committed g c =
+    let h = c.self.inside in
+    shown_commit g.C.TreeCall.is_valid g.C.TreeCall.meaning g.B.NodeRead.contents h.opening.value h.number h.limit h.parts c.commit.new.parts _ _ c.self.view_is c.commit.ensures.goes.book c.commit.ensures.none_prepared c.commit.ensures.base
+
+pub returns-clause-apart : goal.returns-clause-apart
+returns-clause-apart g c =
+    let h = c.self.inside in
+    subst (λ (v : CoreView _ _). (t : Tree) → StandsFor (g.B.NodeRead.contents v.opening) t → NoCellIsShared (state_from g.C.TreeCall.meaning t v)) c.self.view_is
+    (core_apart g.C.TreeCall.is_valid g.C.TreeCall.meaning g.B.NodeRead.contents g.met.C.TreeCall.laws g.B.NodeRead.count h.opening.value h.number h.limit h.parts c.self.invariant)

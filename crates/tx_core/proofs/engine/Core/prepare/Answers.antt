@@ -3,9 +3,14 @@ use Rattle.call_contract.specs.Sessions.{live_in}
 use Rattle.tx_core.specs.Cores.{CoreView}
 use Rattle.tx_core.specs.Refusals.{refused_call}
 use Rattle.tx_core.specs.declared.parts.Parts.{Parts}
+use Rattle.tx_core.proofs.Counted.{same_count}
 use Rattle.tx_core.proofs.Kept.{core_still}
 use Rattle.tx_core.proofs.CommitsKept.{prepared_kept}
 use Rattle.tx_core.proofs.Told.{layered_seated, number_fits, seat_refused}
+use Rattle.std.proofs.Common.{Some, ap₂}
+use Rattle.std.proofs.lemmas.Result.{on_err_weaker}
+use Rattle.overlays.specs.Views.{contents_after}
+use Rattle.tx_core.proofs.Kept.{as_ok, shown_kept, shown_prepared}
 use Rattle.tx_core.proofs.engine.Core.prepare.Goals as goal
 
 pub prepare-requires : goal.prepare-requires
@@ -17,10 +22,32 @@ invariant_of-self g c =
     let q = c.prepare.new.parts in
     let same = c.prepare.ensures.same in
     core_still g.C.TreeCall.is_valid g.C.TreeCall.meaning g.B.NodeRead.contents g.B.NodeRead.count c.self.inside.opening.value c.self.inside.number c.self.inside.limit p q c.self.invariant
-    (ap (λ (x : Parts _ _). x.book.items) same) (ap (λ (x : Parts _ _). x.faults) same) c.prepare.ensures.state
+    (ap (λ (x : Parts _ _). x.book.items) same) (same_count g.B.NodeRead.count c.self.inside.opening.value p q (ap (λ (x : Parts _ _). x.base) same)) c.prepare.ensures.state
     (layered_seated p q p.base q.layers q.prepared c.self.invariant.seated same
     (prepared_kept p q c.args.session c.prepare.result c.self.invariant.seated.prepared (ap (λ (x : Parts _ _). x.places) same) c.prepare.ensures.prepared c.prepare.ensures.ready c.prepare.ensures.spare c.prepare.ensures.err))
 
 pub returns-clause-refused : goal.returns-clause-refused
 returns-clause-refused g c =
     c.prepare.ensures.refused ∙ seat_refused c.self.inside.parts c.args.session c.self.invariant.seated ∙ ap (λ (v : CoreView _ _). refused_call (live_in v.book c.args.session)) c.self.view_is
+
+pub returns-clause-ok : goal.returns-clause-ok
+returns-clause-ok g c =
+    let h = c.self.inside in
+    let p = h.parts in
+    let q = c.prepare.new.parts in
+    let same = c.prepare.ensures.same in
+    let base = ap (λ (x : Parts _ _). x.base) same in
+    as_ok c.prepare.result
+    (λ is _. shown_prepared g.C.TreeCall.is_valid g.C.TreeCall.meaning g.B.NodeRead.contents h.opening.value h.number h.limit p q (Some c.args.session) _ c.self.view_is (ap (λ (x : Parts _ _). x.book.items) same) is
+    (ap₂ contents_after c.prepare.ensures.layers (ap g.B.NodeRead.contents base)) base) c.prepare.ensures.prepared
+
+pub returns-clause-err : goal.returns-clause-err
+returns-clause-err g c =
+    let h = c.self.inside in
+    let p = h.parts in
+    let q = c.prepare.new.parts in
+    let same = c.prepare.ensures.same in
+    let base = ap (λ (x : Parts _ _). x.base) same in
+    on_err_weaker c.prepare.result
+    (λ is. shown_kept g.C.TreeCall.is_valid g.C.TreeCall.meaning g.B.NodeRead.contents h.opening.value h.number h.limit p q _ c.self.view_is (ap (λ (x : Parts _ _). x.book.items) same) is.0
+    (ap₂ contents_after c.prepare.ensures.layers (ap g.B.NodeRead.contents base)) base) c.prepare.ensures.err
