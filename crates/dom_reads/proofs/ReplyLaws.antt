@@ -1,5 +1,5 @@
 -- What the reading calls reply to, by the record of the node that was looked for.
-use Rattle.std.proofs.Common.{◌≡◌, ◌≤◌, ◌-◌, ◌^◌, ℕ, Bool, true, false, cond, nat_le, nat_lt, [], ◌∷◌, ◌++◌, length, if◌then◌else◌, List, Option, Some, None, IfSome, is_some, option_map, unwrap_or, nat_cmp, is_eq, refl, sym, ap, subst, ◌∙◌, arith}
+use Rattle.std.proofs.Common.{◌≡◌, ◌≢◌, true≢false, IsSome, ◌≤◌, ◌-◌, ◌^◌, ℕ, Bool, true, false, cond, nat_le, nat_lt, [], ◌∷◌, ◌++◌, length, if◌then◌else◌, List, Option, Some, None, IfSome, is_some, option_map, unwrap_or, nat_cmp, is_eq, refl, sym, ap, subst, ◌∙◌, arith}
 use Rattle.std.proofs.lemmas.Bool.Decides.{nat_tests}
 use Rattle.std.proofs.lemmas.Str.{encodes-chars, IsUtf8-from_is_utf8, length-le-encodes}
 use Rattle.std.specs.Str.{chars, is_utf8}
@@ -36,6 +36,7 @@ use Rattle.tree_model.proofs.UnbrokenTrees.{catalogue_labels}
 use Rattle.tree_model.proofs.WholeTree.{beside_root}
 use Rattle.node_seq.specs.Trees.{StandsFor}
 use Rattle.dom_reads.specs.inside.Catalogues.{catalogue_of}
+use Rattle.dom_reads.specs.ReadCounts.{child_reads}
 use Rattle.dom_reads.specs.inside.Counts.{at_most}
 use Rattle.dom_reads.proofs.StepLaws.{attributes_there, root_not_found}
 
@@ -78,7 +79,7 @@ document_is g r e = on_found (λ h. is_document h ≡ is_document_record (Some r
     by l ats ch nx (Text d) = refl
     by l ats ch nx (Attr v) = refl
 
-element_is : (g : Forest) (r : Record) → Some r ≡ record_of g → is_element g ≡ is_element_record (Some r)
+pub element_is : (g : Forest) (r : Record) → Some r ≡ record_of g → is_element g ≡ is_element_record (Some r)
 element_is g r e = on_found (λ h. is_element h ≡ is_element_record (Some r)) g r e (λ l ats ch nx. by l ats ch nx r)
   where
     by : (l : Label) (ats : Attributes) (ch nx : Forest) (r : Record) → is_element (node l r ats ch nx) ≡ is_element_record (Some r)
@@ -93,6 +94,23 @@ document_reply p g r e h = ap (λ b. if b then Place None else Place (p g)) (sym
 
 pub beside_reply : (p : Forest → Option Label) (g : Forest) (r : Record) → Some r ≡ record_of g → is_document_record (Some r) ≡ false → Place (p g) ≡ see (λ h. navigation.unless_document (p h) h) g
 beside_reply p g r e h = ap (λ b. if b then Place None else Place (p g)) (sym (document_is g r e ∙ h)) ∙ seen (λ h. navigation.unless_document (p h) h) g (there g r e)
+
+-- where a child doesn't show its parent, none stands below it
+pub two_reads : (l : Label) (t : Tree) (o : Option Label) (b : Bool) (child : Forest → Option Label) → IsValidTree t → child none ≡ None → (found (at l t.documents) ≡ true → o ≡ child (at l t.documents))
+    → (IsSome o → l ≢ root → b ≡ true) → b ≡ false → child_reads (child (at l t.documents)) ≡ 2
+two_reads l t o b child w n is shown hidden = by (at l t.documents) refl
+  where
+    by_child : (p : Option Label) → found (at l t.documents) ≡ true → o ≡ p → child_reads p ≡ 2
+    by_child None y q = refl
+    by_child (Some c) y q = absurd (true≢false (sym (shown (ap is_some q) (λ h. root_not_found l t w y h)) ∙ hidden))
+
+    by : (g : Forest) → at l t.documents ≡ g → child_reads (child g) ≡ 2
+    by none e = ap child_reads n
+    by (node m r ats ch nx) e = let y : found (at l t.documents) ≡ true = ap found e in by_child (child (node m r ats ch nx)) y (is y ∙ ap child e)
+
+pub one_at_least : (o : Option Label) → 1 ≤ child_reads o
+one_at_least None = omega arith
+one_at_least (Some c) = omega arith
 
 -- ---- attributes
 
@@ -128,6 +146,9 @@ has_attr_reply l n t r w e h =
     some_or_false : (b : Bool) → is_some (if b then beside n (attributes_of (at l t.documents)) else None) ≡ (if b then is_some (beside n (attributes_of (at l t.documents))) else false)
     some_or_false true = refl
     some_or_false false = refl
+
+pub found_attributes : (l : Label) (t : Tree) (r : Record) → IsValidTree t → Some r ≡ record_of (at l t.documents) → attributes_at l t ≡ attributes_of (at l t.documents)
+found_attributes l t r w e = attributes_there l t (not_root l t w (there (at l t.documents) r e))
 
 pub attrs_reply : (l : Label) (t : Tree) (r : Record) → IsValidTree t → Some r ≡ record_of (at l t.documents) → is_element_record (Some r) ≡ true → reply.Attrs (Some (attributes_at l t)) ≡ attributes.attrs l t
 attrs_reply l t r w e h =

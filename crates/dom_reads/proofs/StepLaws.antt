@@ -1,5 +1,5 @@
 -- What the reads of the steps find in the map of a valid tree.
-use Rattle.std.proofs.Common.{◌≡◌, ℕ, true, false, cond, if◌then◌else◌, List, [], ◌∷◌, ◌++◌, Option, Some, None, IfSome, IfOk, Result, Ok, Err, Less, Equal, Greater, nat_cmp, is_lt, is_eq, inr, ⊎_elim, refl, sym, ap, subst, ◌∙◌, true≢false, ◌+◌, ◌==◌, length, drop, arith}
+use Rattle.std.proofs.Common.{◌≡◌, ℕ, true, false, cond, if◌then◌else◌, List, [], ◌∷◌, ◌++◌, Option, Some, None, IfSome, option_map, IfOk, Result, Ok, Err, Less, Equal, Greater, nat_cmp, is_lt, is_eq, inr, ⊎_elim, refl, sym, ap, subst, ◌∙◌, true≢false, ◌+◌, ◌==◌, length, drop, arith}
 use Rattle.std.specs.Ordering.{ordering_then}
 use Rattle.std.specs.Cmp.Lexicographic.{slice_cmp}
 use Rattle.std.specs.List.{AllByRecursion}
@@ -36,7 +36,7 @@ use Rattle.tree_model.proofs.ValidKeys.{HasValidKey, keys_valid}
 use Rattle.tree_model.proofs.WholeTree.{catalogue_entries, names_of_root, beside_root, documents_above, get_document, get_node, prev_in_tree}
 use Rattle.node_seq.specs.Reads.{Finds}
 use Rattle.node_seq.specs.Trees.{OnTree}
-use Rattle.dom_reads.specs.inside.Steps.{value_of, if_behind}
+use Rattle.dom_reads.specs.inside.Steps.{value_of, toward_key, if_behind}
 use Rattle.dom_reads.proofs.FoundLabels.{IsPlace, all_places, above_place}
 
 -- ---- children
@@ -158,6 +158,11 @@ past_prefix (x ∷ l) w (y ∷ k) h =
       | Greater ↦ λ g. cc
     ] h
 
+-- the child on the way to what was found is that on the way to its key
+pub child_by_key : (p : Label) (o : Option (Key × Record)) → toward_key p (option_map (λ e. e.0) o) ≡ if_child p o
+child_by_key p None = refl
+child_by_key p (Some e) = refl
+
 -- the child on the way to what lies before a label lies before it
 pub before_label : (l p : Label) (o : Option (Key × Record)) → IfSome o (Below (node_key l)) → IfSome (if_child p o) (λ k. slice_cmp nat_cmp k l ≡ Less)
 before_label l p None h = tt
@@ -180,6 +185,10 @@ before_label l p (Some e) h = elim (is_under (side p e.0.label)) as (λ u. is_un
       | Equal ↦ λ v. absurd (none_before n v)
       | Greater ↦ λ v. cc
     ] g
+
+pub before_key : (l p : Label) (o : Option Key) → IfSome o (λ k. key_cmp k (node_key l) ≡ Less) → IfSome (toward_key p o) (λ k. slice_cmp nat_cmp k l ≡ Less)
+before_key l p None h = tt
+before_key l p (Some k) h = before_label l p (Some (k, Document)) h
 
 -- the root has no siblings
 pub root_not_found : (l : Label) (t : Tree) → IsValidTree t → found (at l t.documents) ≡ true → l ≡ root → ⊥

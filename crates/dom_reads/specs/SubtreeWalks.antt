@@ -1,5 +1,5 @@
 -- The entries of a subtree, and a walk over those below its node, one after another.
-use Rattle.std.specs.Prelude.{◌≡◌, ◌<◌, Bool, cond, List, [], ◌∷◌, Option, Some, None, IfSome}
+use Rattle.std.specs.Prelude.{◌≡◌, ◌<◌, ◌≤◌, ◌+◌, ℕ, Bool, cond, List, [], ◌∷◌, length, Option, Some, None, IfSome}
 use Rattle.std.specs.List.{cons_option}
 use Rattle.dewey_labels.specs.Labels.{Label}
 use Rattle.dewey_labels.specs.Sides.{side, is_in}
@@ -48,3 +48,7 @@ pub record HasStepped (contents : Option Entries) (old new : Stand) (found : Opt
   pub above : IfSome found (λ e. LiesAbove e.0 new.next)
   pub valid : contents ≡ None → IsEntryOfTrees new.next
   pub shorter : IfSome found (λ e. steps_left contents new.next < steps_left contents old.next)
+
+-- of a known map the count of reads rises by at most one for each entry that the walk was still to answer, however it ends
+abbrev pub WalksWithin : Option Entries → Stand → ℕ → ℕ → Type 0
+WalksWithin contents walk before after = (es : Entries) → contents ≡ Some es → after ≤ before + length (still_to_come walk es)

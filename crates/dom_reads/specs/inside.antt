@@ -6,4 +6,3 @@ pub mod FragmentBuilders
 pub mod Gathered
 pub mod InSubtrees
 pub mod Steps
-pub mod WalkReads

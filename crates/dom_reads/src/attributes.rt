@@ -1,12 +1,13 @@
 //! The calls on attributes (DOM Level 3 Core, interface Element), and all attributes of a place.
 ghost use Rattle.std.specs.Prelude.{◌≡◌, [], if◌then◌else◌, unwrap_or, IfOk, None, ◌≤◌, ◌+◌, length};
 ghost use Rattle.tree_model.specs.Attributes as attributes;
+ghost use Rattle.tree_model.specs.declared.dom_call.DomCall.TheVariants as call;
 ghost use Rattle.tree_model.specs.Names.{is_name};
 ghost use Rattle.tree_model.specs.Places.{attributes_at};
 ghost use Rattle.tree_model.specs.Tree.{beside};
 ghost use Rattle.node_seq.specs.Trees.{OnTree};
 ghost use Rattle.outside_traits.specs.Faults.{HasCause};
-ghost use Rattle.dom_reads.specs.ReadCounts.{items_listed};
+ghost use Rattle.dom_reads.specs.ReadCounts.{ReadsOfTree, items_listed, most_reads};
 ghost use Rattle.dom_reads.specs.inside.AttributeWalks.{attribute_of};
 
 use crate::kinds::is_element;
@@ -94,6 +95,7 @@ pub fn attrs<S: NodeRead>(alloc: Global, at: &Label, seq: &mut S) -> Result<Repl
     ensures reply { OnTree (S.contents seq.old) result (λ t reply. reply ≡ attributes.attrs at.now t) }
     ensures unchanged { S.unchanged seq.old seq.new }
     ensures reads { IfOk result (λ reply. S.reads seq.new ≤ S.reads seq.old + (items_listed reply + 2)) }
+    ensures reads_of_tree { ReadsOfTree (S.contents seq.old) (most_reads (call.Attrs at.now)) (S.reads seq.old) (S.reads seq.new) }
     ensures cause { HasCause SeqError.DiskFault (S.count seq.old) (S.count seq.new) result }
 {
     let Some(found) = record_at(alloc, at, seq)? else {
@@ -114,6 +116,7 @@ pub fn all_attributes<S: NodeRead>(
     ensures found { OnTree (S.contents seq.old) result (λ t found. found ≡ attributes_at at.now t) }
     ensures unchanged { S.unchanged seq.old seq.new }
     ensures reads { IfOk result (λ found. S.reads seq.new ≤ S.reads seq.old + (length found + 1)) }
+    ensures reads_of_tree { ReadsOfTree (S.contents seq.old) (λ t. length (attributes_at at.now t) + 1) (S.reads seq.old) (S.reads seq.new) }
     ensures cause { HasCause SeqError.DiskFault (S.count seq.old) (S.count seq.new) result }
 {
     // It tells that a known map is in order.

@@ -5,6 +5,7 @@ ghost use Rattle.dewey_labels.specs.Labels.{root};
 ghost use Rattle.tree_model.specs.Tree.{at as node_at, first_of, found, last_child_of};
 ghost use Rattle.node_seq.specs.Trees.{OnTree};
 ghost use Rattle.outside_traits.specs.Faults.{HasCause};
+ghost use Rattle.dom_reads.specs.ReadCounts.{ReadsOfTree, child_reads};
 
 use crate::{first_child, last_child, record_at};
 use dewey_labels::Label;
@@ -21,6 +22,8 @@ pub fn first_below<S: NodeRead>(
     ensures child { OnTree (S.contents seq.old) result (λ t below. IfSome below (λ child. child ≡ first_of (node_at at.now t.documents))) }
     ensures unchanged { S.unchanged seq.old seq.new }
     ensures reads { S.reads seq.new ≤ S.reads seq.old + 2 }
+    ensures child_read { IfOk result (λ below. IfSome below (λ child. IsSome child → at.now ≢ root → S.reads seq.new ≤ S.reads seq.old + 1)) }
+    ensures reads_of_tree { ReadsOfTree (S.contents seq.old) (λ t. child_reads (first_of (node_at at.now t.documents))) (S.reads seq.old) (S.reads seq.new) }
     ensures cause { HasCause SeqError.DiskFault (S.count seq.old) (S.count seq.new) result }
 {
     let child = first_child(alloc, at, seq)?;
@@ -43,6 +46,8 @@ pub fn last_below<S: NodeRead>(
     ensures child { OnTree (S.contents seq.old) result (λ t below. IfSome below (λ child. child ≡ last_child_of (node_at at.now t.documents))) }
     ensures unchanged { S.unchanged seq.old seq.new }
     ensures reads { S.reads seq.new ≤ S.reads seq.old + 2 }
+    ensures child_read { IfOk result (λ below. IfSome below (λ child. IsSome child → at.now ≢ root → S.reads seq.new ≤ S.reads seq.old + 1)) }
+    ensures reads_of_tree { ReadsOfTree (S.contents seq.old) (λ t. child_reads (last_child_of (node_at at.now t.documents))) (S.reads seq.old) (S.reads seq.new) }
     ensures cause { HasCause SeqError.DiskFault (S.count seq.old) (S.count seq.new) result }
 {
     let child = last_child(alloc, at, seq)?;
@@ -59,6 +64,9 @@ pub fn last_below<S: NodeRead>(
 fn shows_node(at: &Label, child: &Option<Label>) -> bool
     ensures child { IsTrue result → IsSome child.now }
     ensures below_root { IsTrue result → at.now ≢ root }
+    ensures shown { IsSome child.now → at.now ≢ root → IsTrue result }
 {
+    // It tells that only the root has the level 0.
+    let _divisions = at.divisions();
     child.is_some() && at.level() > 0
 }

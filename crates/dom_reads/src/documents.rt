@@ -2,9 +2,10 @@
 ghost use Rattle.std.specs.Prelude.{◌≡◌, IfOk, ◌≤◌, ◌+◌};
 ghost use Rattle.dewey_labels.specs.LabelText.{label_of};
 ghost use Rattle.tree_model.specs.Documents as documents;
+ghost use Rattle.tree_model.specs.declared.dom_call.DomCall.TheVariants as call;
 ghost use Rattle.node_seq.specs.Trees.{OnTree};
 ghost use Rattle.outside_traits.specs.Faults.{HasCause};
-ghost use Rattle.dom_reads.specs.ReadCounts.{items_listed};
+ghost use Rattle.dom_reads.specs.ReadCounts.{ReadsOfTree, most_reads};
 ghost use Rattle.dom_reads.specs.inside.Catalogues.{catalogue_of};
 
 use crate::refusals::not_found;
@@ -18,7 +19,7 @@ use tree_model::Reply;
 pub fn docs<S: NodeRead>(alloc: Global, seq: &mut S) -> Result<Reply, SeqError>
     ensures reply { OnTree (S.contents seq.old) result (λ t reply. reply ≡ documents.docs t) }
     ensures unchanged { S.unchanged seq.old seq.new }
-    ensures reads { OnTree (S.contents seq.old) result (λ t reply. S.reads seq.new ≤ S.reads seq.old + (items_listed reply + 1)) }
+    ensures reads { ReadsOfTree (S.contents seq.old) (most_reads call.Docs) (S.reads seq.old) (S.reads seq.new) }
     ensures cause { HasCause SeqError.DiskFault (S.count seq.old) (S.count seq.new) result }
 {
     let root = Label::root(alloc)?;

@@ -1,10 +1,13 @@
 //! What a node is, and the calls that lead from node to node (DOM Level 3 Core, interface Node).
-ghost use Rattle.std.specs.Prelude.{◌≡◌, IfOk, IsTrue, ◌≤◌, ◌+◌, length};
+ghost use Rattle.std.specs.Prelude.{◌≡◌, ◌≢◌, IfOk, IsTrue, Ok, Some, ◌≤◌, ◌+◌, length};
+ghost use Rattle.dewey_labels.specs.Labels.{Label, root};
+ghost use Rattle.tree_model.specs.declared.dom_call.DomCall.TheVariants as call;
+ghost use Rattle.tree_model.specs.declared.reply.Reply.TheVariants.{Place};
 ghost use Rattle.tree_model.specs.Navigation as navigation;
-ghost use Rattle.tree_model.specs.Tree.{at as node_at, children_of, found};
-ghost use Rattle.node_seq.specs.Trees.{OnTree};
+ghost use Rattle.tree_model.specs.Tree.{Tree, at as node_at, children_of, found};
+ghost use Rattle.node_seq.specs.Trees.{OnTree, StandsFor};
 ghost use Rattle.outside_traits.specs.Faults.{HasCause};
-ghost use Rattle.dom_reads.specs.ReadCounts.{items_listed};
+ghost use Rattle.dom_reads.specs.ReadCounts.{ReadsOfTree, items_listed, most_reads};
 
 use crate::kinds::is_document;
 use crate::refusals::not_found;
@@ -61,6 +64,8 @@ pub fn first<S: NodeRead>(alloc: Global, at: &Label, seq: &mut S) -> Result<Repl
     ensures reply { OnTree (S.contents seq.old) result (λ t reply. reply ≡ navigation.first at.now t) }
     ensures unchanged { S.unchanged seq.old seq.new }
     ensures reads { S.reads seq.new ≤ S.reads seq.old + 2 }
+    ensures child_read { (child : Label) → result ≡ Ok (Place (Some child)) → at.now ≢ root → S.reads seq.new ≤ S.reads seq.old + 1 }
+    ensures reads_of_tree { ReadsOfTree (S.contents seq.old) (most_reads (call.First at.now)) (S.reads seq.old) (S.reads seq.new) }
     ensures cause { HasCause SeqError.DiskFault (S.count seq.old) (S.count seq.new) result }
 {
     match first_below(alloc, at, seq)? {
@@ -74,6 +79,8 @@ pub fn last<S: NodeRead>(alloc: Global, at: &Label, seq: &mut S) -> Result<Reply
     ensures reply { OnTree (S.contents seq.old) result (λ t reply. reply ≡ navigation.last at.now t) }
     ensures unchanged { S.unchanged seq.old seq.new }
     ensures reads { S.reads seq.new ≤ S.reads seq.old + 2 }
+    ensures child_read { (child : Label) → result ≡ Ok (Place (Some child)) → at.now ≢ root → S.reads seq.new ≤ S.reads seq.old + 1 }
+    ensures reads_of_tree { ReadsOfTree (S.contents seq.old) (most_reads (call.Last at.now)) (S.reads seq.old) (S.reads seq.new) }
     ensures cause { HasCause SeqError.DiskFault (S.count seq.old) (S.count seq.new) result }
 {
     match last_below(alloc, at, seq)? {
@@ -119,6 +126,7 @@ pub fn children<S: NodeRead>(alloc: Global, at: &Label, seq: &mut S) -> Result<R
     ensures reply { OnTree (S.contents seq.old) result (λ t reply. reply ≡ navigation.children at.now t) }
     ensures unchanged { S.unchanged seq.old seq.new }
     ensures reads { IfOk result (λ reply. S.reads seq.new ≤ S.reads seq.old + (items_listed reply + 2)) }
+    ensures reads_of_tree { ReadsOfTree (S.contents seq.old) (most_reads (call.Children at.now)) (S.reads seq.old) (S.reads seq.new) }
     ensures cause { HasCause SeqError.DiskFault (S.count seq.old) (S.count seq.new) result }
 {
     if record_at(alloc, at, seq)?.is_none() {
@@ -137,6 +145,8 @@ fn child_labels<S: NodeRead>(
         → labels ≡ children_of (node_at at.now t.documents)) }
     ensures unchanged { S.unchanged seq.old seq.new }
     ensures reads { IfOk result (λ labels. S.reads seq.new ≤ S.reads seq.old + (length labels + 1)) }
+    ensures reads_of_tree { (t : Tree) → StandsFor (S.contents seq.old) t → IsTrue (found (node_at at.now t.documents))
+        → S.reads seq.new ≤ S.reads seq.old + (length (children_of (node_at at.now t.documents)) + 1) }
     ensures cause { HasCause SeqError.DiskFault (S.count seq.old) (S.count seq.new) result }
 {
     let mut labels = List::new(alloc);

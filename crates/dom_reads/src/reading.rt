@@ -1,9 +1,9 @@
 //! All reading calls in one.
-ghost use Rattle.std.specs.Prelude.{◌≡◌, IsTrue, ◌≤◌, ◌+◌};
+ghost use Rattle.std.specs.Prelude.{◌≡◌, IfSome, IsTrue, ◌≤◌, ◌+◌};
 ghost use Rattle.tree_model.specs.DomCalls.{dom};
 ghost use Rattle.node_seq.specs.Trees.{OnTree};
 ghost use Rattle.outside_traits.specs.Faults.{HasCause};
-ghost use Rattle.dom_reads.specs.ReadCounts.{most_reads};
+ghost use Rattle.dom_reads.specs.ReadCounts.{ReadsOfTree, few_reads, most_reads};
 ghost use Rattle.dom_reads.specs.Reading.{is_reading};
 
 use crate::attributes::{attr, attrs, has_attr};
@@ -46,7 +46,8 @@ pub fn dom_read<S: NodeRead>(alloc: Global, call: &DomCall, seq: &mut S) -> Resu
     requires reading { IsTrue (is_reading call.now) }
     ensures reply { OnTree (S.contents seq.old) result (λ t reply. reply ≡ (dom call.now t).0) }
     ensures unchanged { S.unchanged seq.old seq.new }
-    ensures reads { OnTree (S.contents seq.old) result (λ t _. S.reads seq.new ≤ S.reads seq.old + most_reads call.now t) }
+    ensures reads { ReadsOfTree (S.contents seq.old) (most_reads call.now) (S.reads seq.old) (S.reads seq.new) }
+    ensures few { IfSome (few_reads call.now) (λ most. S.reads seq.new ≤ S.reads seq.old + most) }
     ensures cause { HasCause SeqError.DiskFault (S.count seq.old) (S.count seq.new) result }
 {
     match call {

@@ -1,4 +1,4 @@
-//! Steps from a node to what stands beside it: a read of the map each, whatever lies below the node.
+//! Steps from a node to what stands beside it: a read of the map each, whatever lies below the node, and no record is copied for a label.
 ghost use Rattle.std.specs.Prelude.{◌≡◌, IfOk, IfSome, IsTrue, None, ◌≤◌, ◌+◌};
 ghost use Rattle.std.specs.Ordering.{nat_cmp};
 ghost use Rattle.std.specs.Cmp.Lexicographic.{slice_cmp};
@@ -8,11 +8,10 @@ ghost use Rattle.tree_model.specs.Entries.{get};
 ghost use Rattle.tree_model.specs.Keys.{node_key};
 ghost use Rattle.tree_model.specs.Places.{attributes_at, first_in, last_in};
 ghost use Rattle.tree_model.specs.Tree.{at as node_at, beside, found, next_of, prev_of, record_of};
-ghost use Rattle.tree_model.specs.inside.Seeks.{if_child};
 ghost use Rattle.node_seq.specs.Reads.{Finds, IsRecordOfTrees};
 ghost use Rattle.node_seq.specs.Trees.{OnTree};
 ghost use Rattle.outside_traits.specs.Faults.{HasCause};
-ghost use Rattle.dom_reads.specs.inside.Steps.{value_of, if_behind};
+ghost use Rattle.dom_reads.specs.inside.Steps.{value_of, toward_key, if_behind};
 
 use dewey_labels::{Label, NoMemory, Text};
 use node_seq::{NodeRead, SeqError};
@@ -82,7 +81,7 @@ pub fn first_child<S: NodeRead>(
 {
     let _divisions = at.divisions();
     let key = Key::behind_attributes(alloc, at)?;
-    let found = seq.next_from(alloc, &key)?;
+    let found = seq.key_above(alloc, &key)?;
     Ok(child_toward(alloc, at, found)?)
 }
 
@@ -101,7 +100,7 @@ pub fn last_child<S: NodeRead>(
 {
     let _divisions = at.divisions();
     let key = Key::behind_tree(alloc, at)?;
-    let found = seq.prev_from(alloc, &key)?;
+    let found = seq.key_below(alloc, &key)?;
     Ok(child_toward(alloc, at, found)?)
 }
 
@@ -123,7 +122,7 @@ pub fn next_sibling<S: NodeRead>(
         return Ok(None);
     };
     let key = Key::behind_tree(alloc, at)?;
-    let found = seq.next_from(alloc, &key)?;
+    let found = seq.key_above(alloc, &key)?;
     let sibling = child_toward(alloc, &parent, found)?;
     Ok(behind(at, sibling))
 }
@@ -147,22 +146,18 @@ pub fn previous_sibling<S: NodeRead>(
         return Ok(None);
     };
     let key = Key::of_node(alloc, at)?;
-    let found = seq.prev_from(alloc, &key)?;
+    let found = seq.key_below(alloc, &key)?;
     Ok(child_toward(alloc, &parent, found)?)
 }
 
-/// The child of a node on the way to what was found, if that lies under the node.
-fn child_toward(
-    alloc: Global,
-    at: &Label,
-    found: Option<(Key, Record)>,
-) -> Result<Option<Label>, NoMemory>
-    ensures value { IfOk result (λ child. child ≡ if_child at.now found) }
+/// The child of a node on the way to the key that was found, if that lies under the node.
+fn child_toward(alloc: Global, at: &Label, found: Option<Key>) -> Result<Option<Label>, NoMemory>
+    ensures value { IfOk result (λ child. child ≡ toward_key at.now found) }
     ensures child { IfOk result (λ child. IfSome child (λ c. IsTrue (is_child at.now c))) }
     ensures label { IfOk result (λ child. IfSome child IsLabel) }
 {
     match found {
-        Some((key, _)) => {
+        Some(key) => {
             // They tell that both are labels, and so is the child's.
             let _divisions = at.divisions();
             let _below = key.label.divisions();

@@ -5,7 +5,8 @@ ghost use Rattle.tree_model.specs.Entries.{Entries, Sorted, entries_above};
 ghost use Rattle.tree_model.specs.Keys.{node_key};
 ghost use Rattle.node_seq.specs.Reads.{IsEntryOfTrees, LiesAbove};
 ghost use Rattle.node_seq.specs.Trees.{OnTree};
-ghost use Rattle.dom_reads.specs.SubtreeWalks.{HasStepped, as_long, lies_in, still_to_come, subtree_of};
+ghost use Rattle.dom_reads.specs.ReadCounts.{ReadsOfTree, subtree_reads};
+ghost use Rattle.dom_reads.specs.SubtreeWalks.{HasStepped, WalksWithin, as_long, lies_in, still_to_come, subtree_of};
 ghost use Rattle.dom_reads.specs.inside.InSubtrees.{RisesTo, if_in};
 ghost use Rattle.outside_traits.specs.Faults.{HasCause};
 
@@ -71,6 +72,8 @@ impl SubtreeWalk {
         ensures err { OnErr result (self.new ≡ self.old) }
         ensures unchanged { S.unchanged seq.old seq.new }
         ensures reads { S.reads seq.new ≤ S.reads seq.old + 1 }
+        ensures at_end { self.old.next ≡ None → S.reads seq.new ≤ S.reads seq.old }
+        ensures within { WalksWithin (S.contents seq.old) self.old (S.reads seq.old) (S.reads seq.new) }
         ensures cause { HasCause SeqError.DiskFault (S.count seq.old) (S.count seq.new) result }
     {
         let _faults = seq.faults();
@@ -103,7 +106,7 @@ fn is_in_subtree(at: &Label, label: &Label) -> bool
 }
 
 /// The entries of a subtree: of the node `at`, of its attributes and of all that lies under it; none where there is no such node.
-/// At most one read an entry and two more.
+/// One read an entry and one more.
 pub fn subtree<S: NodeRead>(
     alloc: Global,
     at: &Label,
@@ -112,7 +115,8 @@ pub fn subtree<S: NodeRead>(
     ensures entries { OnTree (S.contents seq.old) result (λ t entries. entries ≡ subtree_of at.now t) }
     ensures rise { IfOk result Sorted }
     ensures unchanged { S.unchanged seq.old seq.new }
-    ensures reads { IfOk result (λ entries. S.reads seq.new ≤ S.reads seq.old + (length entries + 2)) }
+    ensures reads { IfOk result (λ entries. S.reads seq.new ≤ S.reads seq.old + (length entries + 1)) }
+    ensures reads_of_tree { ReadsOfTree (S.contents seq.old) (subtree_reads at.now) (S.reads seq.old) (S.reads seq.new) }
     ensures cause { HasCause SeqError.DiskFault (S.count seq.old) (S.count seq.new) result }
 {
     let mut entries = List::new(alloc);
@@ -138,7 +142,8 @@ fn gather<S: NodeRead>(
     ensures gathered { OnOk result ((es : Entries) → S.contents seq.old ≡ Some es → entries.new ≡ entries.old ++ still_to_come walk.old es) }
     ensures rise { OnOk result (Sorted entries.new) }
     ensures unchanged { S.unchanged seq.old seq.new }
-    ensures reads { OnOk result (S.reads seq.new + length entries.old ≤ S.reads seq.old + (length entries.new + 1)) }
+    ensures reads { OnOk result (S.reads seq.new + length entries.old ≤ S.reads seq.old + length entries.new) }
+    ensures within { WalksWithin (S.contents seq.old) walk.old (S.reads seq.old) (S.reads seq.new) }
     ensures cause { HasCause SeqError.DiskFault (S.count seq.old) (S.count seq.new) result }
 {
     while let Some(entry) = walk.step(alloc, seq)? {

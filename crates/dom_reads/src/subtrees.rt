@@ -1,14 +1,15 @@
 //! The calls that read a whole subtree (DOM Level 3 Core: `textContent` and `getElementsByTagName`), and a subtree as a fragment.
-//! Each makes one read for an entry of the subtree and two more at most.
-ghost use Rattle.std.specs.Prelude.{◌≡◌, ◌++◌, [], ◌∷◌, if◌then◌else◌, string_bytes, IfOk, OnOk, Some, None, ◌≤◌, ◌+◌, length};
+//! Each makes one read for an entry of the subtree and one more at most; the text of a text or a document takes one.
+ghost use Rattle.std.specs.Prelude.{◌≡◌, ◌++◌, [], ◌∷◌, if◌then◌else◌, string_bytes, IfOk, OnOk, Some, None};
+ghost use Rattle.tree_model.specs.declared.dom_call.DomCall.TheVariants as call;
 ghost use Rattle.tree_model.specs.Entries.{Entries};
 ghost use Rattle.tree_model.specs.Navigation.{tags as tags_reply};
 ghost use Rattle.tree_model.specs.Subtrees.{dump as dump_reply};
 ghost use Rattle.tree_model.specs.Texts.{text_content as text_content_reply};
 ghost use Rattle.node_seq.specs.Reads.{IsEntryOfTrees};
 ghost use Rattle.node_seq.specs.Trees.{OnTree};
-ghost use Rattle.dom_reads.specs.SubtreeWalks.{still_to_come, subtree_of};
-ghost use Rattle.dom_reads.specs.inside.WalkReads.{WalksWithin};
+ghost use Rattle.dom_reads.specs.ReadCounts.{ReadsOfTree, most_reads};
+ghost use Rattle.dom_reads.specs.SubtreeWalks.{WalksWithin, still_to_come};
 ghost use Rattle.dom_reads.specs.inside.FragmentBuilders.{add_all, making_of};
 ghost use Rattle.dom_reads.specs.inside.Gathered.{data_of, has_tag, labels_in, texts_in};
 ghost use Rattle.outside_traits.specs.Faults.{HasCause};
@@ -25,7 +26,7 @@ use tree_model::{Key, Record, Reply};
 pub fn text_content<S: NodeRead>(alloc: Global, at: &Label, seq: &mut S) -> Result<Reply, SeqError>
     ensures reply { OnTree (S.contents seq.old) result (λ t reply. reply ≡ text_content_reply at.now t) }
     ensures unchanged { S.unchanged seq.old seq.new }
-    ensures reads { OnTree (S.contents seq.old) result (λ t _. S.reads seq.new ≤ S.reads seq.old + (length (subtree_of at.now t) + 2)) }
+    ensures reads { ReadsOfTree (S.contents seq.old) (most_reads (call.TextContent at.now)) (S.reads seq.old) (S.reads seq.new) }
     ensures cause { HasCause SeqError.DiskFault (S.count seq.old) (S.count seq.new) result }
 {
     let key = Key::of_node(alloc, at)?;
@@ -53,7 +54,7 @@ fn join_texts<S: NodeRead>(
     requires valid { S.contents seq.old ≡ None → IsEntryOfTrees walk.old.next }
     ensures texts { IfOk result (λ joined. (es : Entries) → S.contents seq.old ≡ Some es → joined ≡ texts_in (still_to_come walk.old es)) }
     ensures unchanged { S.unchanged seq.old seq.new }
-    ensures reads { OnOk result (WalksWithin (S.contents seq.old) walk.old (S.reads seq.old) (S.reads seq.new)) }
+    ensures reads { WalksWithin (S.contents seq.old) walk.old (S.reads seq.old) (S.reads seq.new) }
     ensures cause { HasCause SeqError.DiskFault (S.count seq.old) (S.count seq.new) result }
 {
     let mut joined = String::new(alloc);
@@ -82,7 +83,7 @@ pub fn tags<S: NodeRead>(
 ) -> Result<Reply, SeqError>
     ensures reply { OnTree (S.contents seq.old) result (λ t reply. reply ≡ tags_reply at.now name.now t) }
     ensures unchanged { S.unchanged seq.old seq.new }
-    ensures reads { OnTree (S.contents seq.old) result (λ t _. S.reads seq.new ≤ S.reads seq.old + (length (subtree_of at.now t) + 2)) }
+    ensures reads { ReadsOfTree (S.contents seq.old) (most_reads (call.Tags at.now name.now)) (S.reads seq.old) (S.reads seq.new) }
     ensures cause { HasCause SeqError.DiskFault (S.count seq.old) (S.count seq.new) result }
 {
     let key = Key::of_node(alloc, at)?;
@@ -103,7 +104,7 @@ fn tagged<S: NodeRead>(
     requires valid { S.contents seq.old ≡ None → IsEntryOfTrees walk.old.next }
     ensures labels { IfOk result (λ labels. (es : Entries) → S.contents seq.old ≡ Some es → labels ≡ labels_in name.now (still_to_come walk.old es)) }
     ensures unchanged { S.unchanged seq.old seq.new }
-    ensures reads { OnOk result (WalksWithin (S.contents seq.old) walk.old (S.reads seq.old) (S.reads seq.new)) }
+    ensures reads { WalksWithin (S.contents seq.old) walk.old (S.reads seq.old) (S.reads seq.new) }
     ensures cause { HasCause SeqError.DiskFault (S.count seq.old) (S.count seq.new) result }
 {
     let mut labels = List::new(alloc);
@@ -138,7 +139,7 @@ fn has_tag(name: &Text, record: &Record) -> bool
 pub fn dump<S: NodeRead>(alloc: Global, at: &Label, seq: &mut S) -> Result<Reply, SeqError>
     ensures reply { OnTree (S.contents seq.old) result (λ t reply. reply ≡ dump_reply at.now t) }
     ensures unchanged { S.unchanged seq.old seq.new }
-    ensures reads { OnTree (S.contents seq.old) result (λ t _. S.reads seq.new ≤ S.reads seq.old + (length (subtree_of at.now t) + 2)) }
+    ensures reads { ReadsOfTree (S.contents seq.old) (most_reads (call.Dump at.now)) (S.reads seq.old) (S.reads seq.new) }
     ensures cause { HasCause SeqError.DiskFault (S.count seq.old) (S.count seq.new) result }
 {
     let key = Key::of_node(alloc, at)?;
@@ -163,7 +164,7 @@ fn add_rest<S: NodeRead>(
     ensures added { OnOk result ((es : Entries) → S.contents seq.old ≡ Some es
         → making_of builder.new ≡ add_all (still_to_come walk.old es) (making_of builder.old)) }
     ensures unchanged { S.unchanged seq.old seq.new }
-    ensures reads { OnOk result (WalksWithin (S.contents seq.old) walk.old (S.reads seq.old) (S.reads seq.new)) }
+    ensures reads { WalksWithin (S.contents seq.old) walk.old (S.reads seq.old) (S.reads seq.new) }
     ensures cause { HasCause SeqError.DiskFault (S.count seq.old) (S.count seq.new) result }
 {
     while let Some(entry) = walk.step(alloc, seq)? {

@@ -10,7 +10,7 @@ use Rattle.node_seq.specs.WalkSteps.{steps_left}
 use Rattle.node_seq.proofs.Walks.{falls_upwards}
 use Rattle.dom_reads.specs.inside.AttributeWalks.{attribute_of}
 use Rattle.dom_reads.proofs.AttributeWalks.{attributes_from, attributes_begin, attributes_go_on, entry_of, no_more_steps, valid_attribute}
-use Rattle.dom_reads.proofs.WalkReads.{one_longer}
+use Rattle.dom_reads.proofs.WalkReads.{met_before, one_longer}
 use Rattle.dom_reads.proofs.attributes.all_attributes.Goals as goal
 
 pub loop-next-init : goal.loop-next-init
@@ -75,3 +75,36 @@ returns-clause-found g c = λ t stands.
 
 pub returns-clause-reads : goal.returns-clause-reads
 returns-clause-reads g c = c.loop-next.invariant.read
+
+pub returns-in_err-next_from-2-clause-reads_of_tree : goal.returns-in_err-next_from-2-clause-reads_of_tree
+returns-in_err-next_from-2-clause-reads_of_tree g c t stands =
+    let l = c.args.at.now in
+    let met = c.loop-next.attributes in
+    let read : Key × List ℕ = (c.in-Some.key, c.in-Some.value) in
+    let inv = c.loop-next.invariant in
+    let so_far : met ++ attributes_from l (map_of t) (Some read) ≡ attributes_at l t = subst (λ (o : Option (Key × List ℕ)). met ++ attributes_from l (map_of t) o ≡ attributes_at l t) c.in-Some.is (inv.walked t stands) in
+    let more = met_before met _ (attributes_at l t) (c.in-Some.key.name, c.in-Some.value) so_far in
+    let before = inv.read in
+    let step = c.in_err-next_from-2.ensures.reads in
+    omega (arith, more, before, step)
+
+pub returns-in_err-push-clause-reads_of_tree : goal.returns-in_err-push-clause-reads_of_tree
+returns-in_err-push-clause-reads_of_tree g c t stands =
+    let l = c.args.at.now in
+    let met = c.loop-next.attributes in
+    let read : Key × List ℕ = (c.in-Some.key, c.in-Some.value) in
+    let inv = c.loop-next.invariant in
+    let so_far : met ++ attributes_from l (map_of t) (Some read) ≡ attributes_at l t = subst (λ (o : Option (Key × List ℕ)). met ++ attributes_from l (map_of t) o ≡ attributes_at l t) c.in-Some.is (inv.walked t stands) in
+    let more = met_before met _ (attributes_at l t) (c.in-Some.key.name, c.in-Some.value) so_far in
+    let before = inv.read in
+    let step = c.in_ok-next_from-2.ensures.reads in
+    omega (arith, more, before, step)
+
+pub returns-clause-reads_of_tree : goal.returns-clause-reads_of_tree
+returns-clause-reads_of_tree g c t stands =
+    let l = c.args.at.now in
+    let met = c.loop-next.attributes in
+    let all : length met ≡ length (attributes_at l t) = ap length
+    (sym (append-nil met) ∙ subst (λ (o : Option (Key × List ℕ)). met ++ attributes_from l (map_of t) o ≡ attributes_at l t) c.in_default.is (c.loop-next.invariant.walked t stands)) in
+    let read = c.loop-next.invariant.read in
+    omega (arith, all, read)

@@ -12,10 +12,20 @@ returns-clause-reply g c = λ t stands.
     let entries = c.in_ok-entries.ensures.found t stands ∙ ap (λ l. attributes_at l t) c.in_ok-root.ensures in
     ap reply.Names (c.in_ok-catalogue.ensures ∙ ap catalogue_of entries ∙ catalogue_is t stands.valid)
 
+pub returns-in_err-entries-clause-reads : goal.returns-in_err-entries-clause-reads
+returns-in_err-entries-clause-reads g c t stands =
+    let met : length (attributes_at c.in_ok-root.root t) ≡ length t.catalogue = ap (λ l. length (attributes_at l t)) c.in_ok-root.ensures ∙ length-map t.catalogue root_attribute in
+    let read = c.in_err-entries.ensures.reads_of_tree t stands in
+    omega (arith, met, read)
+
+pub returns-in_err-catalogue-clause-reads : goal.returns-in_err-catalogue-clause-reads
+returns-in_err-catalogue-clause-reads g c t stands =
+    let met : length (attributes_at c.in_ok-root.root t) ≡ length t.catalogue = ap (λ l. length (attributes_at l t)) c.in_ok-root.ensures ∙ length-map t.catalogue root_attribute in
+    let read = c.in_ok-entries.ensures.reads_of_tree t stands in
+    omega (arith, met, read)
+
 pub returns-clause-reads : goal.returns-clause-reads
-returns-clause-reads g c = λ t stands.
-    let entries = c.in_ok-entries.ensures.found t stands ∙ ap (λ l. attributes_at l t) c.in_ok-root.ensures in
-    let names : length c.in_ok-catalogue.field-0 ≡ length t.catalogue = ap length (c.in_ok-catalogue.ensures ∙ ap catalogue_of entries ∙ catalogue_is t stands.valid) in
-    let met : length c.in_ok-entries.entries ≡ length t.catalogue = ap length entries ∙ length-map t.catalogue root_attribute in
-    let read = c.in_ok-entries.ensures.reads in
-    omega (arith, names, met, read)
+returns-clause-reads g c t stands =
+    let met : length (attributes_at c.in_ok-root.root t) ≡ length t.catalogue = ap (λ l. length (attributes_at l t)) c.in_ok-root.ensures ∙ length-map t.catalogue root_attribute in
+    let read = c.in_ok-entries.ensures.reads_of_tree t stands in
+    omega (arith, met, read)

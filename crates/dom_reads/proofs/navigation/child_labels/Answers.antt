@@ -1,8 +1,9 @@
 use Rattle.std.proofs.Common.{◌<◌, IfSome, Some, sym, subst, ◌∙◌, ◌≡◌, ◌+◌, ◌++◌, [], ◌∷◌, List, length, ap, arith}
 use Rattle.dewey_labels.specs.Labels.{IsLabel}
+use Rattle.tree_model.specs.Tree.{at, children_of}
 use Rattle.dom_reads.proofs.ChildLists.{IsChildWalk, walk_begins, walk_goes_on, walk_ends, steps_behind, steps_fall, within_if}
 use Rattle.dom_reads.proofs.ReplyLaws.{later}
-use Rattle.dom_reads.proofs.WalkReads.{one_longer}
+use Rattle.dom_reads.proofs.WalkReads.{met_before, one_longer}
 use Rattle.dom_reads.proofs.navigation.child_labels.Goals as goal
 
 pub loop-next-init : goal.loop-next-init
@@ -52,3 +53,31 @@ returns-clause-labels g c = λ t stands y.
 
 pub returns-clause-reads : goal.returns-clause-reads
 returns-clause-reads g c = c.loop-next.invariant.read
+
+pub returns-in_err-next-2-clause-reads_of_tree : goal.returns-in_err-next-2-clause-reads_of_tree
+returns-in_err-next-2-clause-reads_of_tree g c t stands y =
+    let l = c.args.at.now in
+    let child = c.in-Some.child in
+    let was : IsChildWalk l t c.loop-next.labels (Some child) = subst (IsChildWalk l t c.loop-next.labels) c.in-Some.is (c.loop-next.invariant.walked t stands y) in
+    let more = met_before c.loop-next.labels _ (children_of (at l t.documents)) child was.whole in
+    let so_far = c.loop-next.invariant.read in
+    let step = c.in_err-next-2.ensures.reads in
+    omega (arith, more, so_far, step)
+
+pub returns-in_err-push-clause-reads_of_tree : goal.returns-in_err-push-clause-reads_of_tree
+returns-in_err-push-clause-reads_of_tree g c t stands y =
+    let l = c.args.at.now in
+    let child = c.in-Some.child in
+    let was : IsChildWalk l t c.loop-next.labels (Some child) = subst (IsChildWalk l t c.loop-next.labels) c.in-Some.is (c.loop-next.invariant.walked t stands y) in
+    let more = met_before c.loop-next.labels _ (children_of (at l t.documents)) child was.whole in
+    let so_far = c.loop-next.invariant.read in
+    let step = c.in_ok-next-2.ensures.reads in
+    omega (arith, more, so_far, step)
+
+pub returns-clause-reads_of_tree : goal.returns-clause-reads_of_tree
+returns-clause-reads_of_tree g c t stands y =
+    let l = c.args.at.now in
+    let all : length c.loop-next.labels ≡ length (children_of (at l t.documents)) = ap length
+    (walk_ends l t c.loop-next.labels (subst (IsChildWalk l t c.loop-next.labels) c.in_default.is (c.loop-next.invariant.walked t stands y))) in
+    let read = c.loop-next.invariant.read in
+    omega (arith, all, read)

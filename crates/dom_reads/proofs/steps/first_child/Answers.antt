@@ -1,12 +1,15 @@
 use Rattle.std.proofs.Common.{ap, ◌∙◌}
 use Rattle.tree_model.specs.Entries.{first_above}
+use Rattle.tree_model.specs.inside.Seeks.{behind_attributes}
 use Rattle.tree_model.specs.Tree.{map_of}
-use Rattle.tree_model.specs.inside.Seeks.{if_child}
-use Rattle.dom_reads.proofs.StepLaws.{first_child_is}
+use Rattle.node_seq.specs.Reads.{key_above}
+use Rattle.dom_reads.specs.inside.Steps.{toward_key}
+use Rattle.dom_reads.proofs.StepLaws.{child_by_key, first_child_is}
 use Rattle.dom_reads.proofs.steps.first_child.Goals as goal
 
 pub returns-clause-found : goal.returns-clause-found
 returns-clause-found g c = λ t stands.
     c.in_ok-child_toward.ensures.value
-    ∙ ap (if_child c.args.at.now) (c.in_ok-found.ensures.value (map_of t) stands.map ∙ ap (λ k. first_above k (map_of t)) c.in_ok-key.ensures)
+    ∙ ap (toward_key c.args.at.now) (c.in_ok-found.ensures.value (map_of t) stands.map ∙ ap (λ k. key_above k (map_of t)) c.in_ok-key.ensures)
+    ∙ child_by_key c.args.at.now (first_above (behind_attributes c.args.at.now) (map_of t))
     ∙ first_child_is c.args.at.now t stands.valid c.divisions-divisions.ensures.label.0

@@ -5,7 +5,7 @@ use Rattle.tree_model.specs.Entries.{Entries}
 use Rattle.dom_reads.specs.SubtreeWalks.{HasStepped, Stand, still_to_come}
 use Rattle.dom_reads.specs.inside.InSubtrees.{RisesTo}
 use Rattle.dom_reads.proofs.SubtreeEntries.{rises_on}
-use Rattle.dom_reads.proofs.WalkReads.{one_longer}
+use Rattle.dom_reads.proofs.WalkReads.{one_longer, reads_on, reads_so_far}
 use Rattle.dom_reads.proofs.subtree_walk.gather.Goals as goal
 
 pub loop-entry-preserved : goal.loop-entry-preserved
@@ -28,6 +28,7 @@ loop-entry-preserved g c =
           let so_far = inv.read in
           let step = c.in_ok-entry.ensures.reads in
           omega (arith, longer, so_far, step);
+      left = λ es t. reads_on _ _ _ _ _ _ e (inv.left es t) c.in_ok-entry.ensures.reads (stepped.rest es (known ∙ t));
       valid = λ unknown. stepped.valid (known ∙ unknown);
       rise = subst (λ (es : Entries). RisesTo new.next es) (sym c.in_ok-push.ensures.ok) (rises_on e new.next entries (subst (λ (o : Option (Key × Record)). RisesTo o entries) (sym stepped.entry) inv.rise) stepped.above);
       gathered = λ es t.
@@ -38,5 +39,20 @@ loop-entry-preserved g c =
 pub returns-clause-reads : goal.returns-clause-reads
 returns-clause-reads g c =
     let so_far = c.loop-entry.invariant.read in
-    let step = c.in_ok-entry.ensures.reads in
+    let step = c.in_ok-entry.ensures.at_end (sym c.in_ok-entry.ensures.stepped.entry ∙ c.in_default.is) in
     omega (arith, so_far, step)
+
+pub returns-in_err-entry-clause-within : goal.returns-in_err-entry-clause-within
+returns-in_err-entry-clause-within g c es t =
+    let known = g.met.S.NodeRead.unchanged_contents _ _ c.loop-entry.invariant.same in
+    reads_so_far _ _ _ (still_to_come c.args.walk.now es) (still_to_come c.loop-entry.walk es) (c.loop-entry.invariant.left es t) (c.in_err-entry.ensures.within es (known ∙ t))
+
+pub returns-in_err-push-clause-within : goal.returns-in_err-push-clause-within
+returns-in_err-push-clause-within g c es t =
+    let known = g.met.S.NodeRead.unchanged_contents _ _ c.loop-entry.invariant.same in
+    reads_so_far _ _ _ (still_to_come c.args.walk.now es) (still_to_come c.loop-entry.walk es) (c.loop-entry.invariant.left es t) (c.in_ok-entry.ensures.within es (known ∙ t))
+
+pub returns-clause-within : goal.returns-clause-within
+returns-clause-within g c es t =
+    let known = g.met.S.NodeRead.unchanged_contents _ _ c.loop-entry.invariant.same in
+    reads_so_far _ _ _ (still_to_come c.args.walk.now es) (still_to_come c.loop-entry.walk es) (c.loop-entry.invariant.left es t) (c.in_ok-entry.ensures.within es (known ∙ t))

@@ -6,7 +6,7 @@ use Rattle.tree_model.specs.Keys.{node_key}
 use Rattle.tree_model.specs.Tree.{map_of}
 use Rattle.dom_reads.specs.SubtreeWalks.{as_long, lies_in, still_to_come}
 use Rattle.dom_reads.proofs.SubtreeEntries.{missing, subtree_found, subtree_missing}
-use Rattle.dom_reads.proofs.WalkReads.{reads_of_list}
+use Rattle.dom_reads.proofs.WalkReads.{reads_begun, reads_of_list, reads_of_subtree}
 use Rattle.dom_reads.proofs.subtree_walk.subtree.Goals as goal
 
 pub returns-in_default-clause-entries : goal.returns-in_default-clause-entries
@@ -34,3 +34,30 @@ pub returns-clause-reads : goal.returns-clause-reads
 returns-clause-reads g c =
     let one : length c.push.new.self ≡ 1 = ap length (c.in_ok-push.ensures.ok ∙ ap (λ (v : Entries). v ++ ((c.in_ok-key.key, c.in-Some.record) ∷ [])) c.new-entries.ensures) in
     reads_of_list _ _ _ _ c.push.new.self _ one c.in_ok-record.ensures.reads c.in_ok-walk.ensures.reads c.in_ok-gather.ensures.reads
+
+pub returns-in_err-walk-clause-reads_of_tree : goal.returns-in_err-walk-clause-reads_of_tree
+returns-in_err-walk-clause-reads_of_tree g c t stands =
+    let at = c.args.at.now in
+    let es = map_of t in
+    reads_begun _ _ _ at c.in-Some.record t stands.valid (sym c.in-Some.is ∙ c.in_ok-record.ensures.value es stands.map ∙ ap (λ j. get j es) c.in_ok-key.ensures)
+    c.in_ok-record.ensures.reads c.in_err-walk.ensures.reads
+
+pub returns-in_err-gather-clause-reads_of_tree : goal.returns-in_err-gather-clause-reads_of_tree
+returns-in_err-gather-clause-reads_of_tree g c t stands =
+    let law = g.met.S.NodeRead in
+    let at = c.args.at.now in
+    let es = map_of t in
+    let read = law.unchanged_contents _ _ c.in_ok-record.ensures.unchanged ∙ stands.map in
+    let walked = law.unchanged_contents _ _ c.in_ok-walk.ensures.unchanged ∙ read in
+    reads_of_subtree _ _ _ _ at c.in-Some.record _ t stands.valid (sym c.in-Some.is ∙ c.in_ok-record.ensures.value es stands.map ∙ ap (λ j. get j es) c.in_ok-key.ensures)
+    (c.in_ok-walk.ensures.rest es read) c.in_ok-record.ensures.reads c.in_ok-walk.ensures.reads (c.in_err-gather.ensures.within es walked)
+
+pub returns-clause-reads_of_tree : goal.returns-clause-reads_of_tree
+returns-clause-reads_of_tree g c t stands =
+    let law = g.met.S.NodeRead in
+    let at = c.args.at.now in
+    let es = map_of t in
+    let read = law.unchanged_contents _ _ c.in_ok-record.ensures.unchanged ∙ stands.map in
+    let walked = law.unchanged_contents _ _ c.in_ok-walk.ensures.unchanged ∙ read in
+    reads_of_subtree _ _ _ _ at c.in-Some.record _ t stands.valid (sym c.in-Some.is ∙ c.in_ok-record.ensures.value es stands.map ∙ ap (λ j. get j es) c.in_ok-key.ensures)
+    (c.in_ok-walk.ensures.rest es read) c.in_ok-record.ensures.reads c.in_ok-walk.ensures.reads (c.in_ok-gather.ensures.within es walked)

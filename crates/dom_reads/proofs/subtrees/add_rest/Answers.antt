@@ -4,7 +4,7 @@ use Rattle.tree_model.specs.declared.record.Record.{Record}
 use Rattle.tree_model.specs.Entries.{Entries}
 use Rattle.dom_reads.specs.SubtreeWalks.{HasStepped, Stand, still_to_come}
 use Rattle.dom_reads.specs.inside.FragmentBuilders.{Making, add_all, making_of}
-use Rattle.dom_reads.proofs.WalkReads.{reads_on, reads_at_end}
+use Rattle.dom_reads.proofs.WalkReads.{reads_on, reads_so_far}
 use Rattle.dom_reads.proofs.subtrees.add_rest.Goals as goal
 
 pub loop-entry-preserved : goal.loop-entry-preserved
@@ -27,5 +27,17 @@ loop-entry-preserved g c =
           (ap (λ (v : Entries). add_all v (making_of c.loop-entry.builder)) (sym (stepped.rest es (known ∙ t))) ∙ inv.added es t);
     }
 
+pub returns-in_err-entry-clause-reads : goal.returns-in_err-entry-clause-reads
+returns-in_err-entry-clause-reads g c es t =
+    let known = g.met.S.NodeRead.unchanged_contents _ _ c.loop-entry.invariant.same in
+    reads_so_far _ _ _ (still_to_come c.args.walk.now es) (still_to_come c.loop-entry.walk es) (c.loop-entry.invariant.read es t) (c.in_err-entry.ensures.within es (known ∙ t))
+
+pub returns-in_err-add-clause-reads : goal.returns-in_err-add-clause-reads
+returns-in_err-add-clause-reads g c es t =
+    let known = g.met.S.NodeRead.unchanged_contents _ _ c.loop-entry.invariant.same in
+    reads_so_far _ _ _ (still_to_come c.args.walk.now es) (still_to_come c.loop-entry.walk es) (c.loop-entry.invariant.read es t) (c.in_ok-entry.ensures.within es (known ∙ t))
+
 pub returns-clause-reads : goal.returns-clause-reads
-returns-clause-reads g c es t = reads_at_end _ _ _ (still_to_come c.args.walk.now es) (still_to_come c.loop-entry.walk es) (c.loop-entry.invariant.read es t) c.in_ok-entry.ensures.reads
+returns-clause-reads g c es t =
+    let known = g.met.S.NodeRead.unchanged_contents _ _ c.loop-entry.invariant.same in
+    reads_so_far _ _ _ (still_to_come c.args.walk.now es) (still_to_come c.loop-entry.walk es) (c.loop-entry.invariant.read es t) (c.in_ok-entry.ensures.within es (known ∙ t))

@@ -4,7 +4,7 @@ use Rattle.tree_model.specs.declared.record.Record.{Record}
 use Rattle.tree_model.specs.Entries.{Entries}
 use Rattle.dom_reads.specs.SubtreeWalks.{HasStepped, Stand, still_to_come}
 use Rattle.dom_reads.specs.inside.Gathered.{data_of, texts_in}
-use Rattle.dom_reads.proofs.WalkReads.{reads_on, reads_at_end}
+use Rattle.dom_reads.proofs.WalkReads.{reads_on, reads_so_far}
 use Rattle.dom_reads.proofs.subtrees.join_texts.Goals as goal
 
 pub loop-joined-preserved : goal.loop-joined-preserved
@@ -28,5 +28,17 @@ loop-joined-preserved g c =
           (append_assoc so_far (data_of e.1) (texts_in (still_to_come new es)) ∙ ap (λ (v : Entries). so_far ++ texts_in v) (sym (stepped.rest es (known ∙ t))) ∙ inv.texts es t);
     }
 
+pub returns-in_err-entry-clause-reads : goal.returns-in_err-entry-clause-reads
+returns-in_err-entry-clause-reads g c es t =
+    let known = g.met.S.NodeRead.unchanged_contents _ _ c.loop-joined.invariant.same in
+    reads_so_far _ _ _ (still_to_come c.args.walk.now es) (still_to_come c.loop-joined.walk es) (c.loop-joined.invariant.read es t) (c.in_err-entry.ensures.within es (known ∙ t))
+
+pub returns-in_err-push_text-clause-reads : goal.returns-in_err-push_text-clause-reads
+returns-in_err-push_text-clause-reads g c es t =
+    let known = g.met.S.NodeRead.unchanged_contents _ _ c.loop-joined.invariant.same in
+    reads_so_far _ _ _ (still_to_come c.args.walk.now es) (still_to_come c.loop-joined.walk es) (c.loop-joined.invariant.read es t) (c.in_ok-entry.ensures.within es (known ∙ t))
+
 pub returns-clause-reads : goal.returns-clause-reads
-returns-clause-reads g c es t = reads_at_end _ _ _ (still_to_come c.args.walk.now es) (still_to_come c.loop-joined.walk es) (c.loop-joined.invariant.read es t) c.in_ok-entry.ensures.reads
+returns-clause-reads g c es t =
+    let known = g.met.S.NodeRead.unchanged_contents _ _ c.loop-joined.invariant.same in
+    reads_so_far _ _ _ (still_to_come c.args.walk.now es) (still_to_come c.loop-joined.walk es) (c.loop-joined.invariant.read es t) (c.in_ok-entry.ensures.within es (known ∙ t))

@@ -5,7 +5,7 @@ use Rattle.tree_model.specs.Entries.{Entries}
 use Rattle.dom_reads.specs.SubtreeWalks.{HasStepped, Stand, still_to_come}
 use Rattle.dewey_labels.specs.Labels.{Label}
 use Rattle.dom_reads.specs.inside.Gathered.{has_tag, labels_in}
-use Rattle.dom_reads.proofs.WalkReads.{reads_on, reads_at_end}
+use Rattle.dom_reads.proofs.WalkReads.{reads_on, reads_so_far}
 use Rattle.dom_reads.proofs.subtrees.tagged.Goals as goal
 
 pub loop-labels-preserved : goal.loop-labels-preserved
@@ -30,5 +30,17 @@ loop-labels-preserved g c =
           (append_assoc so_far (if has_tag n e.1 then e.0.label ∷ [] else []) (labels_in n (still_to_come new es)) ∙ ap (λ (v : Entries). so_far ++ labels_in n v) (sym (stepped.rest es (known ∙ t))) ∙ inv.labels es t);
     }
 
+pub returns-in_err-entry-clause-reads : goal.returns-in_err-entry-clause-reads
+returns-in_err-entry-clause-reads g c es t =
+    let known = g.met.S.NodeRead.unchanged_contents _ _ c.loop-labels.invariant.same in
+    reads_so_far _ _ _ (still_to_come c.args.walk.now es) (still_to_come c.loop-labels.walk es) (c.loop-labels.invariant.read es t) (c.in_err-entry.ensures.within es (known ∙ t))
+
+pub returns-in_err-push_tagged-clause-reads : goal.returns-in_err-push_tagged-clause-reads
+returns-in_err-push_tagged-clause-reads g c es t =
+    let known = g.met.S.NodeRead.unchanged_contents _ _ c.loop-labels.invariant.same in
+    reads_so_far _ _ _ (still_to_come c.args.walk.now es) (still_to_come c.loop-labels.walk es) (c.loop-labels.invariant.read es t) (c.in_ok-entry.ensures.within es (known ∙ t))
+
 pub returns-clause-reads : goal.returns-clause-reads
-returns-clause-reads g c es t = reads_at_end _ _ _ (still_to_come c.args.walk.now es) (still_to_come c.loop-labels.walk es) (c.loop-labels.invariant.read es t) c.in_ok-entry.ensures.reads
+returns-clause-reads g c es t =
+    let known = g.met.S.NodeRead.unchanged_contents _ _ c.loop-labels.invariant.same in
+    reads_so_far _ _ _ (still_to_come c.args.walk.now es) (still_to_come c.loop-labels.walk es) (c.loop-labels.invariant.read es t) (c.in_ok-entry.ensures.within es (known ∙ t))

@@ -1,0 +1,49 @@
+use Rattle.std.proofs.Common.{◌≡◌, refl, sym, ap, ◌∙◌, true≢false, arith}
+use Rattle.tree_model.specs.Tree.{at, first_of, head_label}
+use Rattle.tree_model.proofs.PlaceLaws.{not_root}
+use Rattle.dom_reads.specs.ReadCounts.{child_reads}
+use Rattle.dom_reads.proofs.ReplyLaws.{one_at_least, two_reads}
+use Rattle.dom_reads.proofs.StepLaws.{row_of}
+use Rattle.dom_reads.proofs.below.first_below.Goals as goal
+
+pub returns-clause-child_read : goal.returns-clause-child_read
+returns-clause-child_read g c some ne = absurd (true≢false (sym (c.shows_node.ensures.shown some ne) ∙ c.if-shows_node.false))
+
+pub returns-in_err-child-clause-reads_of_tree : goal.returns-in_err-child-clause-reads_of_tree
+returns-in_err-child-clause-reads_of_tree g c t stands =
+    let one = one_at_least (first_of (at c.args.at.now t.documents)) in
+    let child = c.in_err-child.ensures.reads in
+    omega (arith, one, child)
+
+pub returns-then-shows_node-clause-reads_of_tree : goal.returns-then-shows_node-clause-reads_of_tree
+returns-then-shows_node-clause-reads_of_tree g c t stands =
+    let one = one_at_least (first_of (at c.args.at.now t.documents)) in
+    let child = c.in_ok-child.ensures.reads in
+    omega (arith, one, child)
+
+pub returns-in_err-record_at-clause-reads_of_tree : goal.returns-in_err-record_at-clause-reads_of_tree
+returns-in_err-record_at-clause-reads_of_tree g c t stands =
+    let l = c.args.at.now in
+    let two : child_reads (first_of (at l t.documents)) ≡ 2 = two_reads l t c.in_ok-child.child c.shows_node.result first_of stands.valid refl
+    (λ y. c.in_ok-child.ensures.found t stands ∙ ap head_label (row_of l t (not_root l t stands.valid y))) c.shows_node.ensures.shown c.if-shows_node.false in
+    let child = c.in_ok-child.ensures.reads in
+    let read = c.in_err-record_at.ensures.reads in
+    omega (arith, two, child, read)
+
+pub returns-then-is_none-clause-reads_of_tree : goal.returns-then-is_none-clause-reads_of_tree
+returns-then-is_none-clause-reads_of_tree g c t stands =
+    let l = c.args.at.now in
+    let two : child_reads (first_of (at l t.documents)) ≡ 2 = two_reads l t c.in_ok-child.child c.shows_node.result first_of stands.valid refl
+    (λ y. c.in_ok-child.ensures.found t stands ∙ ap head_label (row_of l t (not_root l t stands.valid y))) c.shows_node.ensures.shown c.if-shows_node.false in
+    let child = c.in_ok-child.ensures.reads in
+    let read = c.in_ok-record_at.ensures.reads in
+    omega (arith, two, child, read)
+
+pub returns-clause-reads_of_tree : goal.returns-clause-reads_of_tree
+returns-clause-reads_of_tree g c t stands =
+    let l = c.args.at.now in
+    let two : child_reads (first_of (at l t.documents)) ≡ 2 = two_reads l t c.in_ok-child.child c.shows_node.result first_of stands.valid refl
+    (λ y. c.in_ok-child.ensures.found t stands ∙ ap head_label (row_of l t (not_root l t stands.valid y))) c.shows_node.ensures.shown c.if-shows_node.false in
+    let child = c.in_ok-child.ensures.reads in
+    let read = c.in_ok-record_at.ensures.reads in
+    omega (arith, two, child, read)
