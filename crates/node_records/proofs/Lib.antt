@@ -2,6 +2,7 @@ pub mod BodyLaws
 mod ByteRows
 pub mod ChangeLaws
 pub mod DivisionForms
+pub mod EntryLaws
 mod FoundLaws
 mod Prefixes
 pub mod KeyLaws

@@ -5,3 +5,4 @@ pub mod Labels
 pub mod Keys
 pub mod Records
 pub mod Changes
+pub mod Entries

@@ -1,15 +1,17 @@
-//! What holds of the bytes of keys, records and changes: laws over the definitions alone, each the contract of a function with nothing to do.
+//! What holds of the bytes of keys, records, changes and entries: laws over the definitions alone, each the contract of a function with nothing to do.
 ghost use Rattle.std.specs.Prelude.{◌≡◌, ◌++◌, ℕ, List, length, Some};
 ghost use Rattle.std.specs.List.{AllByRecursion};
 ghost use Rattle.std.specs.Ordering.{nat_cmp};
 ghost use Rattle.std.specs.Cmp.Lexicographic.{slice_cmp};
 ghost use Rattle.tree_model.specs.Keys.{IsValidKey, key_cmp};
 ghost use Rattle.node_records.specs.Changes.{IsWritableChange, change_bytes, change_in, changes_bytes, changes_of};
+ghost use Rattle.node_records.specs.Entries.{IsWritableEntry, entry_bytes, entry_in};
 ghost use Rattle.node_records.specs.Keys.{IsWritable, key_bytes, key_in};
 ghost use Rattle.outside_traits.specs.Bytes.{IsBytes};
 ghost use Rattle.tree_model.specs.Records.{HasText};
 ghost use Rattle.node_records.specs.Records.{record_bytes, record_of};
 
+use crate::entries::Entry;
 use tree_model::{Change, Key, Record};
 
 /// What is written is read again: a record from its own bytes alone, all others whatever follows.
@@ -17,6 +19,7 @@ pub fn what_is_written_is_read_again()
     ensures keys { (k : Key) (rest : List ℕ) → IsWritable k → key_in (key_bytes k ++ rest) ≡ Some (k, length (key_bytes k)) }
     ensures records { (r : Record) → HasText r → record_of (record_bytes r) ≡ Some r }
     ensures changes { (c : Change) (rest : List ℕ) → IsWritableChange c → change_in (change_bytes c ++ rest) ≡ Some (c, length (change_bytes c)) }
+    ensures entries { (e : Entry) (rest : List ℕ) → IsWritableEntry e → entry_in (entry_bytes e ++ rest) ≡ Some (e, length (entry_bytes e)) }
     ensures valid { (k : Key) → IsValidKey k → IsWritable k }
 {}
 

@@ -1,0 +1,80 @@
+-- What a pool keeps when its order changes, a page goes or one comes.
+use Rattle.std.proofs.Common.{◌≡◌, ◌≤◌, ℕ, zero, suc, ◌+◌, ◌*◌, ◌-◌, Bool, true, false, cond, List, [], ◌∷◌, ◌++◌, length, take, drop, Some, None, is_some, IfSome, nat_eq, refl, sym, ap, subst, ◌∙◌, arith}
+use Rattle.std.proofs.lemmas.Bool.{eqb-true, eq-eqb}
+use Rattle.std.specs.Option.{option_map_or}
+use Rattle.std.proofs.lemmas.List.{length-take-le, length-drop, take_at}
+use Rattle.std.specs.List.{AllByRecursion}
+use Rattle.std.specs.Map.{lookup, lookup_entry, remove_entry}
+use Rattle.lru.specs.LruCache.{LruCache, promoted, put_entries}
+use Rattle.page_store.specs.Pages.{IsPageOf, ArePagesOf, page_of}
+
+all_take : {X : Type 0} (P : X → Type 0) (n : ℕ) (xs : List X) → AllByRecursion P xs → AllByRecursion P (take n xs)
+all_take P zero xs a = tt
+all_take P (suc n) [] a = tt
+all_take P (suc n) (x ∷ xs) a = (a.0, all_take P n xs a.1)
+
+all_but : {X : Type 0} (P : ℕ × X → Type 0) (test : ℕ → Bool) (es : List (ℕ × X)) → AllByRecursion P es → AllByRecursion P (remove_entry test es)
+all_but P test [] a = tt
+all_but P test (e ∷ es) a = (elim (test e.0) as (λ y. AllByRecursion P (cond y es (e ∷ remove_entry test es))) [
+  | true ↦ a.1
+  | false ↦ (a.0, all_but P test es a.1)
+])
+
+found : {X : Type 0} (P : ℕ × X → Type 0) (k : ℕ) (es : List (ℕ × X)) → AllByRecursion P es → IfSome (lookup_entry (nat_eq k) es) (λ e. P e × (k ≡ e.0))
+found P k [] a = tt
+found P k (e ∷ es) a = (elim (nat_eq k e.0) as (λ y. nat_eq k e.0 ≡ y → IfSome (cond y (Some e) (lookup_entry (nat_eq k) es)) (λ e. P e × (k ≡ e.0))) [
+  | true ↦ λ h. (a.0, eqb-true k e.0 h)
+  | false ↦ λ h. found P k es a.1
+]) refl
+
+-- with a page put among them
+put_page : {X : Type 0} (P : ℕ × X → Type 0) (c : LruCache ℕ X) (k : ℕ) (v : X) → AllByRecursion P c.entries → P (k, v) → AllByRecursion P (put_entries nat_eq c k v)
+put_page P c k v a new = (elim (lookup_entry (nat_eq k) c.entries) as (λ o. IfSome o (λ e. P e × (k ≡ e.0)) → AllByRecursion P (option_map_or (λ e. (e.0, v) ∷ remove_entry (nat_eq k) c.entries) o ((k, v) ∷ take (c.cap - 1) c.entries))) [
+  | Some e ↦ λ f. (subst (λ j. P (j, v)) f.1 new, all_but P (nat_eq k) c.entries a)
+  | None ↦ λ f. (new, all_take P (c.cap - 1) c.entries a)
+]) (found P k c.entries a)
+
+-- one of them goes first
+pub pages_promoted : (file : List ℕ) (k : ℕ) (es : List (ℕ × List ℕ)) → ArePagesOf file es → ArePagesOf file (promoted (nat_eq k) es)
+pages_promoted file k es a = (elim (lookup_entry (nat_eq k) es) as (λ o. IfSome o (λ e. IsPageOf file e × (k ≡ e.0)) → ArePagesOf file (option_map_or (λ e. e ∷ remove_entry (nat_eq k) es) o es)) [
+  | Some e ↦ λ f. (f.0, all_but (IsPageOf file) (nat_eq k) es a)
+  | None ↦ λ f. a
+]) (found (IsPageOf file) k es a)
+
+any : {X : Type 0} (es : List (ℕ × X)) → AllByRecursion (λ e. Unit {0}) es
+any [] = tt
+any (e ∷ es) = (tt, any es)
+
+-- it is there still
+pub there_promoted : {X : Type 0} (k : ℕ) (es : List (ℕ × X)) → is_some (lookup (nat_eq k) es) ≡ true → is_some (lookup (nat_eq k) (promoted (nat_eq k) es)) ≡ true
+there_promoted k es there = (elim (lookup_entry (nat_eq k) es) as (λ o. IfSome o (λ e. Unit {0} × (k ≡ e.0)) → is_some (lookup (nat_eq k) (option_map_or (λ e. e ∷ remove_entry (nat_eq k) es) o es)) ≡ true) [
+  | Some e ↦ λ f. ap (λ b. is_some (cond b (Some e.1) (lookup (nat_eq k) (remove_entry (nat_eq k) es)))) (eq-eqb k e.0 f.1)
+  | None ↦ λ f. there
+]) (found (λ e. Unit {0}) k es (any es))
+
+-- the first so many of them
+pub pages_take : (file : List ℕ) (n : ℕ) (es : List (ℕ × List ℕ)) → ArePagesOf file es → ArePagesOf file (take n es)
+pages_take file n es a = all_take (IsPageOf file) n es a
+
+-- with a page of the file put among them
+pub pages_put : (file : List ℕ) (c : LruCache ℕ (List ℕ)) (k : ℕ) (v : List ℕ) → ArePagesOf file c.entries → v ≡ page_of k file → ArePagesOf file (put_entries nat_eq c k v)
+pages_put file c k v a new = put_page (IsPageOf file) c k v a new
+
+-- a page that lies in the file has all its bytes
+pub page_length : (n : ℕ) (file : List ℕ) → 8_192 * n + 8_192 ≤ length file → length (page_of n file) ≡ 8_192
+page_length n file within = length-take-le 8_192 (drop (8_192 * n) file) (omega (arith, within, length-drop (8_192 * n) file))
+
+-- a page that was read over a whole frame
+pub page_read : (n len m : ℕ) (file cells buf : List ℕ) → len ≡ 8_192 → m ≡ 8_192 → 8_192 * n + 8_192 ≤ length file → buf ≡ take m (drop (8_192 * n) file)
+    → take len (buf ++ drop (length buf) cells) ≡ page_of n file
+page_read n len m file cells buf full whole within read =
+    let page : buf ≡ page_of n file = read ∙ ap (λ k. take k (drop (8_192 * n) file)) whole in
+    take_at buf (drop (length buf) cells) len (ap length page ∙ page_length n file within ∙ sym full) ∙ page
+
+-- what is found is the file's page
+pub page_found : (file : List ℕ) (k : ℕ) (es : List (ℕ × List ℕ)) → ArePagesOf file es → IfSome (lookup (nat_eq k) es) (λ bytes. bytes ≡ page_of k file)
+page_found file k [] a = tt
+page_found file k (e ∷ es) a = (elim (nat_eq k e.0) as (λ y. nat_eq k e.0 ≡ y → IfSome (cond y (Some e.1) (lookup (nat_eq k) es)) (λ bytes. bytes ≡ page_of k file)) [
+  | true ↦ λ h. a.0 ∙ ap (λ n. page_of n file) (sym (eqb-true k e.0 h))
+  | false ↦ λ h. page_found file k es a.1
+]) refl

@@ -1,0 +1,34 @@
+-- The pages of a file, and those that are kept in memory (docs/FILE_FORMAT.md, "The page file").
+use Rattle.std.specs.Prelude.{◌≡◌, ℕ, ◌+◌, ◌-◌, ◌*◌, ◌^◌, min, Bool, if◌then◌else◌, nat_eq, List, take, drop, is_some}
+use Rattle.std.specs.List.{AllByRecursion}
+use Rattle.std.specs.Map.{lookup}
+
+-- the page with this number: fewer bytes where the file ends before its end
+abbrev pub page_of : ℕ → List ℕ → List ℕ
+page_of n file = take 8_192 (drop (8_192 * n) file)
+
+-- a number and a page of the file with this number
+abbrev pub IsPageOf : List ℕ → ℕ × List ℕ → Type 0
+IsPageOf file kept = kept.1 ≡ page_of kept.0 file
+
+-- all pages that are kept are the file's
+abbrev pub ArePagesOf : List ℕ → List (ℕ × List ℕ) → Type 0
+ArePagesOf file kept = AllByRecursion (IsPageOf file) kept
+
+-- the pages that are kept, the one that was asked last first; how many may be; how many were read
+pub record PoolView : Type 0 where
+  pub kept : List (ℕ × List ℕ)
+  pub most : ℕ
+  pub reads : ℕ
+
+-- the page with this number is kept
+abbrev pub is_kept : ℕ → PoolView → Bool
+is_kept page pool = is_some (lookup (nat_eq page) pool.kept)
+
+-- a count after one more read; it stays at the greatest number
+abbrev pub one_more : ℕ → ℕ
+one_more n = min (n + 1) (2 ^ 64 - 1)
+
+-- how many were read after a page was asked for: one more where it wasn't kept
+abbrev pub reads_after : ℕ → PoolView → ℕ
+reads_after page pool = if is_kept page pool then pool.reads else one_more pool.reads
