@@ -1,5 +1,5 @@
 -- The axes (XPath 1.0, section 2.2): relations between two positions of a tree.
-use Rattle.std.specs.Prelude.{Bool, true, false, not, ◌&&◌, ◌||◌, List, [], ◌∷◌, reverse}
+use Rattle.std.specs.Prelude.{Bool, true, false, not, ◌&&◌, ◌||◌, if◌then◌else◌, List, [], ◌∷◌, reverse}
 use Rattle.std.specs.List.{filter}
 use Rattle.std.specs.Ordering.{is_eq, nat_cmp}
 use Rattle.std.specs.Cmp.Lexicographic.{slice_cmp}
@@ -101,11 +101,7 @@ is_reverse a = false
 
 -- positions in document order as the axis counts them
 abbrev pub in_axis_order : Axis → List Position → List Position
-in_axis_order a ps = turned (is_reverse a)
-  where
-    turned : Bool → List Position
-    turned true = reverse ps
-    turned false = ps
+in_axis_order a ps = if is_reverse a then reverse ps else ps
 
 -- the positions of a tree on the axis of one of them that pass the test, as the axis counts them
 abbrev pub on_axis : Tree → Axis → NodeTest → Position → List Position

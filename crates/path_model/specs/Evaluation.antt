@@ -66,11 +66,15 @@ with_first (flag b) = ends (flag b)
 
 -- ---- operators and functions
 
--- a comparison takes the string-values of the left and then of the right; with a boolean none of a node set
+-- a comparison takes the string-values of the left and then of the right
+abbrev pub by_strings : CompareOp → Value → Value → Program Value
+by_strings by a b = and_then (with_strings a) (λ x. and_then (with_strings b) (λ y. ends (flag (compare by x y))))
+
+-- with a boolean it takes none of a node set
 abbrev pub compared : CompareOp → Value → Value → Program Value
 compared by (nodes ns) (flag b) = ends (flag (compare by (flag (truth (nodes ns))) (flag b)))
 compared by (flag b) (nodes ns) = ends (flag (compare by (flag b) (flag (truth (nodes ns)))))
-compared by a b = and_then (with_strings a) (λ x. and_then (with_strings b) (λ y. ends (flag (compare by x y))))
+compared by a b = by_strings by a b
 
 abbrev pub in_number : (Num → Value) → Value → Program Value
 in_number f a = and_then (with_first a) (λ x. ends (f (number_in x)))
