@@ -1,0 +1,4 @@
+pub mod ProgramAnswers
+pub mod Members
+pub mod AnswerLaws
+mod Rows

@@ -1,0 +1,17 @@
+-- Paths
+pub mod Paths
+pub mod PlainPaths
+-- Positions and axes
+pub mod Positions
+pub mod Axes
+-- Values
+pub mod Numbers
+pub mod Values
+pub mod Texts
+pub mod Functions
+-- What a path means
+pub mod Meaning
+-- How it is evaluated
+pub mod Programs
+pub mod AxisPrograms
+pub mod Evaluation
