@@ -17,6 +17,7 @@ Needs Python 3.8 and its standard library.
 import collections
 import concurrent.futures
 import json
+import os
 import subprocess
 import threading
 
@@ -189,6 +190,11 @@ def ended(status, said):
     error = STATUSES.get(status, Ended)(said.strip() or "the program has ended with %d" % status)
     error.status = status
     return error
+
+
+def found(program):
+    """A program that is named by a path is meant from here, and not from the store's folder."""
+    return os.path.abspath(program) if os.path.dirname(program) else program
 
 
 class Call(concurrent.futures.Future):
@@ -409,7 +415,7 @@ class Store:
 
     def __init__(self, folder=".", program="xtc"):
         pipes = {it: subprocess.PIPE for it in ("stdin", "stdout", "stderr")}
-        self._process = subprocess.Popen([program, "run"], cwd=folder, **pipes)
+        self._process = subprocess.Popen([found(program), "run"], cwd=folder, **pipes)
         self._lock = threading.Lock()
         self._sent = collections.deque()  # calls whose own reply hasn't come, in the order of their lines
         self._waiting = {}  # the call with which a session waits
@@ -501,7 +507,7 @@ class Store:
 
 
 def _done(words, folder, program, given=b""):
-    ran = subprocess.run([program, *words], cwd=folder, input=given, stdout=subprocess.PIPE, stderr=subprocess.PIPE)
+    ran = subprocess.run([found(program), *words], cwd=folder, input=given, stdout=subprocess.PIPE, stderr=subprocess.PIPE)
     if ran.returncode:
         raise ended(ran.returncode, ran.stderr.decode(errors="replace"))
     return json.loads(ran.stdout)
