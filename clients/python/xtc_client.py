@@ -18,8 +18,10 @@ import collections
 import concurrent.futures
 import json
 import os
+import random
 import subprocess
 import threading
+import time
 
 
 class XtcError(Exception):
@@ -359,12 +361,16 @@ class Session(Calls):
             for transaction in session.transactions():
                 with transaction:
                     ..
+
+        Where many read the same and then change it, all would meet again at once; so each pauses first, for a random time that may
+        be longer after each deadlock, up to a second.
         """
         for attempt in range(1, attempts + 1):
             transaction = Transaction(self, is_last=attempt == attempts)
             yield transaction
             if not transaction.is_deadlock:
                 return
+            time.sleep(random.uniform(0, min(1, 0.002 * 2**attempt)))
 
     def transact(self, work, attempts=100):
         """What `work`, which is given the session, returns in a transaction that has committed; it is done again after each deadlock."""
