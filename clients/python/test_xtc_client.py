@@ -296,6 +296,21 @@ class Statuses(WithStore):
                 with self.assertRaises(wanted):
                     store.close()
 
+    def test_a_program_that_is_killed_is_told_to_every_call(self):
+        store = self.store()
+        first, second = store.session(1), store.session(2)
+        first.begin()
+        first.create("x", ["a"])
+        second.begin()
+        call = second.futures.docs()
+        while call.wait is None:
+            self.assertFalse(call.done())
+        store._process.kill()
+        for told in (call.result, first.commit, store.close):
+            with self.assertRaises(client.Ended) as caught:
+                told()
+            self.assertEqual(caught.exception.status, -9)
+
     def test_a_line_that_is_too_long_ends_the_program(self):
         store = self.store()
         session = store.session(1)
