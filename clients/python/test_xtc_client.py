@@ -1,0 +1,327 @@
+"""Tests of the client over the built program, from the repository: python3 -m unittest discover clients/python
+
+The program is bin/xtc, which ./demo --build makes, or the one that the variable XTC names. Calls, answers and statuses are the manual's.
+"""
+
+import concurrent.futures
+import contextlib
+import io
+import json
+import os
+import re
+import subprocess
+import sys
+import tempfile
+import threading
+import unittest
+
+HERE = os.path.dirname(os.path.abspath(__file__))
+ROOT = os.path.join(HERE, "..", "..")
+PROGRAM = os.path.abspath(os.environ.get("XTC", os.path.join(ROOT, "bin", "xtc")))
+sys.path.insert(0, HERE)
+
+import two_writers  # noqa: E402
+import xtc_client as client  # noqa: E402
+
+
+def manual():
+    with open(os.path.join(ROOT, "docs", "MANUAL.md"), encoding="utf-8") as file:
+        return file.read()
+
+
+def write_no_journal(path):
+    with open(path, "w", encoding="ascii") as file:
+        file.write("not a journal")
+
+
+def lines_of_calls():
+    """Each line to try of the manual's "Calls", and its answer."""
+    table = manual().split("\n## Calls\n")[1].split("\n### ")[0]
+    for row in re.findall(r"(?m)^\| `\w+` \|.*$", table):
+        cells = [cell.strip().strip("`") for cell in row.split(" | ")]
+        yield json.loads(cells[3]), json.loads(cells[4].rstrip(" |`"))
+
+
+class WithStore(unittest.TestCase):
+    def setUp(self):
+        folder = tempfile.TemporaryDirectory()
+        self.addCleanup(folder.cleanup)
+        self.folder = folder.name
+
+    def store(self):
+        return client.Store(self.folder, PROGRAM)
+
+    def shared(self, *trees):
+        """A store with a document for each tree, d0, d1 and so on, and two sessions in a transaction each."""
+        store = self.store()
+        self.addCleanup(store.close)
+        first, second = store.session(1), store.session(2)
+        with first.transaction():
+            for number, tree in enumerate(trees):
+                first.create("d%d" % number, tree)
+        first.begin()
+        second.begin()
+        return first, second
+
+
+class Calls(WithStore):
+    def test_each_call_answers_as_the_manual_says(self):
+        with self.store() as store:
+            session = store.session(1)
+            session.begin()
+            tried = set()
+            for line, answer in lines_of_calls():
+                keys = {key: value for key, value in line.items() if key not in ("s", "call")}
+                self.assertEqual(getattr(session, line["call"])(**keys), answer, line)
+                tried.add(line["call"])
+            methods = {name for name in vars(client.Calls) if not name.startswith("_")}
+            self.assertEqual(tried | {"begin", "commit", "abort"}, methods)
+
+    def test_each_refusal_is_an_exception_of_its_own(self):
+        long = "x" * 1048576
+        first, second = self.shared(["a", "text"])
+        node, text = "1.1001.1001", "1.1001.1001.1001"
+        for wanted, call in [
+            (client.InTransaction, lambda: first.begin()),
+            (client.DocumentExists, lambda: first.create("d0", ["a"])),
+            (client.InvalidCharacterError, lambda: first.create("1", ["a"])),
+            (client.NotFoundError, lambda: first.node("1.9")),
+            (client.NotSupportedError, lambda: first.length(node)),
+            (client.IndexSizeError, lambda: first.substring(text, 5, 1)),
+            (client.HierarchyRequestError, lambda: first.append("1.1001", ["b"])),
+            (client.TextLimit, lambda: (first.set_data(text, long[:700000]), first.append_data(text, long[:700000]))),
+            (client.NoTransaction, lambda: (second.abort(), second.commit())),
+        ]:
+            with self.subTest(wanted.__name__), self.assertRaises(wanted) as caught:
+                call()
+            self.assertIs(client.REFUSALS[caught.exception.name], wanted)
+
+    def test_a_bad_line_is_an_exception_with_its_reason(self):
+        with self.store() as store, self.assertRaises(client.BadLine) as caught:
+            store.session(65).begin()
+        self.assertEqual((caught.exception.why, caught.exception.line), ("s", 1))
+
+    def test_texts_come_back_as_they_were(self):
+        with self.store() as store:
+            session = store.session(1)
+            for text in ("", "Bücher", "\U0001f4d6 \" \\ \n\t \u2028"):
+                session.begin()
+                session.create("x", ["a", text])
+                self.assertEqual(session.dump("1.1001"), ["a", text])
+                session.abort()
+
+
+class Waits(WithStore):
+    def test_a_call_waits_as_a_future_and_is_answered_with_the_commit(self):
+        first, second = self.shared(["a", ["b"]])
+        first.children("1.1001.1001")
+        call = second.futures.append("1.1001.1001", ["c"])
+        with self.assertRaises(client.IsWaiting):
+            second.node("1.1001.1001")
+        self.assertEqual((call.done(), call.wait), (False, {"asks": "CX", "by": [1], "on": "node 1.1001.1001"}))
+        self.assertEqual(first.commit(), 2)
+        self.assertEqual(call.result(10), "1.1001.1001.1003")
+
+    def test_a_blocking_call_waits_in_its_thread(self):
+        first, second = self.shared(["a"])
+        first.set_attr("1.1001.1001", "k", "v")
+        with concurrent.futures.ThreadPoolExecutor() as pool:
+            value = pool.submit(second.attr, "1.1001.1001", "k")
+            with self.assertRaises(concurrent.futures.TimeoutError):
+                value.result(0.2)
+            first.commit()
+            self.assertEqual(value.result(10), "v")
+
+    def test_a_call_that_waited_may_be_refused(self):
+        first, second = self.shared(["a", ["b"]])
+        first.remove("1.1001.1001", "1.1001.1001.1001")
+        call = second.futures.node("1.1001.1001.1001")
+        first.commit()
+        with self.assertRaises(client.NotFoundError):
+            call.result(10)
+
+    def test_an_abort_gives_up_what_waits(self):
+        first, second = self.shared(["a"])
+        first.children("1.1001.1001")
+        call = second.futures.append("1.1001.1001", ["c"])
+        self.assertIsNone(second.abort())
+        with self.assertRaises(client.Aborted):
+            call.result(10)
+
+    def test_patience_ends_and_aborts(self):
+        first, second = self.shared(["a"])
+        first.children("1.1001.1001")
+        second.patience = 0.2
+        with self.assertRaises(client.WaitedTooLong) as caught:
+            second.append("1.1001.1001", ["c"])
+        self.assertEqual(caught.exception.wait["by"], [1])
+        with self.assertRaises(client.NoTransaction):
+            second.commit()
+
+    def test_a_deadlock_shows_its_circle_and_lets_the_other_go_on(self):
+        first, second = self.shared(["a"])
+        first.children("1.1001.1001")
+        second.children("1.1001.1001")
+        call = first.futures.append("1.1001.1001", ["c"])
+        with self.assertRaises(client.Deadlock) as caught:
+            second.append("1.1001.1001", ["d"])
+        self.assertEqual(caught.exception.cycle, [2, 1])
+        self.assertEqual(call.result(10), "1.1001.1001.1001")
+
+
+class Transactions(WithStore):
+    def test_a_block_commits_at_its_end_and_aborts_at_an_exception(self):
+        with self.store() as store:
+            session = store.session(1)
+            with session.transaction() as transaction:
+                session.create("x", ["a"])
+            self.assertEqual((transaction.ordinal, transaction.number), (1, 1))
+            with self.assertRaises(KeyError), session.transaction() as transaction:
+                session.create("y", ["a"])
+                raise KeyError
+            self.assertIsNone(transaction.number)
+            with self.assertRaises(client.DocumentExists), session.transaction():
+                session.create("y", ["a"])
+                session.create("x", ["a"])
+            self.assertEqual(session.transact(lambda it: it.docs()), [["x", "1.1001"]])
+
+    def test_a_block_is_done_again_after_a_deadlock(self):
+        first, second = self.shared(["a"])
+        second.abort()
+        other = threading.Event()
+
+        def read_and_append():
+            for transaction in second.transactions():
+                with transaction:
+                    second.children("1.1001.1001")
+                    other.set()
+                    second.append("1.1001.1001", ["d"])
+            return transaction.ordinal
+
+        first.children("1.1001.1001")
+        with concurrent.futures.ThreadPoolExecutor() as pool:
+            ordinal = pool.submit(read_and_append)
+            other.wait(10)
+            with contextlib.suppress(client.Deadlock):
+                first.append("1.1001.1001", ["c"])
+                first.commit()
+            self.assertIn(ordinal.result(10), (2, 3))
+
+    def test_the_last_attempt_raises_its_deadlock(self):
+        first, second = self.shared(["a"])
+        second.abort()
+
+        def work(session):
+            session.children("1.1001.1001")
+            call.append(first.futures.append("1.1001.1001", ["c"]))
+            session.append("1.1001.1001", ["d"])
+
+        call = []
+        first.children("1.1001.1001")
+        with self.assertRaises(client.Deadlock):
+            second.transact(work, attempts=1)
+        self.assertEqual(call[0].result(10), "1.1001.1001.1001")
+
+    def test_two_writers_lose_nothing(self):
+        with contextlib.redirect_stdout(io.StringIO()) as said:
+            self.assertEqual(two_writers.main(PROGRAM, "20"), 0)
+        self.assertIn("count 40, 40 books, 20 by writer 1", said.getvalue())
+
+
+class Documents(WithStore):
+    def docs(self, *words, given=b""):
+        """What xtc_docs writes and ends with."""
+        tool = [sys.executable, "-B", os.path.join(HERE, "xtc_docs.py"), "--program", PROGRAM]
+        ran = subprocess.run(tool + list(words), cwd=self.folder, input=given, stdout=subprocess.PIPE, stderr=subprocess.PIPE)
+        return ran.returncode, ran.stdout.decode()
+
+    def test_documents_are_listed_dropped_and_replaced(self):
+        for words, given, wanted in [
+            (("list",), b"", (0, "")),
+            (("replace", "x"), b'["a"]', (0, "")),
+            (("replace", "x"), b'["b"]', (0, "")),
+            (("replace", "y"), b'["a"]', (0, "")),
+            (("drop", "x", "z"), b"", (10, "")),
+            (("list",), b"", (0, "x\ny\n")),
+            (("replace", "y"), b"[1]", (9, "")),
+            (("replace", "y"), b"no", (9, "")),
+            (("drop", "y"), b"", (0, "")),
+            (("list",), b"", (0, "x\n")),
+        ]:
+            self.assertEqual(self.docs(*words, given=given), wanted, words)
+        self.assertEqual(client.get("x", self.folder, PROGRAM), ["b"])
+
+
+class Statuses(WithStore):
+    def test_each_status_of_the_manual_has_its_type(self):
+        rows = re.findall(r"(?m)^\| (\d+) \| *(\w*) *\|", manual().split("\n## Statuses\n")[1])
+        for number, name in rows:
+            if number != "0":
+                self.assertEqual(client.STATUSES[int(number)].__name__, name or "NotAvailable")
+        self.assertEqual({int(number) for number, _ in rows}, set(client.STATUSES))
+
+    def test_documents_are_put_and_got(self):
+        tree = ["a", {"k": "v"}, "text", ["b"]]
+        self.assertEqual(client.put("x", tree, self.folder, PROGRAM), "1.1001")
+        self.assertEqual(client.get("x", self.folder, PROGRAM), tree)
+        for wanted, call in [
+            (client.DocumentRefused, lambda: client.put("x", tree, self.folder, PROGRAM)),
+            (client.DocumentRefused, lambda: client.get("y", self.folder, PROGRAM)),
+            (client.NotJsonMl, lambda: client.put("y", ["a", 1.5], self.folder, PROGRAM)),
+            (client.LineTooLong, lambda: client.put("y", ["a", "x" * 17000000], self.folder, PROGRAM)),
+            (client.Usage, lambda: client.get("-x", self.folder, PROGRAM)),
+        ]:
+            with self.subTest(wanted.__name__), self.assertRaises(wanted) as caught:
+                call()
+            self.assertEqual(caught.exception.status, wanted.status)
+
+    def test_a_store_that_is_in_use_isnt_available(self):
+        with self.store() as store:
+            store.session(1).begin()
+            with self.assertRaises(client.NotAvailable):
+                with self.store() as second:
+                    second.session(1).begin()
+
+    def test_a_program_that_ends_is_told_to_every_call(self):
+        for wanted, name, made in [
+            (client.Damaged, "store.journal", write_no_journal),
+            (client.DiskFault, "store.journal", lambda path: os.symlink("/dev/full", path)),
+        ]:
+            with self.subTest(wanted.__name__), tempfile.TemporaryDirectory() as folder:
+                made(os.path.join(folder, name))
+                store = client.Store(folder, PROGRAM)
+                for _ in range(2):
+                    with self.assertRaises(wanted):
+                        store.session(1).begin()
+                with self.assertRaises(wanted):
+                    store.close()
+
+    def test_a_program_that_is_killed_is_told_to_every_call(self):
+        store = self.store()
+        first, second = store.session(1), store.session(2)
+        first.begin()
+        first.create("x", ["a"])
+        second.begin()
+        call = second.futures.docs()
+        while call.wait is None:
+            self.assertFalse(call.done())
+        store._process.kill()
+        for told in (call.result, first.commit, store.close):
+            with self.assertRaises(client.Ended) as caught:
+                told()
+            self.assertEqual(caught.exception.status, -9)
+
+    def test_a_line_that_is_too_long_ends_the_program(self):
+        store = self.store()
+        session = store.session(1)
+        session.begin()
+        waiting = session.futures.create("x", ["a", "x" * 1048576])
+        with self.assertRaises(client.LineTooLong) as caught:
+            waiting.result(10)
+        self.assertEqual(str(caught.exception), "xtc: line 2 is too long")
+        with self.assertRaises(client.LineTooLong):
+            store.close()
+
+
+if __name__ == "__main__":
+    unittest.main()
