@@ -11,6 +11,7 @@ pub mod NormalReplies
 pub mod NormalRuns
 pub mod OnTrees
 pub mod PlacedCalls
+pub mod ReadLaws
 pub mod RemovalLaws
 pub mod ReplacementLaws
 pub mod SplitOutcomes

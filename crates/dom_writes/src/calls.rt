@@ -1,5 +1,5 @@
 //! All changing calls in one.
-ghost use Rattle.std.specs.Prelude.{◌≡◌, [], false, OnErr};
+ghost use Rattle.std.specs.Prelude.{◌≡◌, [], false, OnErr, ◌≤◌, ◌+◌, IfSome};
 ghost use Rattle.tree_model.specs.Changes.{differences};
 ghost use Rattle.tree_model.specs.DomCalls.{dom};
 ghost use Rattle.tree_model.specs.Fragments.{IsValid};
@@ -8,6 +8,8 @@ ghost use Rattle.tree_changes.specs.ValidCalls.{fragment_brought};
 ghost use Rattle.node_seq.specs.ChangeLists.{IsChangeList};
 ghost use Rattle.node_seq.specs.Trees.{OnTree};
 ghost use Rattle.outside_traits.specs.Faults.{HasCause};
+ghost use Rattle.dom_reads.specs.ReadCounts.{ReadsOfTree};
+ghost use Rattle.dom_writes.specs.ReadCounts.{few_reads, most_reads_of_change};
 ghost use Rattle.dom_reads.specs.Reading.{is_reading};
 
 use crate::attributes::{remove_attr, rename, set_attr};
@@ -39,6 +41,8 @@ pub fn dom_write<S: NodeRead>(
     ensures rise { IsChangeList out.new }
     ensures err { OnErr result (out.new ≡ out.old) }
     ensures unchanged { S.unchanged seq.old seq.new }
+    ensures reads { ReadsOfTree (S.contents seq.old) (most_reads_of_change call.now) (S.reads seq.old) (S.reads seq.new) }
+    ensures few { IfSome (few_reads call.now) (λ most. S.reads seq.new ≤ S.reads seq.old + most) }
     ensures cause { HasCause SeqError.DiskFault (S.count seq.old) (S.count seq.new) result }
 {
     match call {

@@ -14,6 +14,8 @@ ghost use Rattle.node_seq.specs.ChangeLists.{IsChangeList};
 ghost use Rattle.node_seq.specs.Reads.{IsValidEntry};
 ghost use Rattle.node_seq.specs.Trees.{OnTree};
 ghost use Rattle.outside_traits.specs.Faults.{HasCause};
+ghost use Rattle.dom_reads.specs.ReadCounts.{ReadsOfTree, subtree_reads};
+ghost use Rattle.dom_writes.specs.ReadCounts.{set_text_reads};
 ghost use Rattle.dom_writes.specs.inside.TextsSet.{data_changes, data_refused, one_text, past_limits, reply_of, text_changes, text_refused};
 
 use crate::merges::differences_between;
@@ -26,7 +28,7 @@ use std::alloc::Global;
 use tree_model::{Change, Changes, DEEPEST_LEVEL, Key, MOST_TEXT_BYTES, Record, Reply};
 
 /// `textContent` set: of a text its data; an element's children go, and one text comes if the data isn't empty; of a document nothing changes.
-/// One read for each entry below an element and three more, its attributes' too.
+/// Of an element one read for each entry of its subtree and two more at most, of any other node one.
 pub fn set_text<S: NodeRead>(
     alloc: Global,
     at: &Label,
@@ -40,6 +42,7 @@ pub fn set_text<S: NodeRead>(
     ensures rise { IsChangeList out.new }
     ensures err { OnErr result (out.new ≡ out.old) }
     ensures unchanged { S.unchanged seq.old seq.new }
+    ensures reads { ReadsOfTree (S.contents seq.old) (set_text_reads at.now) (S.reads seq.old) (S.reads seq.new) }
     ensures cause { HasCause SeqError.DiskFault (S.count seq.old) (S.count seq.new) result }
 {
     // It tells that the data is UTF-8.
@@ -105,6 +108,7 @@ fn set_text_of_element<S: NodeRead>(
     ensures rise { IsChangeList out.new }
     ensures err { OnErr result (out.new ≡ out.old) }
     ensures unchanged { S.unchanged seq.old seq.new }
+    ensures reads { ReadsOfTree (S.contents seq.old) (subtree_reads at.now) (S.reads seq.old) (S.reads seq.new) }
     ensures cause { HasCause SeqError.DiskFault (S.count seq.old) (S.count seq.new) result }
 {
     if let Some(refusal) = past_limits(at, data) {

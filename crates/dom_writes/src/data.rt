@@ -1,5 +1,5 @@
 //! The calls that change a text's data (DOM Level 3 Core, interface CharacterData). Offsets and counts are of characters. Each makes one read.
-ghost use Rattle.std.specs.Prelude.{◌≡◌, [], ◌++◌, if◌then◌else◌, IfOk, OnErr, OnOk, Some};
+ghost use Rattle.std.specs.Prelude.{◌≡◌, [], ◌++◌, if◌then◌else◌, IfOk, OnErr, OnOk, Some, ◌≤◌, ◌+◌};
 ghost use Rattle.tree_changes.specs.KeyChanges.{change_at};
 ghost use Rattle.tree_model.specs.Changes.{differences};
 ghost use Rattle.tree_model.specs.Keys.{IsValidKey, node_key};
@@ -35,6 +35,7 @@ pub fn set_data<S: NodeRead>(
     ensures rise { IsChangeList out.new }
     ensures err { OnErr result (out.new ≡ out.old) }
     ensures unchanged { S.unchanged seq.old seq.new }
+    ensures reads { S.reads seq.new ≤ S.reads seq.old + 1 }
     ensures cause { HasCause SeqError.DiskFault (S.count seq.old) (S.count seq.new) result }
 {
     let Some(found) = node_at(alloc, at, seq)? else {
@@ -89,6 +90,7 @@ pub fn append_data<S: NodeRead>(
     ensures rise { IsChangeList out.new }
     ensures err { OnErr result (out.new ≡ out.old) }
     ensures unchanged { S.unchanged seq.old seq.new }
+    ensures reads { S.reads seq.new ≤ S.reads seq.old + 1 }
     ensures cause { HasCause SeqError.DiskFault (S.count seq.old) (S.count seq.new) result }
 {
     let Some(found) = node_at(alloc, at, seq)? else {
@@ -127,6 +129,7 @@ pub fn insert_data<S: NodeRead>(
     ensures rise { IsChangeList out.new }
     ensures err { OnErr result (out.new ≡ out.old) }
     ensures unchanged { S.unchanged seq.old seq.new }
+    ensures reads { S.reads seq.new ≤ S.reads seq.old + 1 }
     ensures cause { HasCause SeqError.DiskFault (S.count seq.old) (S.count seq.new) result }
 {
     replace_data(alloc, at, offset, 0, data, seq, out)
@@ -147,6 +150,7 @@ pub fn delete_data<S: NodeRead>(
     ensures rise { IsChangeList out.new }
     ensures err { OnErr result (out.new ≡ out.old) }
     ensures unchanged { S.unchanged seq.old seq.new }
+    ensures reads { S.reads seq.new ≤ S.reads seq.old + 1 }
     ensures cause { HasCause SeqError.DiskFault (S.count seq.old) (S.count seq.new) result }
 {
     let nothing = Text::of(alloc, "")?;
@@ -170,6 +174,7 @@ pub fn replace_data<S: NodeRead>(
     ensures rise { IsChangeList out.new }
     ensures err { OnErr result (out.new ≡ out.old) }
     ensures unchanged { S.unchanged seq.old seq.new }
+    ensures reads { S.reads seq.new ≤ S.reads seq.old + 1 }
     ensures cause { HasCause SeqError.DiskFault (S.count seq.old) (S.count seq.new) result }
 {
     let Some(found) = node_at(alloc, at, seq)? else {

@@ -1,5 +1,5 @@
 //! The call that makes a document, with its entry in the catalogue.
-ghost use Rattle.std.specs.Prelude.{◌≡◌, ◌++◌, [], IfOk, IfSome, IsTrue, OnErr, OnOk, option_map};
+ghost use Rattle.std.specs.Prelude.{◌≡◌, ◌++◌, [], IfOk, IfSome, IsTrue, OnErr, OnOk, option_map, ◌≤◌, ◌+◌};
 ghost use Rattle.dewey_labels.specs.Labels.{is_child, root};
 ghost use Rattle.tree_model.specs.Changes.{differences};
 ghost use Rattle.tree_model.specs.Documents as documents;
@@ -24,7 +24,7 @@ use node_seq::{NodeRead, SeqError};
 use std::alloc::Global;
 use tree_model::{Changes, DEEPEST_LEVEL, Fragment, Key, Record, Reply, is_name};
 
-/// A document with a name behind the last one, empty or of one element. Two reads.
+/// A document with a name behind the last one, empty or of one element. Two reads at most.
 pub fn create<S: NodeRead>(
     alloc: Global,
     name: &Text,
@@ -41,6 +41,7 @@ pub fn create<S: NodeRead>(
     ensures rise { IsChangeList out.new }
     ensures err { OnErr result (out.new ≡ out.old) }
     ensures unchanged { S.unchanged seq.old seq.new }
+    ensures reads { S.reads seq.new ≤ S.reads seq.old + 2 }
     ensures cause { HasCause SeqError.DiskFault (S.count seq.old) (S.count seq.new) result }
 {
     let place = document_place(alloc, name, fragment, seq)?;
@@ -58,6 +59,7 @@ fn document_place<S: NodeRead>(
         answer place ≡ (documents.create name.now (plain_or_none (option_map (λ f. f.now) fragment.entry)) t).0) }
     ensures suits { IfOk result (new_documents.SuitsOrRefused name.now (plain_or_none (option_map (λ f. f.now) fragment.entry))) }
     ensures unchanged { S.unchanged seq.old seq.new }
+    ensures reads { S.reads seq.new ≤ S.reads seq.old + 2 }
     ensures cause { HasCause SeqError.DiskFault (S.count seq.old) (S.count seq.new) result }
 {
     if !is_name(name) {

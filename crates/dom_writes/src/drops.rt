@@ -1,11 +1,13 @@
 //! The call that takes a document out.
-ghost use Rattle.std.specs.Prelude.{◌≡◌, [], IfOk, OnErr};
+ghost use Rattle.std.specs.Prelude.{◌≡◌, [], IfOk, OnErr, ◌≤◌, ◌+◌};
 ghost use Rattle.tree_model.specs.Changes.{differences};
 ghost use Rattle.tree_model.specs.Documents as documents;
 ghost use Rattle.tree_model.specs.Tree.{beside, map_of};
 ghost use Rattle.node_seq.specs.ChangeLists.{IsChangeList};
 ghost use Rattle.node_seq.specs.Trees.{OnTree};
 ghost use Rattle.outside_traits.specs.Faults.{HasCause};
+ghost use Rattle.dom_reads.specs.ReadCounts.{ReadsOfTree};
+ghost use Rattle.dom_writes.specs.ReadCounts.{drop_reads};
 ghost use Rattle.dom_writes.specs.inside.Outcomes.{reply_and_changes};
 ghost use Rattle.dom_writes.specs.inside.Above.{is_head_above};
 
@@ -16,7 +18,7 @@ use node_seq::{NodeRead, SeqError};
 use std::alloc::Global;
 use tree_model::{Changes, Key, Record, Reply};
 
-/// Takes the document with a name out, with its entry in the catalogue. One read an entry of the document and two more.
+/// Takes the document with a name out, with its entry in the catalogue. One read an entry of the document and two more at most.
 pub fn drop_document<S: NodeRead>(
     alloc: Global,
     name: &Text,
@@ -29,6 +31,7 @@ pub fn drop_document<S: NodeRead>(
     ensures rise { IsChangeList out.new }
     ensures err { OnErr result (out.new ≡ out.old) }
     ensures unchanged { S.unchanged seq.old seq.new }
+    ensures reads { ReadsOfTree (S.contents seq.old) (λ t. drop_reads (beside name.now t.catalogue) t) (S.reads seq.old) (S.reads seq.new) }
     ensures cause { HasCause SeqError.DiskFault (S.count seq.old) (S.count seq.new) result }
 {
     let (reply, changes) = document_removal(alloc, name, seq)?;
@@ -45,6 +48,7 @@ fn document_removal<S: NodeRead>(
     ensures outcome { OnTree (S.contents seq.old) result (λ t outcome. outcome ≡ reply_and_changes t (documents.drop_document name.now t)) }
     ensures rise { IfOk result (λ outcome. IsChangeList outcome.1) }
     ensures unchanged { S.unchanged seq.old seq.new }
+    ensures reads { ReadsOfTree (S.contents seq.old) (λ t. drop_reads (beside name.now t.catalogue) t) (S.reads seq.old) (S.reads seq.new) }
     ensures cause { HasCause SeqError.DiskFault (S.count seq.old) (S.count seq.new) result }
 {
     let Some(at) = document_label(alloc, name, seq)? else {
@@ -71,6 +75,7 @@ fn document_label<S: NodeRead>(
 ) -> Result<Option<Label>, SeqError>
     ensures found { OnTree (S.contents seq.old) result (λ t found. found ≡ beside name.now t.catalogue) }
     ensures unchanged { S.unchanged seq.old seq.new }
+    ensures reads { S.reads seq.new ≤ S.reads seq.old + 1 }
     ensures cause { HasCause SeqError.DiskFault (S.count seq.old) (S.count seq.new) result }
 {
     match doc(alloc, name, seq)? {

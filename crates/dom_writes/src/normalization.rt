@@ -6,6 +6,8 @@ ghost use Rattle.tree_model.specs.Tree.{map_of};
 ghost use Rattle.node_seq.specs.ChangeLists.{IsChangeList};
 ghost use Rattle.node_seq.specs.Trees.{OnTree};
 ghost use Rattle.outside_traits.specs.Faults.{HasCause};
+ghost use Rattle.dom_reads.specs.ReadCounts.{ReadsOfTree};
+ghost use Rattle.dom_writes.specs.ReadCounts.{normalize_reads};
 
 use crate::normal_texts::{is_text, join_texts};
 use crate::refusals::text_limit;
@@ -17,7 +19,7 @@ use std::alloc::Global;
 use tree_model::{Changes, Reply};
 
 /// `normalize`: below the node each run of adjacent texts becomes one text, and a run without data goes; no other node changes. Refused where a joined text would be too long.
-/// One read for each entry below the node and three more, its attributes' too.
+/// One read for each entry of the node's subtree and two more at most, and one of a text.
 pub fn normalize<S: NodeRead>(
     alloc: Global,
     at: &Label,
@@ -30,6 +32,7 @@ pub fn normalize<S: NodeRead>(
     ensures rise { IsChangeList out.new }
     ensures err { OnErr result (out.new ≡ out.old) }
     ensures unchanged { S.unchanged seq.old seq.new }
+    ensures reads { ReadsOfTree (S.contents seq.old) (normalize_reads at.now) (S.reads seq.old) (S.reads seq.new) }
     ensures cause { HasCause SeqError.DiskFault (S.count seq.old) (S.count seq.new) result }
 {
     let Some(found) = record_at(alloc, at, seq)? else {

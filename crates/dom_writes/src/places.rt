@@ -1,5 +1,5 @@
 //! The places of new nodes: their labels between those of their neighbours, and the parent's kind.
-ghost use Rattle.std.specs.Prelude.{◌≡◌, Some, None, Err, IfOk, IfSome, IsTrue};
+ghost use Rattle.std.specs.Prelude.{◌≡◌, Some, None, Err, IfOk, IfSome, IsTrue, ◌≤◌, ◌+◌};
 ghost use Rattle.dewey_labels.specs.Labels.{is_child};
 ghost use Rattle.dewey_labels.specs.NewLabels.{new_label};
 ghost use Rattle.dewey_labels.specs.declared.new_labels.LabelError.TheVariants.{LabelLimit};
@@ -76,6 +76,7 @@ pub(crate) fn has_child<S: NodeRead>(
     ensures there { OnTree (S.contents seq.old) result (λ t is. is ≡ has_child parent.now child.now t) }
     ensures child { IfOk result (λ is. IsTrue is → IsTrue (is_child parent.now child.now)) }
     ensures unchanged { S.unchanged seq.old seq.new }
+    ensures reads { S.reads seq.new ≤ S.reads seq.old + 1 }
     ensures cause { HasCause SeqError.DiskFault (S.count seq.old) (S.count seq.new) result }
 {
     let _divisions = child.divisions();

@@ -1,6 +1,6 @@
 //! The calls that put a fragment below a node (DOM Level 3 Core, interface Node: `appendChild` and `insertBefore`).
-//! Each makes four reads at most, and then a put for each entry of the fragment.
-ghost use Rattle.std.specs.Prelude.{◌≡◌, [], Some, IfOk, IsTrue, OnErr, OnOk, option_map};
+//! The one makes two reads at most, the other three, and then a put for each entry of the fragment.
+ghost use Rattle.std.specs.Prelude.{◌≡◌, [], Some, IfOk, IsTrue, OnErr, OnOk, option_map, ◌≤◌, ◌+◌, is_some, if◌then◌else◌};
 ghost use Rattle.tree_model.specs.Changes.{differences};
 ghost use Rattle.tree_model.specs.Fragments.{IsValid, plain};
 ghost use Rattle.tree_model.specs.Placing as placing;
@@ -19,7 +19,7 @@ use node_seq::{NodeRead, SeqError};
 use std::alloc::Global;
 use tree_model::{Changes, Fragment, Reply};
 
-/// `appendChild`: the fragment as the last child. Two reads.
+/// `appendChild`: the fragment as the last child. Two reads at most.
 pub fn append<S: NodeRead>(
     alloc: Global,
     at: &Label,
@@ -34,6 +34,7 @@ pub fn append<S: NodeRead>(
     ensures rise { IsChangeList out.new }
     ensures err { OnErr result (out.new ≡ out.old) }
     ensures unchanged { S.unchanged seq.old seq.new }
+    ensures reads { S.reads seq.new ≤ S.reads seq.old + 2 }
     ensures cause { HasCause SeqError.DiskFault (S.count seq.old) (S.count seq.new) result }
 {
     let place = place_at_end(alloc, at, fragment, seq)?;
@@ -50,6 +51,7 @@ fn place_at_end<S: NodeRead>(
     ensures place { OnTree (S.contents seq.old) result (λ t place. answer place ≡ (placing.append at.now (plain fragment.now) t).0) }
     ensures suits { IfOk result (SuitsOrRefused at.now (plain fragment.now)) }
     ensures unchanged { S.unchanged seq.old seq.new }
+    ensures reads { S.reads seq.new ≤ S.reads seq.old + 2 }
     ensures cause { HasCause SeqError.DiskFault (S.count seq.old) (S.count seq.new) result }
 {
     let Some(parent) = record_at(alloc, at, seq)? else {
@@ -95,7 +97,7 @@ fn put_fragment(
     }
 }
 
-/// `insertBefore`: the fragment before a child, or without one as the last child. Three reads.
+/// `insertBefore`: the fragment before a child, or without one as the last child. Three reads at most, two without a child.
 pub fn insert<S: NodeRead>(
     alloc: Global,
     at: &Label,
@@ -113,6 +115,7 @@ pub fn insert<S: NodeRead>(
     ensures rise { IsChangeList out.new }
     ensures err { OnErr result (out.new ≡ out.old) }
     ensures unchanged { S.unchanged seq.old seq.new }
+    ensures reads { S.reads seq.new ≤ S.reads seq.old + (if is_some before.entry then 3 else 2) }
     ensures cause { HasCause SeqError.DiskFault (S.count seq.old) (S.count seq.new) result }
 {
     let Some(child) = before else {
@@ -133,6 +136,7 @@ fn place_before<S: NodeRead>(
     ensures place { OnTree (S.contents seq.old) result (λ t place. answer place ≡ (placing.insert at.now (Some child.now) (plain fragment.now) t).0) }
     ensures suits { IfOk result (SuitsOrRefused at.now (plain fragment.now)) }
     ensures unchanged { S.unchanged seq.old seq.new }
+    ensures reads { S.reads seq.new ≤ S.reads seq.old + 3 }
     ensures cause { HasCause SeqError.DiskFault (S.count seq.old) (S.count seq.new) result }
 {
     let _divisions = at.divisions();

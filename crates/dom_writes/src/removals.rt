@@ -1,5 +1,5 @@
 //! The calls that take a subtree out (DOM Level 3 Core, interface Node: `removeChild` and `replaceChild`).
-ghost use Rattle.std.specs.Prelude.{◌≡◌, ◌&&◌, [], IfOk, OnErr, Some};
+ghost use Rattle.std.specs.Prelude.{◌≡◌, ◌&&◌, [], IfOk, OnErr, Some, ◌≤◌, ◌+◌};
 ghost use Rattle.tree_model.specs.Changes.{differences};
 ghost use Rattle.tree_model.specs.Fragments.{IsValid, is_text_fragment, plain};
 ghost use Rattle.tree_model.specs.Placing as placing;
@@ -8,6 +8,8 @@ ghost use Rattle.tree_model.specs.Tree.{map_of};
 ghost use Rattle.node_seq.specs.ChangeLists.{IsChangeList};
 ghost use Rattle.node_seq.specs.Trees.{OnTree};
 ghost use Rattle.outside_traits.specs.Faults.{HasCause};
+ghost use Rattle.dom_reads.specs.ReadCounts.{ReadsOfTree};
+ghost use Rattle.dom_writes.specs.ReadCounts.{removal_reads, replace_reads};
 ghost use Rattle.dom_writes.specs.inside.NewPlaces.{SuitsOrRefused};
 ghost use Rattle.dom_writes.specs.inside.Outcomes.{parent_of, placed_instead, reply_and_changes};
 
@@ -38,6 +40,7 @@ pub fn remove<S: NodeRead>(
     ensures rise { IsChangeList out.new }
     ensures err { OnErr result (out.new ≡ out.old) }
     ensures unchanged { S.unchanged seq.old seq.new }
+    ensures reads { ReadsOfTree (S.contents seq.old) (removal_reads child.now) (S.reads seq.old) (S.reads seq.new) }
     ensures cause { HasCause SeqError.DiskFault (S.count seq.old) (S.count seq.new) result }
 {
     let (reply, changes) = removal(alloc, at, child, seq)?;
@@ -55,6 +58,7 @@ fn removal<S: NodeRead>(
     ensures outcome { OnTree (S.contents seq.old) result (λ t outcome. outcome ≡ reply_and_changes t (placing.remove at.now child.now t)) }
     ensures rise { IfOk result (λ outcome. IsChangeList outcome.1) }
     ensures unchanged { S.unchanged seq.old seq.new }
+    ensures reads { ReadsOfTree (S.contents seq.old) (removal_reads child.now) (S.reads seq.old) (S.reads seq.new) }
     ensures cause { HasCause SeqError.DiskFault (S.count seq.old) (S.count seq.new) result }
 {
     let Some(_parent) = parent_record(alloc, at, child, seq)? else {
@@ -88,6 +92,7 @@ pub fn replace<S: NodeRead>(
     ensures rise { IsChangeList out.new }
     ensures err { OnErr result (out.new ≡ out.old) }
     ensures unchanged { S.unchanged seq.old seq.new }
+    ensures reads { ReadsOfTree (S.contents seq.old) (replace_reads at.now old.now (plain fragment.now)) (S.reads seq.old) (S.reads seq.new) }
     ensures cause { HasCause SeqError.DiskFault (S.count seq.old) (S.count seq.new) result }
 {
     let (reply, changes) = replacement(alloc, at, old, fragment, seq)?;
@@ -108,6 +113,7 @@ fn replacement<S: NodeRead>(
         outcome ≡ reply_and_changes t (placing.replace at.now old.now (plain fragment.now) t)) }
     ensures rise { IfOk result (λ outcome. IsChangeList outcome.1) }
     ensures unchanged { S.unchanged seq.old seq.new }
+    ensures reads { ReadsOfTree (S.contents seq.old) (replace_reads at.now old.now (plain fragment.now)) (S.reads seq.old) (S.reads seq.new) }
     ensures cause { HasCause SeqError.DiskFault (S.count seq.old) (S.count seq.new) result }
 {
     let _divisions = at.divisions();
@@ -141,6 +147,7 @@ fn place_instead<S: NodeRead>(
         placed_instead old.now (plain fragment.now) t place ≡ placing.replace at.now old.now (plain fragment.now) t) }
     ensures suits { IfOk result (SuitsOrRefused at.now (plain fragment.now)) }
     ensures unchanged { S.unchanged seq.old seq.new }
+    ensures reads { S.reads seq.new ≤ S.reads seq.old + 4 }
     ensures cause { HasCause SeqError.DiskFault (S.count seq.old) (S.count seq.new) result }
 {
     let _divisions = at.divisions();
@@ -178,6 +185,7 @@ fn parent_record<S: NodeRead>(
 ) -> Result<Option<Record>, SeqError>
     ensures parent { OnTree (S.contents seq.old) result (λ t found. found ≡ parent_of at.now child.now t) }
     ensures unchanged { S.unchanged seq.old seq.new }
+    ensures reads { S.reads seq.new ≤ S.reads seq.old + 1 }
     ensures cause { HasCause SeqError.DiskFault (S.count seq.old) (S.count seq.new) result }
 {
     let Some(parent) = child.parent(alloc)? else {

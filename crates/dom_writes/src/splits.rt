@@ -1,5 +1,5 @@
 //! The call that splits a text (DOM Level 3 Core, interface Text).
-ghost use Rattle.std.specs.Prelude.{◌≡◌, [], ◌∷◌, ◌++◌, IfOk, IfSome, IsTrue, OnErr, OnOk, Some};
+ghost use Rattle.std.specs.Prelude.{◌≡◌, [], ◌∷◌, ◌++◌, IfOk, IfSome, IsTrue, OnErr, OnOk, Some, ◌≤◌, ◌+◌};
 ghost use Rattle.std.specs.Ordering.{nat_cmp};
 ghost use Rattle.std.specs.Cmp.Lexicographic.{slice_cmp};
 ghost use Rattle.std.specs.declared.cmp.Ordering.TheVariants.{Less};
@@ -24,7 +24,7 @@ use node_seq::{NodeRead, SeqError};
 use std::alloc::Global;
 use tree_model::{Change, Changes, Key, Record, Reply};
 
-/// `splitText`: the text keeps what stands before the offset, in characters, and a new one behind it gets the rest. Two reads.
+/// `splitText`: the text keeps what stands before the offset, in characters, and a new one behind it gets the rest. Two reads at most.
 pub fn split_text<S: NodeRead>(
     alloc: Global,
     at: &Label,
@@ -38,6 +38,7 @@ pub fn split_text<S: NodeRead>(
     ensures rise { IsChangeList out.new }
     ensures err { OnErr result (out.new ≡ out.old) }
     ensures unchanged { S.unchanged seq.old seq.new }
+    ensures reads { S.reads seq.new ≤ S.reads seq.old + 2 }
     ensures cause { HasCause SeqError.DiskFault (S.count seq.old) (S.count seq.new) result }
 {
     let Some(found) = node_at(alloc, at, seq)? else {
@@ -73,6 +74,7 @@ fn label_behind<S: NodeRead>(
     ensures level { IfOk result (λ new. IfSome new (λ n. IsLabel n × (level n ≡ level at.now))) }
     ensures behind { IfOk result (λ new. IfSome new (λ n. slice_cmp nat_cmp at.now n ≡ Less)) }
     ensures unchanged { S.unchanged seq.old seq.new }
+    ensures reads { S.reads seq.new ≤ S.reads seq.old + 1 }
     ensures cause { HasCause SeqError.DiskFault (S.count seq.old) (S.count seq.new) result }
 {
     let _divisions = at.divisions();

@@ -1,5 +1,5 @@
 //! What the changing calls share: the node that a call speaks of, and the change of one key.
-ghost use Rattle.std.specs.Prelude.{◌≡◌, ◌++◌, [], not, IfOk, IfSome, OnErr, OnOk, Some};
+ghost use Rattle.std.specs.Prelude.{◌≡◌, ◌++◌, [], not, IfOk, IfSome, OnErr, OnOk, Some, ◌≤◌, ◌+◌};
 ghost use Rattle.tree_changes.specs.KeyChanges.{change_at};
 ghost use Rattle.tree_model.specs.Changes.{same_record};
 ghost use Rattle.tree_model.specs.Entries.{Entries, get};
@@ -28,6 +28,7 @@ pub fn node_at<S: NodeRead>(
     ensures found { OnTree (S.contents seq.old) result (λ t r. r ≡ record_of (found_at at.now t.documents)) }
     ensures key { IfOk result (λ found. IfSome found (λ _. IsValidKey (node_key at.now))) }
     ensures unchanged { S.unchanged seq.old seq.new }
+    ensures reads { S.reads seq.new ≤ S.reads seq.old + 1 }
     ensures cause { HasCause SeqError.DiskFault (S.count seq.old) (S.count seq.new) result }
 {
     let _divisions = at.divisions();
@@ -60,6 +61,7 @@ pub fn change_key<S: NodeRead>(
     ensures rise { IsChangeList out.new }
     ensures err { OnErr result (out.new ≡ out.old) }
     ensures unchanged { S.unchanged seq.old seq.new }
+    ensures reads { S.reads seq.new ≤ S.reads seq.old + 1 }
     ensures cause { HasCause SeqError.DiskFault (S.count seq.old) (S.count seq.new) result }
 {
     let before = seq.get(alloc, &key)?;

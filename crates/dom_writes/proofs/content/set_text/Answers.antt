@@ -10,6 +10,7 @@ use Rattle.dom_reads.proofs.ReplyLaws.{later}
 use Rattle.dom_writes.proofs.OnTrees.{on_any, on_later}
 use Rattle.dom_writes.proofs.TextsSet.{document_changes, element_changes, element_reply, level_found, missing_changes, no_attribute_found, text_changes_found, text_reply}
 use Rattle.dom_writes.specs.inside.TextsSet.{reply_of, text_changes, text_refused}
+use Rattle.dom_writes.proofs.ReadLaws.{set_text_all, set_text_one}
 use Rattle.dom_writes.proofs.content.set_text.Goals as goal
 
 pub returns-in-None-clause-changes : goal.returns-in-None-clause-changes
@@ -68,3 +69,34 @@ returns-clause-reply g c t stands =
 pub returns-clause-changes : goal.returns-clause-changes
 returns-clause-changes g c t stands =
     absurd (no_attribute_found c.args.at.now c.in-Some-Attr.field-0-0 t stands.valid (ap Some (sym c.in-Some-Attr.field-0-is) ∙ sym c.in-Some-Attr.is ∙ c.in_ok-record_at.ensures.found t stands))
+
+pub returns-in_err-record_at-clause-reads : goal.returns-in_err-record_at-clause-reads
+returns-in_err-record_at-clause-reads g c t stands =
+    set_text_one _ t _ c.args.at.now c.in_err-record_at.ensures.reads
+
+pub returns-in-None-clause-reads : goal.returns-in-None-clause-reads
+returns-in-None-clause-reads g c t stands =
+    set_text_one _ t _ c.args.at.now c.in_ok-record_at.ensures.reads
+
+pub returns-in-Some-Document-clause-reads : goal.returns-in-Some-Document-clause-reads
+returns-in-Some-Document-clause-reads g c t stands =
+    set_text_one _ t _ c.args.at.now c.in_ok-record_at.ensures.reads
+
+pub returns-in_err-set_data_of_text-in-Some-Text-clause-reads : goal.returns-in_err-set_data_of_text-in-Some-Text-clause-reads
+returns-in_err-set_data_of_text-in-Some-Text-clause-reads g c t stands =
+    set_text_one _ t _ c.args.at.now c.in_ok-record_at.ensures.reads
+
+pub returns-in-Some-Text-clause-reads : goal.returns-in-Some-Text-clause-reads
+returns-in-Some-Text-clause-reads g c t stands =
+    set_text_one _ t _ c.args.at.now c.in_ok-record_at.ensures.reads
+
+pub returns-in-Some-Element-clause-reads : goal.returns-in-Some-Element-clause-reads
+returns-in-Some-Element-clause-reads g c t stands =
+    let l = c.args.at.now in
+    let n = c.in-Some-Element.field-0-0 in
+    let found : Some (Element n) ≡ record_of (at l t.documents) = ap Some (sym c.in-Some-Element.field-0-is) ∙ sym c.in-Some-Element.is ∙ c.in_ok-record_at.ensures.found t stands in
+    set_text_all _ t _ _ l n found c.in_ok-record_at.ensures.reads (c.set_text_of_element.ensures.reads t (later _ _ t (g.met.S.NodeRead.unchanged_contents _ _ c.in_ok-record_at.ensures.unchanged) stands))
+
+pub returns-clause-reads : goal.returns-clause-reads
+returns-clause-reads g c t stands =
+    set_text_one _ t _ c.args.at.now c.in_ok-record_at.ensures.reads

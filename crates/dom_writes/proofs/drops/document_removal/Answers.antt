@@ -12,6 +12,7 @@ use Rattle.dom_reads.proofs.ReplyLaws.{later}
 use Rattle.dom_reads.specs.SubtreeWalks.{subtree_of}
 use Rattle.dom_writes.specs.inside.Above.{is_head_above}
 use Rattle.dom_writes.proofs.RemovalLaws.{document_above, drop_missing, dropped, drops_behind}
+use Rattle.dom_writes.proofs.ReadLaws.{drop_all, drop_one}
 use Rattle.dom_writes.proofs.drops.document_removal.Goals as goal
 
 pub returns-in_default-clause-outcome : goal.returns-in_default-clause-outcome
@@ -51,3 +52,53 @@ returns-clause-rise g c =
     let drops : c.push_drops.new.changes ≡ one ∷ map drop_change es = c.in_ok-push_drops.ensures ∙ (λ i. first i ++ map drop_change (c.as_slice-2.ensures i)) in
     subst IsChangeList (sym drops)
     (drops_behind k es c.in_ok-entries.ensures.rise (ap (is_head_above k) (sym c.as_slice.ensures) ∙ sym c.is_head_above.ensures ∙ c.if-not-is_head_above.false))
+
+pub returns-in_err-at-clause-reads : goal.returns-in_err-at-clause-reads
+returns-in_err-at-clause-reads g c t stands =
+    drop_one _ t _ (beside c.args.name.now t.catalogue) c.in_err-at.ensures.reads
+
+pub returns-in_default-clause-reads : goal.returns-in_default-clause-reads
+returns-in_default-clause-reads g c t stands =
+    drop_one _ t _ (beside c.args.name.now t.catalogue) c.in_ok-at.ensures.reads
+
+pub returns-in_err-entries-clause-reads : goal.returns-in_err-entries-clause-reads
+returns-in_err-entries-clause-reads g c t stands =
+    let l : Label = c.in-Some.at in
+    let e : Some l ≡ beside c.args.name.now t.catalogue = sym c.in-Some.is ∙ c.in_ok-at.ensures.found t stands in
+    drop_all _ t _ _ l _ e c.in_ok-at.ensures.reads (c.in_err-entries.ensures.reads_of_tree t (later _ _ t (g.met.S.NodeRead.unchanged_contents _ _ c.in_ok-at.ensures.unchanged) stands))
+
+pub returns-in_err-root-clause-reads : goal.returns-in_err-root-clause-reads
+returns-in_err-root-clause-reads g c t stands =
+    let l : Label = c.in-Some.at in
+    let e : Some l ≡ beside c.args.name.now t.catalogue = sym c.in-Some.is ∙ c.in_ok-at.ensures.found t stands in
+    drop_all _ t _ _ l _ e c.in_ok-at.ensures.reads (c.in_ok-entries.ensures.reads_of_tree t (later _ _ t (g.met.S.NodeRead.unchanged_contents _ _ c.in_ok-at.ensures.unchanged) stands))
+
+pub returns-in_err-key-clause-reads : goal.returns-in_err-key-clause-reads
+returns-in_err-key-clause-reads g c t stands =
+    let l : Label = c.in-Some.at in
+    let e : Some l ≡ beside c.args.name.now t.catalogue = sym c.in-Some.is ∙ c.in_ok-at.ensures.found t stands in
+    drop_all _ t _ _ l _ e c.in_ok-at.ensures.reads (c.in_ok-entries.ensures.reads_of_tree t (later _ _ t (g.met.S.NodeRead.unchanged_contents _ _ c.in_ok-at.ensures.unchanged) stands))
+
+pub returns-then-not-is_head_above-clause-reads : goal.returns-then-not-is_head_above-clause-reads
+returns-then-not-is_head_above-clause-reads g c t stands =
+    let l : Label = c.in-Some.at in
+    let e : Some l ≡ beside c.args.name.now t.catalogue = sym c.in-Some.is ∙ c.in_ok-at.ensures.found t stands in
+    drop_all _ t _ _ l _ e c.in_ok-at.ensures.reads (c.in_ok-entries.ensures.reads_of_tree t (later _ _ t (g.met.S.NodeRead.unchanged_contents _ _ c.in_ok-at.ensures.unchanged) stands))
+
+pub returns-in_err-push_drop-clause-reads : goal.returns-in_err-push_drop-clause-reads
+returns-in_err-push_drop-clause-reads g c t stands =
+    let l : Label = c.in-Some.at in
+    let e : Some l ≡ beside c.args.name.now t.catalogue = sym c.in-Some.is ∙ c.in_ok-at.ensures.found t stands in
+    drop_all _ t _ _ l _ e c.in_ok-at.ensures.reads (c.in_ok-entries.ensures.reads_of_tree t (later _ _ t (g.met.S.NodeRead.unchanged_contents _ _ c.in_ok-at.ensures.unchanged) stands))
+
+pub returns-in_err-push_drops-clause-reads : goal.returns-in_err-push_drops-clause-reads
+returns-in_err-push_drops-clause-reads g c t stands =
+    let l : Label = c.in-Some.at in
+    let e : Some l ≡ beside c.args.name.now t.catalogue = sym c.in-Some.is ∙ c.in_ok-at.ensures.found t stands in
+    drop_all _ t _ _ l _ e c.in_ok-at.ensures.reads (c.in_ok-entries.ensures.reads_of_tree t (later _ _ t (g.met.S.NodeRead.unchanged_contents _ _ c.in_ok-at.ensures.unchanged) stands))
+
+pub returns-clause-reads : goal.returns-clause-reads
+returns-clause-reads g c t stands =
+    let l : Label = c.in-Some.at in
+    let e : Some l ≡ beside c.args.name.now t.catalogue = sym c.in-Some.is ∙ c.in_ok-at.ensures.found t stands in
+    drop_all _ t _ _ l _ e c.in_ok-at.ensures.reads (c.in_ok-entries.ensures.reads_of_tree t (later _ _ t (g.met.S.NodeRead.unchanged_contents _ _ c.in_ok-at.ensures.unchanged) stands))

@@ -12,6 +12,7 @@ use Rattle.dom_reads.proofs.ReplyLaws.{later}
 use Rattle.dom_reads.proofs.SubtreeEntries.{missing}
 use Rattle.dom_writes.specs.inside.NormalTexts.{IsValidText, is_text, joined}
 use Rattle.dom_writes.proofs.NormalReplies.{fit_is, missing_reply, other_changes, other_reply, refused_changes, text_changes}
+use Rattle.dom_writes.proofs.ReadLaws.{normalize_all, normalize_one}
 use Rattle.dom_writes.proofs.normalization.normalize.Goals as goal
 
 pub returns-in_default-clause-changes : goal.returns-in_default-clause-changes
@@ -79,3 +80,35 @@ returns-clause-changes g c t stands =
     let is : fit ≡ texts_fit (normal (below (at l t.documents))) =
     fit_is l t stands.valid fit (subst (λ (v : Entries). IsTrue fit ↔ AllByRecursion IsValidText (joined v)) below_is c.in_ok-join_texts.ensures.fit) in
     c.in_ok-join_texts.ensures.changes ∙ ap (λ (v : Entries). if fit then differences v (joined v) else []) below_is ∙ other_changes l t stands.valid r fit found other is
+
+pub returns-in_err-found-clause-reads : goal.returns-in_err-found-clause-reads
+returns-in_err-found-clause-reads g c t stands =
+    normalize_one _ t _ c.args.at.now c.in_err-found.ensures.reads
+
+pub returns-in_default-clause-reads : goal.returns-in_default-clause-reads
+returns-in_default-clause-reads g c t stands =
+    normalize_one _ t _ c.args.at.now c.in_ok-found.ensures.reads
+
+pub returns-then-is_text-clause-reads : goal.returns-then-is_text-clause-reads
+returns-then-is_text-clause-reads g c t stands =
+    normalize_one _ t _ c.args.at.now c.in_ok-found.ensures.reads
+
+pub returns-in_err-entries-clause-reads : goal.returns-in_err-entries-clause-reads
+returns-in_err-entries-clause-reads g c t stands =
+    normalize_all _ t _ _ c.args.at.now c.in-Some.found (sym c.in-Some.is ∙ c.in_ok-found.ensures.found t stands) (sym c.is_text.ensures ∙ c.if-is_text.false)
+    c.in_ok-found.ensures.reads (c.in_err-entries.ensures.reads t (later _ _ t (g.met.S.NodeRead.unchanged_contents _ _ c.in_ok-found.ensures.unchanged) stands))
+
+pub returns-in_err-join_texts-clause-reads : goal.returns-in_err-join_texts-clause-reads
+returns-in_err-join_texts-clause-reads g c t stands =
+    normalize_all _ t _ _ c.args.at.now c.in-Some.found (sym c.in-Some.is ∙ c.in_ok-found.ensures.found t stands) (sym c.is_text.ensures ∙ c.if-is_text.false)
+    c.in_ok-found.ensures.reads (c.in_ok-entries.ensures.reads t (later _ _ t (g.met.S.NodeRead.unchanged_contents _ _ c.in_ok-found.ensures.unchanged) stands))
+
+pub returns-then-branch-clause-reads : goal.returns-then-branch-clause-reads
+returns-then-branch-clause-reads g c t stands =
+    normalize_all _ t _ _ c.args.at.now c.in-Some.found (sym c.in-Some.is ∙ c.in_ok-found.ensures.found t stands) (sym c.is_text.ensures ∙ c.if-is_text.false)
+    c.in_ok-found.ensures.reads (c.in_ok-entries.ensures.reads t (later _ _ t (g.met.S.NodeRead.unchanged_contents _ _ c.in_ok-found.ensures.unchanged) stands))
+
+pub returns-clause-reads : goal.returns-clause-reads
+returns-clause-reads g c t stands =
+    normalize_all _ t _ _ c.args.at.now c.in-Some.found (sym c.in-Some.is ∙ c.in_ok-found.ensures.found t stands) (sym c.is_text.ensures ∙ c.if-is_text.false)
+    c.in_ok-found.ensures.reads (c.in_ok-entries.ensures.reads t (later _ _ t (g.met.S.NodeRead.unchanged_contents _ _ c.in_ok-found.ensures.unchanged) stands))

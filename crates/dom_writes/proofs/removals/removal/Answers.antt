@@ -8,6 +8,7 @@ use Rattle.node_seq.specs.ChangeLists.{IsChangeList}
 use Rattle.dom_reads.proofs.ReplyLaws.{later}
 use Rattle.dom_writes.proofs.MergeLaws.{drops_change_list}
 use Rattle.dom_writes.proofs.RemovalLaws.{remove_no_child, remove_no_parent, removed}
+use Rattle.dom_writes.proofs.ReadLaws.{removal_all}
 use Rattle.dom_writes.proofs.removals.removal.Goals as goal
 
 pub returns-in_default-clause-outcome : goal.returns-in_default-clause-outcome
@@ -39,3 +40,23 @@ returns-clause-rise g c =
     let es : Entries = c.in_ok-entries.entries in
     let drops : c.push_drops.new.changes ≡ map drop_change es = c.in_ok-push_drops.ensures ∙ (λ i. c.new-changes.ensures i ++ map drop_change (c.as_slice.ensures i)) in
     subst IsChangeList (sym drops) (drops_change_list es c.in_ok-entries.ensures.rise)
+
+pub returns-in_err-entries-clause-reads : goal.returns-in_err-entries-clause-reads
+returns-in_err-entries-clause-reads g c t stands =
+    removal_all _ t _ _ c.args.child.now c.in_ok-_parent.ensures.reads (c.in_err-entries.ensures.reads_of_tree t (later _ _ t (g.met.S.NodeRead.unchanged_contents _ _ c.in_ok-_parent.ensures.unchanged) stands))
+
+pub returns-then-is_empty-clause-reads : goal.returns-then-is_empty-clause-reads
+returns-then-is_empty-clause-reads g c t stands =
+    removal_all _ t _ _ c.args.child.now c.in_ok-_parent.ensures.reads (c.in_ok-entries.ensures.reads_of_tree t (later _ _ t (g.met.S.NodeRead.unchanged_contents _ _ c.in_ok-_parent.ensures.unchanged) stands))
+
+pub returns-in_err-push_drops-clause-reads : goal.returns-in_err-push_drops-clause-reads
+returns-in_err-push_drops-clause-reads g c t stands =
+    removal_all _ t _ _ c.args.child.now c.in_ok-_parent.ensures.reads (c.in_ok-entries.ensures.reads_of_tree t (later _ _ t (g.met.S.NodeRead.unchanged_contents _ _ c.in_ok-_parent.ensures.unchanged) stands))
+
+pub returns-in_err-gone-clause-reads : goal.returns-in_err-gone-clause-reads
+returns-in_err-gone-clause-reads g c t stands =
+    removal_all _ t _ _ c.args.child.now c.in_ok-_parent.ensures.reads (c.in_ok-entries.ensures.reads_of_tree t (later _ _ t (g.met.S.NodeRead.unchanged_contents _ _ c.in_ok-_parent.ensures.unchanged) stands))
+
+pub returns-clause-reads : goal.returns-clause-reads
+returns-clause-reads g c t stands =
+    removal_all _ t _ _ c.args.child.now c.in_ok-_parent.ensures.reads (c.in_ok-entries.ensures.reads_of_tree t (later _ _ t (g.met.S.NodeRead.unchanged_contents _ _ c.in_ok-_parent.ensures.unchanged) stands))

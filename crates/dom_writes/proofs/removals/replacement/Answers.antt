@@ -12,6 +12,7 @@ use Rattle.dom_reads.proofs.ReplyLaws.{later}
 use Rattle.dom_writes.specs.inside.NewPlaces.{Suits, SuitsOrRefused}
 use Rattle.dom_writes.specs.inside.Outcomes.{placed_instead}
 use Rattle.dom_writes.proofs.ReplacementLaws.{graft_fits, nothing_is_some, old_is, refused_instead, replaced}
+use Rattle.dom_writes.proofs.ReadLaws.{replace_all, replace_four}
 use Rattle.dom_writes.proofs.removals.replacement.Goals as goal
 
 pub graft_entries-requires : goal.graft_entries-requires
@@ -56,3 +57,59 @@ returns-in-Err-clause-outcome g c t stands =
     let f : Fragments = plain c.args.fragment.now in
     ap (λ (cs : List Change). (c.in-Err.refusal, cs)) c.new-in-Err.ensures
     ∙ refused_instead p k f t c.in-Err.refusal stands.valid (ap (placed_instead k f t) (sym c.in-Err.is) ∙ c.in_ok-place.ensures.place t stands)
+
+pub returns-in_err-place-clause-reads : goal.returns-in_err-place-clause-reads
+returns-in_err-place-clause-reads g c t stands =
+    replace_four _ t _ c.args.at.now c.args.old.now (plain c.args.fragment.now) c.in_err-place.ensures.reads
+
+pub returns-in_err-entries-in-Ok-clause-reads : goal.returns-in_err-entries-in-Ok-clause-reads
+returns-in_err-entries-in-Ok-clause-reads g c t stands =
+    let p : Label = c.args.at.now in
+    let k : Label = c.args.old.now in
+    let f : Fragments = plain c.args.fragment.now in
+    let e : placed_instead k f t (Ok c.in-Ok.new) ≡ replace p k f t = ap (placed_instead k f t) (sym c.in-Ok.is) ∙ c.in_ok-place.ensures.place t stands in
+    replace_all _ t _ _ p k f c.in-Ok.new e c.in_ok-place.ensures.reads (c.in_err-entries-in-Ok.ensures.reads_of_tree t (later _ _ t (g.met.S.NodeRead.unchanged_contents _ _ c.in_ok-place.ensures.unchanged) stands))
+
+pub returns-in_err-new_entries-in-Ok-clause-reads : goal.returns-in_err-new_entries-in-Ok-clause-reads
+returns-in_err-new_entries-in-Ok-clause-reads g c t stands =
+    let p : Label = c.args.at.now in
+    let k : Label = c.args.old.now in
+    let f : Fragments = plain c.args.fragment.now in
+    let e : placed_instead k f t (Ok c.in-Ok.new) ≡ replace p k f t = ap (placed_instead k f t) (sym c.in-Ok.is) ∙ c.in_ok-place.ensures.place t stands in
+    replace_all _ t _ _ p k f c.in-Ok.new e c.in_ok-place.ensures.reads (c.in_ok-entries-in-Ok.ensures.reads_of_tree t (later _ _ t (g.met.S.NodeRead.unchanged_contents _ _ c.in_ok-place.ensures.unchanged) stands))
+
+pub returns-in_err-differences_between-in-Ok-clause-reads : goal.returns-in_err-differences_between-in-Ok-clause-reads
+returns-in_err-differences_between-in-Ok-clause-reads g c t stands =
+    let p : Label = c.args.at.now in
+    let k : Label = c.args.old.now in
+    let f : Fragments = plain c.args.fragment.now in
+    let e : placed_instead k f t (Ok c.in-Ok.new) ≡ replace p k f t = ap (placed_instead k f t) (sym c.in-Ok.is) ∙ c.in_ok-place.ensures.place t stands in
+    replace_all _ t _ _ p k f c.in-Ok.new e c.in_ok-place.ensures.reads (c.in_ok-entries-in-Ok.ensures.reads_of_tree t (later _ _ t (g.met.S.NodeRead.unchanged_contents _ _ c.in_ok-place.ensures.unchanged) stands))
+
+pub returns-in_err-gone-in-Ok-clause-reads : goal.returns-in_err-gone-in-Ok-clause-reads
+returns-in_err-gone-in-Ok-clause-reads g c t stands =
+    let p : Label = c.args.at.now in
+    let k : Label = c.args.old.now in
+    let f : Fragments = plain c.args.fragment.now in
+    let e : placed_instead k f t (Ok c.in-Ok.new) ≡ replace p k f t = ap (placed_instead k f t) (sym c.in-Ok.is) ∙ c.in_ok-place.ensures.place t stands in
+    replace_all _ t _ _ p k f c.in-Ok.new e c.in_ok-place.ensures.reads (c.in_ok-entries-in-Ok.ensures.reads_of_tree t (later _ _ t (g.met.S.NodeRead.unchanged_contents _ _ c.in_ok-place.ensures.unchanged) stands))
+
+pub returns-in_default-clause-reads : goal.returns-in_default-clause-reads
+returns-in_default-clause-reads g c t stands =
+    let p : Label = c.args.at.now in
+    let k : Label = c.args.old.now in
+    let f : Fragments = plain c.args.fragment.now in
+    let e : placed_instead k f t (Ok c.in-Ok.new) ≡ replace p k f t = ap (placed_instead k f t) (sym c.in-Ok.is) ∙ c.in_ok-place.ensures.place t stands in
+    replace_all _ t _ _ p k f c.in-Ok.new e c.in_ok-place.ensures.reads (c.in_ok-entries-in-Ok.ensures.reads_of_tree t (later _ _ t (g.met.S.NodeRead.unchanged_contents _ _ c.in_ok-place.ensures.unchanged) stands))
+
+pub returns-in-Some-clause-reads : goal.returns-in-Some-clause-reads
+returns-in-Some-clause-reads g c t stands =
+    let p : Label = c.args.at.now in
+    let k : Label = c.args.old.now in
+    let f : Fragments = plain c.args.fragment.now in
+    let e : placed_instead k f t (Ok c.in-Ok.new) ≡ replace p k f t = ap (placed_instead k f t) (sym c.in-Ok.is) ∙ c.in_ok-place.ensures.place t stands in
+    replace_all _ t _ _ p k f c.in-Ok.new e c.in_ok-place.ensures.reads (c.in_ok-entries-in-Ok.ensures.reads_of_tree t (later _ _ t (g.met.S.NodeRead.unchanged_contents _ _ c.in_ok-place.ensures.unchanged) stands))
+
+pub returns-in-Err-clause-reads : goal.returns-in-Err-clause-reads
+returns-in-Err-clause-reads g c t stands =
+    replace_four _ t _ c.args.at.now c.args.old.now (plain c.args.fragment.now) c.in_ok-place.ensures.reads
