@@ -1,0 +1,4 @@
+pub mod FillLaws
+pub mod RuleLaws
+pub mod ReadLaws
+pub mod ItemLaws
