@@ -3,6 +3,7 @@ use Rattle.std.proofs.Common.{◌≡◌, ℕ, ◌+◌, Bool, true, false, cond, 
 use Rattle.std.specs.List.{AllByRecursion, filter, list_any}
 use Rattle.std.specs.Str.{chars}
 use Rattle.tree_model.specs.Tree.{Tree}
+use Rattle.tree_model.specs.ValidTrees.{IsValidTree}
 use Rattle.path_model.specs.declared.path.Axis.{Axis}
 use Rattle.path_model.specs.declared.path.NodeTest.{NodeTest}
 use Rattle.path_model.specs.declared.path.CompareOp.{CompareOp}
@@ -25,6 +26,7 @@ use Rattle.path_model.specs.Meaning.{union, own_document, begun, holding, value_
 use Rattle.path_model.specs.Programs.{at_node, Program, ends, looks, answer, and_then, gathered}
 use Rattle.path_model.specs.Evaluation.{in_order, string_value, string_values, first_value, with_strings, with_first, compared, in_number, in_numbers, in_text, in_texts, texts_of, numbers_of, by_strings, part, applied, kept_by, start, value, settled, operands, filtered, taken, find_from}
 use Rattle.path_model.proofs.ProgramAnswers.{answer-and_then, answer-gathered, flat, flat_on}
+use Rattle.path_model.proofs.OrderLaws.{union_is}
 use Rattle.path_model.proofs.Members.{Among, AllAmong, all_filtered, all_joined, all_reversed, filtered_among}
 
 -- ---- what looks show of a tree
@@ -35,12 +37,11 @@ At t n = Among n (positions t)
 abbrev pub AllAt : Tree → List Position → Type 0
 AllAt t ns = AllByRecursion (At t) ns
 
--- the looks of the axes, of string-values and of the document show what these mean, and lists of positions are put in the tree's order
+-- the looks of the axes, of string-values and of the document show what these mean
 pub record LooksTrue (t : Tree) : Type 0 where
   pub axes : (a : Axis) (test : NodeTest) (n : Position) → At t n → filter (passes a test) (answer t (along a test n)) ≡ on_axis t a test n
   pub documents : (n : Position) → At t n → answer t (looks (at_node (document_of (label_of n))) ends) ≡ own_document t n
   pub strings : (n : Position) → At t n → answer t (string_value n) ≡ meaning.string_value t n
-  pub order : (leads : Position → List Position) (ns : List Position) → AllAt t (flat leads ns) → in_order (flat leads ns) ≡ union t leads ns
 
 -- ---- what stays among the positions of the tree
 
@@ -134,7 +135,7 @@ module _ (t : Tree) where
 
 -- ---- string-values
 
-module _ (t : Tree) (w : LooksTrue t) where
+module _ (t : Tree) (valid : IsValidTree t) (w : LooksTrue t) where
   abbrev σ : Position → List ℕ
   σ = meaning.string_value t
 
@@ -372,7 +373,7 @@ module _ (t : Tree) (w : LooksTrue t) where
         answer-and_then t (along a test n) (λ ms. filtered es (filter (passes a test) ms))
         ∙ ap (λ ms. answer t (filtered es ms)) (w.axes a test n i)
         ∙ filtered_is es (on_axis t a test n) (axis_at t a test n)) ns h)
-        ∙ ap (λ ms. answer t (taken ss ms)) (w.order leads ns (flat_at t leads (λ n. kept_at t es (on_axis t a test n) (axis_at t a test n)) ns))
+        ∙ ap (λ ms. answer t (taken ss ms)) (union_is t valid leads ns (flat_at t leads (λ n. kept_at t es (on_axis t a test n) (axis_at t a test n)) ns))
         ∙ taken_is ss (union t leads ns) (union_at t leads ns)
 
   -- for all paths
