@@ -22,7 +22,7 @@ use Rattle.session_driver.specs.Progress.{Progress, noted, shown, line_of}
 use Rattle.session_driver.specs.Refusals.{refusal, refusal_of}
 use Rattle.session_driver.specs.declared.doing.Doing.{Doing}
 use Rattle.session_driver.specs.declared.doing.Doing.TheVariants as doing
-use Rattle.session_driver.specs.inside.Steps.{Leaves}
+use Rattle.session_driver.specs.inside.Steps.{Adds, Leaves}
 use Rattle.session_driver.proofs.Left.{entries_adds}
 
 -- a line of which the step alone tells that it isn't refused
