@@ -2,6 +2,7 @@
 //! Without words it is a short run, whose output is the same whatever thread comes first.
 #![tactic(auto)]
 
+mod roll;
 mod tally;
 #[cfg(test)]
 mod tests;

@@ -1,6 +1,7 @@
 //! Turns in threads: that none is lost, and that each wait ends.
 ghost use Rattle.std.specs.Prelude.{◌≡◌, false};
 
+use crate::roll::roll_of_three;
 use crate::tally::{Tally, cut, tally_lock, tick_when, ticks_after};
 use std::sync::Wait;
 use std::thread::{Threads, join};
@@ -44,4 +45,15 @@ fn two_threads_wait_for_each_other(rt: HostRuntime) {
         { tick_in_turn(&rt, shared, odd, true, 10_000) },
     );
     assert_eq!(rt; shared.take(&rt, &mut reader).value.ticks, 20_000);
+}
+
+#[test]
+fn joined_passes_find_what_each_wrote(rt: HostRuntime) {
+    match roll_of_three(&rt, rt.alloc()) {
+        Ok((numbers, before, after)) => {
+            assert_eq!(rt; numbers.as_slice(), [7u32, 64, 0, 7, 64].as_slice());
+            assert!(rt; !before && after);
+        }
+        Err(_) => panic!(rt; "no memory"),
+    }
 }
