@@ -21,7 +21,7 @@ use Rattle.tree_cells.specs.Cells.{node_cell, attr_cell, edge_cell, value_at}
 use Rattle.tree_cells.specs.Covers.{reads_from, reads_edge_from, Agree}
 use Rattle.tree_cells.specs.ModeParts.{reads_level, reads_subtree, is_exclusive}
 use Rattle.call_rows.specs.Rows.{first, children, at_node, d, e, child, store, one_child}
-use Rattle.call_rows.specs.Wrong.{asks_instead, Laws, without_edge, without_request, JoinIsNeeded}
+use Rattle.call_rows.specs.Wrong.{asks_instead, FirstLaw, without_edge, without_request, JoinIsNeeded}
 
 -- ---- a name
 
@@ -117,11 +117,11 @@ some_place h = cc
 some_places : {l : Label} {ls : List Label} → Places [] ≡ Places (l ∷ ls) → ⊥
 some_places h = cc
 
-pub first_needs_its_edge : Laws (asks_instead without_edge) → ⊥
-first_needs_its_edge laws = some_place (laws.same_reply (first e) (store a none) (store a (one_child a)) tt (empty_valid a a_is_name) (one_valid a a_is_name) (node_alone a))
+pub first_needs_its_edge : FirstLaw (asks_instead without_edge) (first e) → ⊥
+first_needs_its_edge law = some_place (law (store a none) (store a (one_child a)) (empty_valid a a_is_name) (one_valid a a_is_name) (node_alone a))
 
-pub empty_answer_needs_a_request : Laws (asks_instead without_request) → ⊥
-empty_answer_needs_a_request laws = some_places (laws.same_reply (children e) (store a none) (store a (one_child a)) tt (empty_valid a a_is_name) (one_valid a a_is_name) (λ x k. absurd (true≢false (sym k))))
+pub empty_answer_needs_a_request : FirstLaw (asks_instead without_request) (children e) → ⊥
+empty_answer_needs_a_request law = some_places (law (store a none) (store a (one_child a)) (empty_valid a a_is_name) (one_valid a a_is_name) (λ x k. absurd (true≢false (sym k))))
 
 -- ---- the join
 

@@ -1,6 +1,6 @@
 -- Books of two sessions on small stores, worked by hand: an append that waits for a reader of the edge, one that waits for a reader of the list,
 -- the deadlock of two appends, and a node that comes back.
-use Rattle.std.specs.Prelude.{ℕ, List, [], ◌∷◌, ◌++◌, Option, Some, None, codes}
+use Rattle.std.specs.Prelude.{◌≡◌, ℕ, List, [], ◌∷◌, ◌++◌, Option, Some, None, codes}
 use Rattle.dewey_labels.specs.Labels.{Label}
 use Rattle.dewey_labels.specs.NewLabels.{new_label}
 use Rattle.lock_modes.specs.declared.ask.Ask.{Ask}
@@ -15,6 +15,8 @@ use Rattle.lock_resources.specs.declared.resource.Resource.{Resource}
 use Rattle.lock_resources.specs.declared.resource.Resource.TheVariants.{Node, Edge}
 use Rattle.lock_resources.specs.declared.request.Request.{Request}
 use Rattle.lock_resources.specs.Intentions.{with_intentions}
+use Rattle.tree_model.specs.declared.dom_call.DomCall.{DomCall}
+use Rattle.tree_model.specs.declared.dom_call.DomCall.TheVariants as call
 use Rattle.tree_model.specs.declared.fragment.Fragment.TheVariants as fragment
 use Rattle.tree_model.specs.declared.record.Record.TheVariants as record_of
 use Rattle.tree_model.specs.declared.reply.Reply.{Reply}
@@ -26,6 +28,7 @@ use Rattle.tree_model.specs.Outcomes.{Outcome}
 use Rattle.tree_model.specs.Navigation as reads
 use Rattle.tree_model.specs.Placing as writes
 use Rattle.tree_model.specs.Tree.{Forest, none, node, Tree, at, first_of, last_child_of, next_of, prev_of}
+use Rattle.lock_plans.specs.DomPlans.{requests}
 use Rattle.call_contract.specs.declared.events.Event.TheVariants.{Begin, Call, Retry, Commit, Abort}
 use Rattle.call_contract.specs.declared.events.Answer.TheVariants as answer
 use Rattle.call_contract.specs.declared.events.EventAnswer.{EventAnswer}
@@ -94,6 +97,18 @@ done (first l) t = (reads.first l t, t)
 done (children l) t = (reads.children l t, t)
 done (append p n) t = writes.append p (named n) t
 done (remove p old) t = writes.remove p old t
+
+-- the program's call that a row stands for
+abbrev pub as_call : Row → DomCall
+as_call (node_of l) = call.Node l
+as_call (first l) = call.First l
+as_call (children l) = call.Children l
+as_call (append p n) = call.Append p (fragment.Element n [] [])
+as_call (remove p old) = call.Remove p old
+
+-- on a tree a row asks what that call asks
+abbrev pub AsksAlike : Row → Tree → Type 0
+AsksAlike c t = asked c t ≡ requests (as_call c) t
 
 abbrev pub row_meaning : CallMeaning Row
 row_meaning = record { requests = asked; reply = λ c t. (done c t).0; after = λ c t. (done c t).1 }

@@ -9,13 +9,14 @@ use Rattle.lock_resources.specs.declared.request.Request.{Request}
 use Rattle.tree_model.specs.declared.reply.Reply.TheVariants.{Place, Places}
 use Rattle.tree_model.specs.Tree.{Tree}
 use Rattle.tree_cells.specs.Cells.{Cell}
-use Rattle.tree_cells.specs.Covers.{reads, writes}
+use Rattle.tree_model.specs.ValidTrees.{IsValidTree}
+use Rattle.tree_cells.specs.Covers.{Agree, reads, writes}
 use Rattle.tree_cells.specs.Clashes.{bar_each_other}
 use Rattle.call_contract.specs.declared.events.Event.TheVariants.{Call, Fail, Commit}
 use Rattle.call_contract.specs.declared.events.EventAnswer.TheVariants as said
-use Rattle.call_contract.specs.Calls.{CallMeaning, CallLaws}
+use Rattle.call_contract.specs.Calls.{CallMeaning}
 use Rattle.call_contract.specs.Books.{Book, entry}
-use Rattle.call_rows.specs.Rows.{Row, first, children, append, done, at_node, at_edge, child, e, answered, waits, deadlock, both_begin}
+use Rattle.call_rows.specs.Rows.{Row, first, children, append, asked, done, at_node, at_edge, child, e, answered, waits, deadlock, both_begin}
 
 -- ---- calls
 
@@ -23,17 +24,19 @@ use Rattle.call_rows.specs.Rows.{Row, first, children, append, done, at_node, at
 abbrev pub asks_instead : (Row → Tree → List Request) → CallMeaning Row
 asks_instead requests = record { requests = requests; reply = λ c t. (done c t).0; after = λ c t. (done c t).1 }
 
--- the laws, where every call is valid
-abbrev pub Laws : CallMeaning Row → Type 0
-Laws m = CallLaws Row (λ c. Unit {0}) m
+-- the first law of one call: trees that agree on what it asks for reading give the same reply
+abbrev pub FirstLaw : CallMeaning Row → Row → Type 0
+FirstLaw m c = (t u : Tree) → IsValidTree t → IsValidTree u → Agree (m.requests c t) t u → m.reply c t ≡ m.reply c u
 
--- `first` asks for the node alone, and not for its edge
+-- `first` asks for the node alone, and not for its edge; all others as they do
 abbrev pub without_edge : Row → Tree → List Request
-without_edge c t = at_node e NR
+without_edge (first l) t = at_node l NR
+without_edge c t = asked c t
 
--- an empty list of children is answered without a request
+-- `children` answers without a request; all others as they do
 abbrev pub without_request : Row → Tree → List Request
-without_request c t = []
+without_request (children l) t = []
+without_request c t = asked c t
 
 -- ---- a join
 

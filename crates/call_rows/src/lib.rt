@@ -1,5 +1,6 @@
 //! Worked rows of `call_contract`: small calls that keep its laws, books of two sessions that are legal, and calls, joins and books that are wrong.
-//! Each book is legal or not by computation, entry by entry (`worked_books_are_legal`, `wrong_books_are_not_legal`); a call that misses a request breaks the first law (`missing_requests_break_the_first_law`).
+//! Each book is legal or not by computation, entry by entry (`worked_books_are_legal`, `wrong_books_are_not_legal`); a call that misses a request breaks the first law, which it keeps with its requests (`missing_requests_break_the_first_law`).
+//! What the books' calls ask is written here once more, by hand; of all but `append` it is shown to be what `lock_plans` has them ask (`rows_ask_what_calls_ask`).
 //! All of it is definitions and rows; the toys as types stand in `toy_calls`.
 #![tactic(auto)]
 
@@ -10,7 +11,9 @@ ghost use Rattle.tree_cells.specs.Cells.{edge_cell};
 ghost use Rattle.call_contract.specs.Calls.{CallLaws};
 ghost use Rattle.call_contract.specs.Books.{IsSerial};
 ghost use Rattle.call_rows.specs.Toys.{look, clear, never};
-ghost use Rattle.call_rows.specs.Rows.{row_meaning, e, IsBookOf, empty_store, store_of_one, store_of_two, edge_book, list_book, deadlock_book, comes_back_book};
+ghost use Rattle.call_rows.specs.Rows.{IsBookOf, edge_book, list_book, deadlock_book, comes_back_book};
+ghost use Rattle.call_rows.specs.Rows.{AsksAlike, row_meaning, node_of, first, children, remove, e, child, missing};
+ghost use Rattle.call_rows.specs.Rows.{empty_store, store_of_one, store_of_two};
 ghost use Rattle.call_rows.specs.Wrong as wrong;
 
 /// The toys keep the form of requests and the four laws.
@@ -52,10 +55,22 @@ pub fn wrong_books_are_not_legal()
     ensures fault_told_twice { IsBookOf empty_store wrong.fault_told_twice → ⊥ }
 {}
 
-/// A call that sees an edge or an empty list without asking for it breaks the first law; and where LR joined with CX were kept as CX, a reader and a writer of one edge wouldn't clash.
-#[tactic(auto, using(crate::proofs::WrongCalls::first_needs_its_edge, crate::proofs::WrongCalls::empty_answer_needs_a_request, crate::proofs::WrongCalls::join_is_needed))]
+/// Each call of the worked books but `append` asks, on the tree that its session sees, what `lock_plans` has it ask.
+#[tactic(auto, using(crate::proofs::SameRequests::edge_first, crate::proofs::SameRequests::list_children, crate::proofs::SameRequests::back_node, crate::proofs::SameRequests::back_remove))]
+pub fn rows_ask_what_calls_ask()
+    ensures edge_first { AsksAlike (first e) empty_store }
+    ensures list_children { AsksAlike (children e) store_of_one }
+    ensures back_node { AsksAlike (node_of missing) store_of_two }
+    ensures back_remove { AsksAlike (remove e (child 1001)) store_of_two }
+{}
+
+/// A call that sees an edge or an empty list without asking for it breaks the first law, and keeps it with its requests;
+/// and where LR joined with CX were kept as CX, a reader and a writer of one edge wouldn't clash.
+#[tactic(auto, using(crate::proofs::WrongCalls::first_needs_its_edge, crate::proofs::RightCalls::first_keeps, crate::proofs::WrongCalls::empty_answer_needs_a_request, crate::proofs::RightCalls::children_keeps, crate::proofs::WrongCalls::join_is_needed))]
 pub fn missing_requests_break_the_first_law()
-    ensures edge { wrong.Laws (wrong.asks_instead wrong.without_edge) → ⊥ }
-    ensures empty_answer { wrong.Laws (wrong.asks_instead wrong.without_request) → ⊥ }
+    ensures edge { wrong.FirstLaw (wrong.asks_instead wrong.without_edge) (first e) → ⊥ }
+    ensures edge_kept { wrong.FirstLaw row_meaning (first e) }
+    ensures empty_answer { wrong.FirstLaw (wrong.asks_instead wrong.without_request) (children e) → ⊥ }
+    ensures empty_answer_kept { wrong.FirstLaw row_meaning (children e) }
     ensures join { wrong.JoinIsNeeded (edge_cell e Last) }
 {}

@@ -1,10 +1,10 @@
 //! Does the calls of a script's lines on a map in memory, one after another, and prints what each is answered, with the changes and the requests of its call.
-//! Each call is made again with a fault at each of its reads, and its reads are counted: a line is printed where one of the two isn't as it must be.
+//! Each call is made again with a fault at each of its reads, and the reads of its plan are counted: a line is printed where one of the two isn't as it must be.
 //! The stored run's replies, changes and requests are those of a plain model of the calls, `tools/replay`.
 #![tactic(auto)]
 
 mod counted_seq;
-mod most_reads;
+mod plan_reads;
 mod trial;
 
 use crate::counted_seq::CountedSeq;

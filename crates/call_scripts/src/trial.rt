@@ -1,6 +1,6 @@
 //! A line's call, made on the map.
 use crate::counted_seq::CountedSeq;
-use crate::most_reads::most_reads;
+use crate::plan_reads::most_plan_reads;
 use call_contract::TreeCall;
 use command_lines::{
     BadLine, Command, LineAnswer, LineReply, StoreCall, What, read_line, write_reply,
@@ -49,14 +49,13 @@ fn try_call(
     let mut changes = List::new(alloc);
     map.count_anew(0);
     let reply = op.apply(alloc, map, &mut changes)?;
-    let StoreCall::Dom(call) = op.call();
-    let most = most_reads(call, map.entries(), &reply);
     let call_reads = map.reads();
     let mut text = reply_text(alloc, session, reply)?;
     text.push_str(&format!(in alloc; "\n  {} changes; ", changes.len())?)?;
     push_requests(alloc, &requests, &mut text)?;
-    if call_reads > most || plan_reads > most {
-        text.push_str(&format!(in alloc; "\n  {call_reads} and {plan_reads} reads")?)?;
+    let StoreCall::Dom(call) = op.call();
+    if plan_reads > most_plan_reads(call) {
+        text.push_str(&format!(in alloc; "\n  {plan_reads} reads of its plan")?)?;
     }
     if !fails_at_each(alloc, op, map, plan_reads, call_reads)? {
         text.push_str("\n  a fault was passed over")?;
