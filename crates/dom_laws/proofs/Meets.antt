@@ -9,7 +9,7 @@ use Rattle.tree_model.specs.DomCalls.{dom}
 use Rattle.tree_changes.specs.ValidCalls.{IsValidCall}
 use Rattle.tree_cells.specs.Cells.{Cell, value_at}
 use Rattle.tree_cells.specs.Covers.{writes, Agree}
-use Rattle.tree_cells.specs.Forms.{HasForm}
+use Rattle.tree_cells.specs.Forms.{AreRows, HasForm}
 use Rattle.tree_cells.proofs.FormedRows.{rows_formed}
 use Rattle.lock_plans.specs.DomPlans.{run, requests}
 use Rattle.lock_plans.proofs.Outcomes.{run_outcome}
@@ -72,9 +72,13 @@ call_same (call.SetText l d) valid t u w v = set_text_same l d valid t u w v
 
 -- ---- the laws
 
--- the requests have their form
+-- the requests are rows of the table, each with its intentions before it
+pub requests_rows : (c : DomCall) (t : Tree) → IsValidCall c → IsValidTree t → AreRows (requests c t)
+requests_rows c t valid w = (call_same c valid t t w w).form (λ x _. refl)
+
+-- so they have the form
 pub requests_formed : (c : DomCall) (t : Tree) → IsValidCall c → IsValidTree t → HasForm (requests c t)
-requests_formed c t valid w = rows_formed (requests c t) ((call_same c valid t t w w).form (λ x _. refl))
+requests_formed c t valid w = rows_formed (requests c t) (requests_rows c t valid w)
 
 -- trees that agree on what is covered for reading give the same reply
 pub replies_same : (c : DomCall) (t u : Tree) → IsValidCall c → IsValidTree t → IsValidTree u → Agree (requests c t) t u → (dom c t).0 ≡ (dom c u).0

@@ -2,7 +2,7 @@
 ghost use Rattle.std.specs.Prelude.{◌≡◌, ℕ, suc, true, false, take};
 ghost use Rattle.tree_cells.specs.Cells.{Cell, value_at};
 ghost use Rattle.tree_cells.specs.Covers.{writes, Agree};
-ghost use Rattle.tree_cells.specs.Forms.{HasForm};
+ghost use Rattle.tree_cells.specs.Forms.{AreRows, HasForm};
 ghost use Rattle.tree_changes.specs.ValidCalls.{IsValidCall};
 ghost use Rattle.tree_model.specs.DomCalls.{dom};
 ghost use Rattle.tree_model.specs.Tree.{Tree};
@@ -12,10 +12,11 @@ ghost use Rattle.lock_plans.specs.DomPlans.{requests};
 ghost use Rattle.call_contract.specs.Calls.{CallLaws};
 ghost use Rattle.dom_laws.specs.Meaning.{dom_meaning};
 
-/// The requests of every valid call have their form. Trees that agree on what they cover for reading give the same reply, and have afterwards
+/// The requests of every valid call are rows of the table of requests, each with its intentions before it, and so have their form. Trees that agree on what they cover for reading give the same reply, and have afterwards
 /// the same in each cell that they cover for writing; no other cell changes; and trees that agree so far have the same next request.
-#[tactic(auto, using(crate::proofs::Meets::requests_formed, crate::proofs::Meets::replies_same, crate::proofs::Meets::written_same, crate::proofs::Meets::rest_kept, crate::proofs::Meets::next_same_request))]
+#[tactic(auto, using(crate::proofs::Meets::requests_rows, crate::proofs::Meets::requests_formed, crate::proofs::Meets::replies_same, crate::proofs::Meets::written_same, crate::proofs::Meets::rest_kept, crate::proofs::Meets::next_same_request))]
 pub fn dom_calls_keep_the_laws()
+    ensures rows { (c : DomCall) (t : Tree) → IsValidCall c → IsValidTree t → AreRows (requests c t) }
     ensures form { (c : DomCall) (t : Tree) → IsValidCall c → IsValidTree t → HasForm (requests c t) }
     ensures same_reply { (c : DomCall) (t u : Tree) → IsValidCall c → IsValidTree t → IsValidTree u → Agree (requests c t) t u
         → (dom c t).0 ≡ (dom c u).0 }

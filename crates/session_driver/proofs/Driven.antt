@@ -23,8 +23,8 @@ use Rattle.session_driver.specs.Retries.{retries}
 use Rattle.session_driver.specs.Refusals.{refusal}
 use Rattle.session_driver.specs.declared.doing.Doing.{Doing}
 use Rattle.session_driver.specs.declared.doing.Doing.TheVariants as doing
-use Rattle.session_driver.specs.inside.Steps.{Leaves}
-use Rattle.session_driver.proofs.Left.{done_after, begun_after}
+use Rattle.session_driver.specs.inside.Steps.{Adds, Leaves}
+use Rattle.session_driver.proofs.Left.{adds_over, done_after, begun_after}
 use Rattle.session_driver.proofs.Kept.{begin_same, call_same, abort_same, commit_refused}
 use Rattle.session_driver.proofs.Stepped.{MayCome, line_left, line_allowed, line_refused}
 
@@ -46,7 +46,9 @@ module _ {C B : Type 0} where
   book_same old new e = ap (λ (v : CoreView C B). record v { base = new.base; prepared = new.prepared }) e
 
   pub entries_kept : (old new : CoreView C B) → HasBookOf old new → new ≡ with_entries old [] new
-  entries_kept old new e = e ∙ ap (λ (book : Book C). record old { book = book; base = new.base; prepared = new.prepared }) (sym (append-nil old.book))
+  entries_kept old new e =
+      e ∙ ap (λ (c : Option Entries). record old { base = new.base; committed = c; prepared = new.prepared }) (sym (ap (λ (v : CoreView C B). v.committed) e))
+      ∙ ap (λ (book : Book C). record old { book = book; base = new.base; committed = new.committed; prepared = new.prepared }) (sym (append-nil old.book))
 
 module _ {C B : Type 0} (is_valid : C → Type 0) (m : CallMeaning C) (told : B → Option Entries) where
   -- where the opening's map is known, the book is legal
@@ -62,11 +64,12 @@ module _ {C B : Type 0} (is_valid : C → Type 0) (m : CallMeaning C) (told : B 
       → Leaves old new x y (after_line m (state_from m t old) (record { session = s; doing = d })) (then_retries m d a (state_from m t new))
   line_steps old new s d a x y may e legal out t stands =
       let run = run_of old new legal (ap (λ (v : CoreView C B). v.opening) e) t stands in
-      line_left m t old new s d a x y e run (line_allowed m t old new s d a may e run) out
+      let adds = adds_over old new (entry s (event_of d) a) e in
+      line_left m t old new s d a x y adds run (line_allowed m t old new s d a may adds run) out
 
   -- the same of a commit, of which it is known that it isn't refused
   pub commit_steps : (old new : CoreView C B) (s : ℕ) (a : EventAnswer) (x y : List LineReply)
-      → new ≡ over (with_entry old (entry s (event_of doing.Commit) a)) new.base → Legal new → y ≡ x ++ Said s false (shown a) ∷ [] → (t : Tree) → StandsFor (told old.opening) t
+      → Adds old (entry s (event_of doing.Commit) a) new → Legal new → y ≡ x ++ Said s false (shown a) ∷ [] → (t : Tree) → StandsFor (told old.opening) t
       → refusal m (state_from m t old) s doing.Commit ≡ None
       → Leaves old new x y (after_line m (state_from m t old) (record { session = s; doing = doing.Commit })) (then_retries m doing.Commit a (state_from m t new))
   commit_steps old new s a x y e legal out t stands free =

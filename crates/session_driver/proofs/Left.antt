@@ -1,5 +1,5 @@
 -- What is left to be done goes on: one part behind another, and a failure behind a part.
-use Rattle.std.proofs.Common.{◌≡◌, inl, inr, ℕ, List, [], ◌∷◌, ◌++◌, Option, Some, Result, Ok, Err, IfOk, OnErr, refl, sym, ap, ◌∙◌}
+use Rattle.std.proofs.Common.{◌≡◌, inl, inr, ℕ, List, [], ◌∷◌, ◌++◌, Option, Some, Result, Ok, Err, IfOk, OnErr, refl, sym, ap, ap₂, ◌∙◌}
 use Rattle.std.proofs.lemmas.List.{append-nil, append_assoc}
 use Rattle.call_contract.specs.Books.{Book, entry}
 use Rattle.call_contract.specs.declared.events.Event.TheVariants as event
@@ -7,17 +7,20 @@ use Rattle.call_contract.specs.declared.events.EventAnswer.TheVariants as said
 use Rattle.call_contract.specs.States.{State}
 use Rattle.call_contract.specs.declared.events.Noted.{Noted}
 use Rattle.command_lines.specs.declared.line_reply.LineReply.{LineReply}
-use Rattle.tx_core.specs.Cores.{CoreView, with_entry, over, HasNoAnswer}
+use Rattle.tree_model.specs.Entries.{Entries}
+use Rattle.tx_core.specs.Cores.{CoreView, IsLeftBy, over, with_committed, with_entry}
+use Rattle.tx_core.specs.declared.errors.CallError.{CallError}
+use Rattle.tx_core.specs.declared.errors.CallError.TheVariants as call_error
 use Rattle.session_driver.specs.Progress.{Progress, stays}
 use Rattle.session_driver.specs.Driving.{with_entries, IsFailureAtMost, HasGrown, HasDone, HasBegun}
-use Rattle.session_driver.specs.inside.Steps.{Leaves, HasFailed}
+use Rattle.session_driver.specs.inside.Steps.{Adds, Leaves, HasFailed}
 
 module _ {C B : Type 0} where
   -- ---- cores
 
   entries_on : (a b c : CoreView C B) (xs ys : Book C) → b ≡ with_entries a xs b → c ≡ with_entries b ys c → c ≡ with_entries a (xs ++ ys) c
   entries_on a b c xs ys one two =
-      two ∙ ap (λ (v : CoreView C B). with_entries v ys c) one ∙ ap (λ (book : Book C). record a { book = book; base = c.base; prepared = c.prepared }) (append_assoc a.book xs ys)
+      two ∙ ap (λ (v : CoreView C B). with_entries v ys c) one ∙ ap (λ (book : Book C). record a { book = book; base = c.base; committed = c.committed; prepared = c.prepared }) (append_assoc a.book xs ys)
 
   pub entries_none : (v : CoreView C B) → v ≡ with_entries v [] v
   entries_none v = ap (λ (book : Book C). record v { book = book }) (sym (append-nil v.book))
@@ -25,14 +28,25 @@ module _ {C B : Type 0} where
   pub entries_same : (v w : CoreView C B) → w ≡ v → w ≡ with_entries v [] w
   entries_same v w e = entries_none w ∙ ap (λ (x : CoreView C B). with_entries x [] w) e
 
-  -- the core over a base that was read, as it was, or with one more entry
+  -- the core over a base that was read
   pub entries_read : (v w : CoreView C B) → w ≡ over v w.base → w ≡ with_entries v [] w
   entries_read v w e =
-      e ∙ ap (λ (p : Option ℕ). record v { base = w.base; prepared = p }) (sym (ap (λ (x : CoreView C B). x.prepared) e))
-      ∙ ap (λ (book : Book C). record v { book = book; base = w.base; prepared = w.prepared }) (sym (append-nil v.book))
+      e ∙ ap₂ (λ (c : Option Entries) (p : Option ℕ). record v { base = w.base; committed = c; prepared = p }) (sym (ap (λ (x : CoreView C B). x.committed) e)) (sym (ap (λ (x : CoreView C B). x.prepared) e))
+      ∙ ap (λ (book : Book C). record v { book = book; base = w.base; committed = w.committed; prepared = w.prepared }) (sym (append-nil v.book))
+
+  -- .. with one more entry
+  pub adds_over : (v w : CoreView C B) (n : Noted C) → w ≡ over (with_entry v n) w.base → Adds v n w
+  adds_over v w n e = e ∙ ap (λ (c : Option Entries). with_committed (over (with_entry v n) w.base) c) (sym (ap (λ (x : CoreView C B). x.committed) e))
+
+  -- .. which is a commit's
+  pub adds_commit : (v w : CoreView C B) (n : Noted C) → w ≡ with_committed (with_entry v n) w.committed → Adds v n w
+  adds_commit v w n e = e ∙ ap (λ (b : B). with_committed (over (with_entry v n) b) w.committed) (sym (ap (λ (x : CoreView C B). x.base) e))
+
+  pub entries_adds : (v w : CoreView C B) (n : Noted C) → Adds v n w → w ≡ with_entries v (n ∷ []) w
+  entries_adds v w n e = e ∙ ap (λ (p : Option ℕ). record v { book = v.book ++ n ∷ []; base = w.base; committed = w.committed; prepared = p }) (sym (ap (λ (x : CoreView C B). x.prepared) e))
 
   pub entries_one : (v w : CoreView C B) (n : Noted C) → w ≡ over (with_entry v n) w.base → w ≡ with_entries v (n ∷ []) w
-  entries_one v w n e = e ∙ ap (λ (p : Option ℕ). record v { book = v.book ++ n ∷ []; base = w.base; prepared = p }) (sym (ap (λ (x : CoreView C B). x.prepared) e))
+  entries_one v w n e = entries_adds v w n (adds_over v w n e)
 
   -- a core with one more entry, over its base
   pub over_own : (v w : CoreView C B) (n : Noted C) → w ≡ with_entry v n → w ≡ over (with_entry v n) w.base
@@ -144,10 +158,19 @@ module _ {C B : Type 0} where
   pub grown_one : (v w : CoreView C B) (n : Noted C) (l : LineReply) (xs ys : List LineReply) → w ≡ over (with_entry v n) w.base → ys ≡ xs ++ l ∷ [] → HasGrown v w xs ys
   grown_one v w n l xs ys e f = record { entries = n ∷ []; said = l ∷ []; core = entries_one v w n e; out = f }
 
+  pub grown_adds : (v w : CoreView C B) (n : Noted C) (l : LineReply) (xs ys : List LineReply) → Adds v n w → ys ≡ xs ++ l ∷ [] → HasGrown v w xs ys
+  grown_adds v w n l xs ys e f = record { entries = n ∷ []; said = l ∷ []; core = entries_adds v w n e; out = f }
+
+  -- whatever was committed before
+  pub grown_anew : (v w : CoreView C B) (committed : Option Entries) (xs ys : List LineReply) → HasGrown (with_committed v committed) w xs ys → HasGrown v w xs ys
+  grown_anew v w committed xs ys is = record { entries = is.entries; said = is.said; core = is.core; out = is.out }
+
   -- an attempt without an answer
-  pub failed_attempt : (v w : CoreView C B) (s : ℕ) (c : C) → HasNoAnswer v s c w → HasFailed v w
-  failed_attempt v w s c (inl e) = failed_none v w (entries_read v w e)
-  failed_attempt v w s c (inr (k, f, e)) = failed_one v w (entry s (event.Fail (Some c) k f) said.Nothing) refl e
+  pub failed_attempt : (count : B → ℕ) (v w : CoreView C B) (s : ℕ) (c : C) (e : CallError) → IsLeftBy count v s c e w → HasFailed v w
+  failed_attempt count v w s c (call_error.Session why) e = failed_none v w (entries_same v w e)
+  failed_attempt count v w s c call_error.NoMemory (inl e) = failed_none v w (entries_read v w e)
+  failed_attempt count v w s c call_error.NoMemory (inr (k, some, e)) = failed_one v w (entry s (event.Fail (Some c) k None) said.Nothing) refl e
+  failed_attempt count v w s c call_error.DiskFault (k, e) = failed_one v w (entry s (event.Fail (Some c) k (Some (count w.base))) said.Nothing) refl e
 
 -- where it holds, it holds on an error
 pub on_err : {T E : Type 0} (r : Result T E) (P : Type 0) → P → OnErr r P

@@ -15,7 +15,7 @@ use Rattle.command_lines.specs.declared.line_reply.LineReply.{LineReply}
 use Rattle.command_lines.specs.declared.line_reply.LineReply.TheVariants.{Said}
 use Rattle.command_lines.specs.declared.line_reply.SessionRefusal.{SessionRefusal}
 use Rattle.command_lines.specs.declared.line_reply.SessionRefusal.TheVariants as why
-use Rattle.tx_core.specs.Cores.{CoreView, with_entry, over, state_from}
+use Rattle.tx_core.specs.Cores.{CoreView, state_from}
 use Rattle.session_driver.specs.Driving.{with_entries, HasDone}
 use Rattle.session_driver.specs.Lines.{event_of, then_retries, stepped, unless_refused, after_line}
 use Rattle.session_driver.specs.Progress.{Progress, noted, shown, line_of}
@@ -23,7 +23,7 @@ use Rattle.session_driver.specs.Refusals.{refusal, refusal_of}
 use Rattle.session_driver.specs.declared.doing.Doing.{Doing}
 use Rattle.session_driver.specs.declared.doing.Doing.TheVariants as doing
 use Rattle.session_driver.specs.inside.Steps.{Leaves}
-use Rattle.session_driver.proofs.Left.{entries_one}
+use Rattle.session_driver.proofs.Left.{entries_adds}
 
 -- a line of which the step alone tells that it isn't refused
 abbrev pub MayCome : {C : Type 0} → Doing C → Type 0
@@ -80,14 +80,14 @@ module _ {C : Type 0} (m : CallMeaning C) where
 
   module _ {B : Type 0} (t : Tree) (old new : CoreView C B) where
     -- a core with one more entry was led there by a step
-    pub step_by : (n : Noted C) → new ≡ over (with_entry old n) new.base → IsRun m (start t new.number new.limit) new.book
+    pub step_by : (n : Noted C) → Adds old n new → IsRun m (start t new.number new.limit) new.book
         → IsStep (state_from m t old) n.session n.event n.answer (state_from m t new)
     step_by n e run =
         let is = step_last (start t old.number old.limit) old.book n (subst (λ (w : CoreView C B). IsRun m (start t w.number w.limit) w.book) e run) in
         record { outcome = is.outcome; step = is.step; answer = is.answer; state = is.state ∙ sym (ap (state_from m t) e) }
 
     -- of a line that isn't refused the retries are left
-    pub line_left : (s : ℕ) (d : Doing C) (a : EventAnswer) (x y : List LineReply) → new ≡ over (with_entry old (entry s (event_of d) a)) new.base
+    pub line_left : (s : ℕ) (d : Doing C) (a : EventAnswer) (x y : List LineReply) → Adds old (entry s (event_of d) a) new
         → IsRun m (start t new.number new.limit) new.book → refusal m (state_from m t old) s d ≡ None → y ≡ x ++ Said s false (shown a) ∷ []
         → Leaves old new x y (after_line m (state_from m t old) (record { session = s; doing = d })) (then_retries m d a (state_from m t new))
     line_left s d a x y e run free out =
@@ -97,11 +97,11 @@ module _ {C : Type 0} (m : CallMeaning C) where
           said = line_of s false a;
           book = ap (λ (p : Progress C). p.book) is;
           lines = ap (λ (p : Progress C). p.lines) is;
-          core = entries_one old new (entry s (event_of d) a) e;
+          core = entries_adds old new (entry s (event_of d) a) e;
           out = out;
         }
 
-    pub line_allowed : (s : ℕ) (d : Doing C) (a : EventAnswer) → MayCome d → new ≡ over (with_entry old (entry s (event_of d) a)) new.base
+    pub line_allowed : (s : ℕ) (d : Doing C) (a : EventAnswer) → MayCome d → Adds old (entry s (event_of d) a) new
         → IsRun m (start t new.number new.limit) new.book → refusal m (state_from m t old) s d ≡ None
     line_allowed s d a may e run =
         let is = step_by (entry s (event_of d) a) e run in

@@ -46,7 +46,7 @@ refused_by_book v s (Call c) = shown_of (call_refused v s)
 
 -- the core that was opened so, with further entries
 abbrev pub with_entries : {C B : Type 0} → CoreView C B → Book C → CoreView C B → CoreView C B
-with_entries v b w = record v { book = v.book ++ b; base = w.base; prepared = w.prepared }
+with_entries v b w = record v { book = v.book ++ b; base = w.base; committed = w.committed; prepared = w.prepared }
 
 -- with the core that was opened so, and lines written: entries and lines were added at the end at most
 pub record HasGrown {C B : Type 0} (old new : CoreView C B) (before after : List LineReply) : Type 0 where

@@ -49,7 +49,7 @@ pub fn drive<C: TreeCall + Drop, B: NodeRead + Drop>(
     ensures later { HasGrown core.old core.new out.old.items out.new.items }
     ensures commit { IfOk result (λ p. IfSome p (λ _. doing ≡ asked.Commit)) }
     ensures refused { IfSome (refused_by_book core.old session doing) (λ why. IfOk result (λ p.
-        (p ≡ None) × (core.new ≡ record core.old { prepared = core.new.prepared }) × (out.new.items ≡ out.old.items ++ Said session false (line_answer.Session why) ∷ []))) }
+        (p ≡ None) × (core.new ≡ core.old) × (out.new.items ≡ out.old.items ++ Said session false (line_answer.Session why) ∷ []))) }
     ensures session { (why : SessionError) → result ≢ Err (call_error.Session why) }
     ensures unchanged { B.unchanged core.old.base core.new.base }
     ensures cause { HasCause call_error.DiskFault (B.count core.old.base) (B.count core.new.base) result }
@@ -243,7 +243,7 @@ fn prepare<C: TreeCall + Drop, B: NodeRead + Drop>(
     ensures err { OnErr result (out.new.items ≡ out.old.items) }
     ensures same { core.new ≡ record core.old { prepared = core.new.prepared } }
     ensures later { HasGrown core.old core.new out.old.items out.new.items }
-    ensures refused { IfSome (refused_by_book core.old session asked.Commit) (λ why. IfOk result (λ p. (p ≡ None)
+    ensures refused { IfSome (refused_by_book core.old session asked.Commit) (λ why. IfOk result (λ p. (p ≡ None) × (core.new ≡ core.old)
         × (out.new.items ≡ out.old.items ++ Said session false (line_answer.Session why) ∷ []))) }
     ensures memory { IfErr result (λ e. e ≡ call_error.NoMemory) }
 {

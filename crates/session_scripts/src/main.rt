@@ -2,14 +2,14 @@
 //! A line `store LIMIT MOST` begins a new store whose transactions may be numbered up to LIMIT, and whose reads fail after at most MOST others (0 for never):
 //! a call that ends with such a fault is made again, so the replies are those of a store whose reads don't fail. In a line, `@COUNT@` stands for so many `x`.
 //! A line `inserts COUNT EVERY AT BEFORE` inserts so many elements before a child, the new one taking its place after each EVERY-th, and prints the last reply;
-//! `length LINE` prints how many bytes the replies have.
+//! `length LINE` prints how many bytes the replies have, and `book` the store's book: a line an entry, with the grants and the count of faults of a failed attempt.
 #![tactic(auto)]
 
 mod failing_seq;
 mod store;
 
 use crate::failing_seq::FailingSeq;
-use crate::store::{Trouble, do_inserts, do_line, new_store};
+use crate::store::{Trouble, book_text, do_inserts, do_line, new_store};
 use std::alloc::Global;
 use std::process::ExitCode;
 use store_calls::StoreOp;
@@ -52,6 +52,7 @@ fn do_words(
             )?;
             Ok(String::new(alloc))
         }
+        Some("book") => book_text(alloc, core),
         Some("inserts") => do_inserts(alloc, line, core),
         Some("length") => {
             let text = do_line(alloc, words.next().unwrap_or(""), core)?;

@@ -4,6 +4,7 @@ ghost use Rattle.command_lines.specs.ValidCommands.{IsValidCommand, IsValidWhat}
 ghost use Rattle.session_scripts.specs.declared.store.Trouble.TheVariants as trouble;
 
 use crate::failing_seq::FailingSeq;
+use call_contract::{Event, Noted};
 use command_lines::{BadLine, Command, LineReply, What, read_line, write_reply};
 use dewey_labels::{List, NoMemory};
 use session_driver::{Doing, drive, finish_commit};
@@ -192,6 +193,30 @@ fn doing_of(what: What) -> Doing<StoreOp>
         What::Abort => Doing::Abort,
         What::Call(call) => Doing::Call(StoreOp::new(call)),
     }
+}
+
+/// The book, an entry in each line: its session and event, and of a failed attempt the number of its grants and the count of faults, if it tells one.
+pub fn book_text(alloc: Global, core: &Core<StoreOp, FailingSeq>) -> Result<String, Trouble> {
+    let mut text = String::new(alloc);
+    for noted in core.book() {
+        text.push_str(&entry_text(alloc, noted)?)?;
+    }
+    Ok(text)
+}
+
+fn entry_text(alloc: Global, noted: &Noted<StoreOp>) -> Result<String, Trouble> {
+    let session = noted.session;
+    Ok(match &noted.event {
+        Event::Begin => format!(in alloc; "{session} begin\n")?,
+        Event::Call(_) => format!(in alloc; "{session} call\n")?,
+        Event::Retry => format!(in alloc; "{session} retry\n")?,
+        Event::Fail { grants, faults, .. } => match faults {
+            Some(count) => format!(in alloc; "{session} fail {grants} {count}\n")?,
+            None => format!(in alloc; "{session} fail {grants}\n")?,
+        },
+        Event::Commit => format!(in alloc; "{session} commit\n")?,
+        Event::Abort => format!(in alloc; "{session} abort\n")?,
+    })
 }
 
 fn text_of(alloc: Global, replies: &[LineReply]) -> Result<String, Trouble> {

@@ -287,11 +287,11 @@ module _ {T : Type 0} (is_known : Bool) (s : State StoreCall) (c : Command) (rea
 
 -- ---- a core that was opened
 
-pub core_stands : (base : Entries) (n limit : ℕ) (core : CoreView StoreCall Entries) (t : Tree) → core ≡ record { opening = base; number = n; limit = limit; base = base; book = []; prepared = None } → StandsFor (Some base) t
+pub core_stands : (base : Entries) (n limit : ℕ) (core : CoreView StoreCall Entries) (t : Tree) → core ≡ record { opening = base; number = n; limit = limit; base = base; committed = Some base; book = []; prepared = None } → StandsFor (Some base) t
     → Stands core (start t n limit)
 core_stands base n limit core t is stands = subst (λ (v : CoreView StoreCall Entries). Stands v (start t n limit)) (sym is) (record { tree = t; opened = stands; state = refl })
 
-pub may_begin : (base : Entries) (n limit : ℕ) (core : CoreView StoreCall Entries) (journal : JournalView) → core ≡ record { opening = base; number = n; limit = limit; base = base; book = []; prepared = None } → IsStoredTree base → TakesBehind journal n
+pub may_begin : (base : Entries) (n limit : ℕ) (core : CoreView StoreCall Entries) (journal : JournalView) → core ≡ record { opening = base; number = n; limit = limit; base = base; committed = Some base; book = []; prepared = None } → IsStoredTree base → TakesBehind journal n
     → MayBeAsked core journal
 may_begin base n limit core journal is stored takes = record {
   state = start stored.tree n limit;

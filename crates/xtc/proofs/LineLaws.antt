@@ -1,5 +1,5 @@
 -- What the calls that do a line leave of the core and the journal: a line that is done at once, and a commit.
-use Rattle.std.proofs.Common.{◌≡◌, ℕ, ◌≤◌, Bool, IsTrue, List, [], ◌∷◌, ◌++◌, length, sym, ap, subst, ◌∙◌, arith}
+use Rattle.std.proofs.Common.{◌≡◌, ℕ, ◌≤◌, Bool, IsTrue, List, [], ◌∷◌, ◌++◌, length, sym, ap, ap₂, subst, ◌∙◌, arith}
 use Rattle.std.specs.Prelude.{Option, None, Some, Result, Ok, Err, OnOk}
 use Rattle.outside_traits.specs.Moments.{History}
 use Rattle.tree_model.specs.Entries.{Entries}
@@ -48,7 +48,8 @@ finished_over session old mid now before said same finished t opened allowed =
     let done = finished t opened allowed in
     let book = (asked_from (state_from store_meaning t old) session Commit).book in
     record {
-      core = same ∙ ap (λ (v : CoreView StoreCall Entries). over v now.base) done.core ∙ ap (λ (n : Option ℕ). record old { book = old.book ++ book; base = now.base; prepared = n }) (sym (ap (λ (v : CoreView StoreCall Entries). v.prepared) same));
+      core = same ∙ ap (λ (v : CoreView StoreCall Entries). over v now.base) done.core ∙ ap₂ (λ (es : Option Entries) (n : Option ℕ). record old { book = old.book ++ book; base = now.base; committed = es; prepared = n })
+          (sym (ap (λ (v : CoreView StoreCall Entries). v.committed) same)) (sym (ap (λ (v : CoreView StoreCall Entries). v.prepared) same));
       lines = done.lines;
     }
 

@@ -21,7 +21,7 @@ use Rattle.xtc.specs.StoreMachine.{KeptStore, Stands, store_machine}
 
 -- the core of a store that was opened over this map, with this number
 abbrev pub opened_core : Entries → ℕ → ℕ → CoreView StoreCall Entries
-opened_core base n limit = record { opening = base; number = n; limit = limit; base = base; book = []; prepared = None }
+opened_core base n limit = record { opening = base; number = n; limit = limit; base = base; committed = Some base; book = []; prepared = None }
 
 -- both disks are known
 pub both_known : (a b : Bool) → IsTrue a → IsTrue b → IsTrue (a && b)

@@ -189,7 +189,8 @@ fn open_core(
     base: SortedSeq,
     number: u32,
 ) -> Result<Core<StoreOp, SortedSeq>, Status>
-    ensures ok { IfOk result (λ core. core ≡ record { opening = base; number = number; limit = tx_limit; base = base; book = []; prepared = None }) }
+    ensures ok { IfOk result (λ core. core
+        ≡ record { opening = base; number = number; limit = tx_limit; base = base; committed = Some base; book = []; prepared = None }) }
     ensures err { IfErr result (λ status. status ≡ Status.NoMemory) }
 {
     match Core::new(alloc, base, number, TX_LIMIT) {

@@ -9,8 +9,9 @@ use Rattle.call_contract.specs.Sessions.{queue_after}
 use Rattle.call_contract.specs.States.{State, without}
 use Rattle.call_contract.specs.Steps.{step}
 use Rattle.call_contract.specs.declared.events.Event.TheVariants.{Retry}
+use Rattle.call_contract.specs.declared.events.Noted.{Noted}
 use Rattle.command_lines.specs.declared.line_reply.LineReply.{LineReply}
-use Rattle.tx_core.specs.Cores.{CoreView, state_from}
+use Rattle.tx_core.specs.Cores.{CoreView, over, state_from, with_committed, with_entry}
 use Rattle.tx_core.specs.Queues.{times}
 use Rattle.session_driver.specs.Driving.{with_entries, IsFailureAtMost, HasGrown, HasBegun}
 use Rattle.session_driver.specs.Progress.{Progress}
@@ -24,6 +25,10 @@ pub record Leaves {C B : Type 0} (old new : CoreView C B) (before after : List L
   pub lines : all.lines ≡ said ++ left.lines
   pub core : new ≡ with_entries old entries new
   pub out : after ≡ before ++ said
+
+-- the core gained an entry
+abbrev pub Adds : {C B : Type 0} → CoreView C B → Noted C → CoreView C B → Type 0
+Adds old n new = new ≡ with_committed (over (with_entry old n) new.base) new.committed
 
 -- an attempt failed at most
 pub record HasFailed {C B : Type 0} (old new : CoreView C B) : Type 0 where

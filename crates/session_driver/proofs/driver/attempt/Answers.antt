@@ -1,11 +1,11 @@
-use Rattle.std.proofs.Common.{IfSome, refl, ◌≡◌, sym, ap, subst, ◌∙◌}
+use Rattle.std.proofs.Common.{refl, ◌≡◌, sym, ap, subst, ◌∙◌}
 use Rattle.std.proofs.lemmas.Result.{IfOk-weaker, on_err_weaker}
 use Rattle.call_contract.specs.Books.{entry}
 use Rattle.call_contract.specs.declared.events.Answer.{Answer}
 use Rattle.call_contract.specs.declared.events.Answer.TheVariants as answer
 use Rattle.call_contract.specs.declared.events.Event.TheVariants as event
 use Rattle.call_contract.specs.declared.events.EventAnswer.TheVariants as said
-use Rattle.tx_core.specs.Cores.{with_entry, over, state_from}
+use Rattle.tx_core.specs.Cores.{IsLeftBy, with_entry, over, state_from}
 use Rattle.tx_core.specs.Refusals.{refusal_in}
 use Rattle.session_driver.specs.Driving.{shown_of}
 use Rattle.session_driver.specs.declared.doing.Doing.TheVariants as doing
@@ -82,7 +82,7 @@ pub returns-in-Session-clause-line : goal.returns-in-Session-clause-line
 returns-in-Session-clause-line g c =
     let old = c.args.core.now in
     let new = c.attempt-answer.new.self in
-    let same : new ≡ old = subst (λ x. IfSome (refusal_in x) (λ why. new ≡ old)) c.in-Session.is c.in-Err.ensures.same in
+    let same : new ≡ old = subst (λ x. IsLeftBy g.B.NodeRead.count old c.args.session c.args.call x new) c.in-Session.is c.in-Err.ensures.err in
     IfOk-weaker c.refuse.result _ _
     (λ u is. line_refuses g.C.TreeCall.is_valid g.C.TreeCall.meaning g.B.NodeRead.contents old new c.args.session (doing.Call c.args.call) is.0 c.args.out.now.items c.refuse.new.out.items
     (book_same old new same) c.is_legal.ensures.book (ap shown_of (sym c.in-Err.ensures.refused ∙ ap refusal_in c.in-Session.is) ∙ is.1) is.2)
@@ -92,7 +92,7 @@ pub returns-in-Session-clause-begun : goal.returns-in-Session-clause-begun
 returns-in-Session-clause-begun g c =
     let old = c.args.core.now in
     let new = c.attempt-answer.new.self in
-    let same : new ≡ old = subst (λ x. IfSome (refusal_in x) (λ why. new ≡ old)) c.in-Session.is c.in-Err.ensures.same in
+    let same : new ≡ old = subst (λ x. IsLeftBy g.B.NodeRead.count old c.args.session c.args.call x new) c.in-Session.is c.in-Err.ensures.err in
     on_err_weaker c.refuse.result
     (λ is. λ t stands. begun_none old new c.args.out.now.items c.refuse.new.out.items _ (failed_none old new (entries_same old new same)) is.1)
     c.refuse.ensures.err
@@ -101,21 +101,21 @@ pub returns-in-Session-clause-later : goal.returns-in-Session-clause-later
 returns-in-Session-clause-later g c =
     let old = c.args.core.now in
     let new = c.attempt-answer.new.self in
-    let same : new ≡ old = subst (λ x. IfSome (refusal_in x) (λ why. new ≡ old)) c.in-Session.is c.in-Err.ensures.same in
+    let same : new ≡ old = subst (λ x. IsLeftBy g.B.NodeRead.count old c.args.session c.args.call x new) c.in-Session.is c.in-Err.ensures.err in
     grown_refused old new c.args.out.now.items c.refuse.new.out.items c.refuse.result (entries_same old new same) (IfOk-weaker c.refuse.result _ _ (λ u is. (_, is.2)) c.refuse.ensures.ok) (on_err_weaker c.refuse.result (λ is. is.1) c.refuse.ensures.err)
 
 pub returns-in-DiskFault-clause-begun : goal.returns-in-DiskFault-clause-begun
 returns-in-DiskFault-clause-begun g c = λ t stands.
-    begun_none c.args.core.now c.attempt-answer.new.self c.args.out.now.items c.args.out.now.items _ (failed_attempt c.args.core.now c.attempt-answer.new.self c.args.session c.args.call c.in-Err.ensures.err) refl
+    begun_none c.args.core.now c.attempt-answer.new.self c.args.out.now.items c.args.out.now.items _ (failed_attempt g.B.NodeRead.count c.args.core.now c.attempt-answer.new.self c.args.session c.args.call c.in-Err.error c.in-Err.ensures.err) refl
 
 pub returns-in-DiskFault-clause-later : goal.returns-in-DiskFault-clause-later
 returns-in-DiskFault-clause-later g c =
-    grown_failed c.args.core.now c.attempt-answer.new.self c.args.out.now.items c.args.out.now.items (failed_attempt c.args.core.now c.attempt-answer.new.self c.args.session c.args.call c.in-Err.ensures.err) refl
+    grown_failed c.args.core.now c.attempt-answer.new.self c.args.out.now.items c.args.out.now.items (failed_attempt g.B.NodeRead.count c.args.core.now c.attempt-answer.new.self c.args.session c.args.call c.in-Err.error c.in-Err.ensures.err) refl
 
 pub returns-in-NoMemory-clause-begun : goal.returns-in-NoMemory-clause-begun
 returns-in-NoMemory-clause-begun g c = λ t stands.
-    begun_none c.args.core.now c.attempt-answer.new.self c.args.out.now.items c.args.out.now.items _ (failed_attempt c.args.core.now c.attempt-answer.new.self c.args.session c.args.call c.in-Err.ensures.err) refl
+    begun_none c.args.core.now c.attempt-answer.new.self c.args.out.now.items c.args.out.now.items _ (failed_attempt g.B.NodeRead.count c.args.core.now c.attempt-answer.new.self c.args.session c.args.call c.in-Err.error c.in-Err.ensures.err) refl
 
 pub returns-in-NoMemory-clause-later : goal.returns-in-NoMemory-clause-later
 returns-in-NoMemory-clause-later g c =
-    grown_failed c.args.core.now c.attempt-answer.new.self c.args.out.now.items c.args.out.now.items (failed_attempt c.args.core.now c.attempt-answer.new.self c.args.session c.args.call c.in-Err.ensures.err) refl
+    grown_failed c.args.core.now c.attempt-answer.new.self c.args.out.now.items c.args.out.now.items (failed_attempt g.B.NodeRead.count c.args.core.now c.attempt-answer.new.self c.args.session c.args.call c.in-Err.error c.in-Err.ensures.err) refl

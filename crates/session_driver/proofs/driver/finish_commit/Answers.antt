@@ -6,9 +6,9 @@ use Rattle.call_contract.specs.declared.events.Event.TheVariants as event
 use Rattle.call_contract.specs.declared.events.EventAnswer.TheVariants as said
 use Rattle.command_lines.specs.declared.line_reply.LineAnswer.TheVariants as line_answer
 use Rattle.command_lines.specs.declared.line_reply.LineReply.TheVariants.{Said}
-use Rattle.tx_core.specs.Cores.{with_entry, next_number}
+use Rattle.tx_core.specs.Cores.{with_committed, with_entry, next_number}
 use Rattle.session_driver.proofs.Driven.{commit_steps, then_done, then_begun}
-use Rattle.session_driver.proofs.Left.{over_own, grown_one, grown_from}
+use Rattle.session_driver.proofs.Left.{adds_commit, grown_adds, grown_anew, grown_from}
 use Rattle.session_driver.proofs.driver.finish_commit.Goals as goal
 
 pub returns-clause-line : goal.returns-clause-line
@@ -19,10 +19,10 @@ returns-clause-line g c =
     let mid = c.commit-number.new.self in
     let a = said.Number c.commit-number.result in
     let n = entry c.args.session event.Commit a in
-    let e = over_own old mid n c.commit-number.ensures.committed in
+    let e = adds_commit old mid n c.commit-number.ensures.committed in
     IfOk-weaker c.retry_all.result _ _
     (λ u done. λ t stands free. then_done g.C.TreeCall.is_valid m told old mid c.retry_all.new.core c.args.out.now.items c.say.new.out.items c.retry_all.new.out.items
-    (grown_one old mid n _ c.args.out.now.items c.say.new.out.items e c.say.ensures) _ t stands
+    (grown_adds old mid n _ c.args.out.now.items c.say.new.out.items e c.say.ensures) _ t stands
     (commit_steps g.C.TreeCall.is_valid m told old mid c.args.session a c.args.out.now.items c.say.new.out.items e c.is_legal.ensures.book c.say.ensures t stands free) done)
     c.retry_all.ensures.ok
 
@@ -34,10 +34,10 @@ returns-clause-begun g c =
     let mid = c.commit-number.new.self in
     let a = said.Number c.commit-number.result in
     let n = entry c.args.session event.Commit a in
-    let e = over_own old mid n c.commit-number.ensures.committed in
+    let e = adds_commit old mid n c.commit-number.ensures.committed in
     on_err_weaker c.retry_all.result
     (λ begun. λ t stands free. then_begun g.C.TreeCall.is_valid m told old mid c.retry_all.new.core c.args.out.now.items c.say.new.out.items c.retry_all.new.out.items
-    (grown_one old mid n _ c.args.out.now.items c.say.new.out.items e c.say.ensures) _ t stands
+    (grown_adds old mid n _ c.args.out.now.items c.say.new.out.items e c.say.ensures) _ t stands
     (commit_steps g.C.TreeCall.is_valid m told old mid c.args.session a c.args.out.now.items c.say.new.out.items e c.is_legal.ensures.book c.say.ensures t stands free) begun)
     c.retry_all.ensures.err
 
@@ -45,8 +45,10 @@ pub returns-clause-made : goal.returns-clause-made
 returns-clause-made g c =
     let old = c.args.core.now in
     let mid = c.commit-number.new.self in
-    grown_from mid (with_entry old (entry c.args.session event.Commit (said.Number (next_number old)))) c.retry_all.new.core c.say.new.out.items
-    (c.args.out.now.items ++ Said c.args.session false (line_answer.Reply (reply.Number (next_number old))) ∷ []) c.retry_all.new.out.items
-    (c.commit-number.ensures.committed ∙ ap (λ (k : ℕ). with_entry old (entry c.args.session event.Commit (said.Number k))) c.commit-number.ensures.number)
+    let made = with_entry old (entry c.args.session event.Commit (said.Number (next_number old))) in
+    let out = c.args.out.now.items ++ Said c.args.session false (line_answer.Reply (reply.Number (next_number old))) ∷ [] in
+    grown_anew made c.retry_all.new.core mid.committed out c.retry_all.new.out.items
+    (grown_from mid (with_committed made mid.committed) c.retry_all.new.core c.say.new.out.items out c.retry_all.new.out.items
+    (c.commit-number.ensures.committed ∙ ap (λ (k : ℕ). with_committed (with_entry old (entry c.args.session event.Commit (said.Number k))) mid.committed) c.commit-number.ensures.number)
     (c.say.ensures ∙ ap (λ (k : ℕ). c.args.out.now.items ++ Said c.args.session false (line_answer.Reply (reply.Number k)) ∷ []) c.commit-number.ensures.number)
-    c.retry_all.ensures.later
+    c.retry_all.ensures.later)
