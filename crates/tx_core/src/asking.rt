@@ -121,11 +121,11 @@ pub struct Wanted {
 }
 
 /// What a call asks for on what a transaction sees.
-pub fn asked<C: TreeCall, B: NodeRead>(
+pub fn asked<'v, C: TreeCall, B: NodeRead>(
     alloc: Global,
-    base: &mut B,
-    layers: &Layers,
-    own: &Overlay,
+    base: &'v mut B,
+    layers: &'v Layers,
+    own: &'v Overlay,
     call: &C,
 ) -> Result<Wanted, SeqError>
     ensures value { OnTree (contents_after own.now (contents_after layers.now.changes (B.contents base.old))) result (λ t wanted.
@@ -156,11 +156,11 @@ pub struct Outcome {
 }
 
 /// What a call answers on what a transaction sees, and what it changes there.
-pub fn made<C: TreeCall, B: NodeRead>(
+pub fn made<'v, C: TreeCall, B: NodeRead>(
     alloc: Global,
-    base: &mut B,
-    layers: &Layers,
-    own: &Overlay,
+    base: &'v mut B,
+    layers: &'v Layers,
+    own: &'v Overlay,
     call: &C,
 ) -> Result<Outcome, SeqError>
     ensures reply { OnTree (contents_after own.now (contents_after layers.now.changes (B.contents base.old))) result (λ t made.
