@@ -6,6 +6,7 @@ ghost use Rattle.script_runs.specs.Counts.{CountedWhere, DisksCountedWhere, Read
 ghost use Rattle.script_runs.specs.Lines.{line_limit};
 ghost use Rattle.script_runs.specs.Machine.{IsReady};
 ghost use Rattle.script_runs.specs.Runs.{Ran};
+ghost use Rattle.script_runs.specs.Whole.{piece};
 ghost use Rattle.script_runs.specs.inside.Feeding.{IsNew, stopped};
 ghost use Rattle.script_runs.specs.inside.Inputs.{TakesInput, RunsScript};
 
@@ -76,7 +77,8 @@ pub fn run<S: Source, K: Sink, M: LineMachine>(
 
 /// Room for a piece.
 pub fn buffer(alloc: Global) -> Result<Vec<u8>, AllocError>
-    ensures { IfOk result (λ buffer. 0 < length buffer.items) }
+    ensures some { IfOk result (λ buffer. 0 < length buffer.items) }
+    ensures most { IfOk result (λ buffer. length buffer.items ≤ piece) }
 {
     Vec::from_elem(alloc, 0u8, PIECE)
 }

@@ -30,8 +30,9 @@ use Rattle.xtc.specs.Documents.{reason_of, reason_in}
 use Rattle.xtc.specs.Durable.{HoldState}
 use Rattle.xtc.specs.TopCall.{OpenAfter, IsSound}
 use Rattle.xtc.specs.declared.status.Reason.{Reason}
-use Rattle.xtc.specs.inside.Asking.{AreValidAsks, after, said}
+use Rattle.xtc.specs.inside.Asking.{AreValidAsks, AskNoCommit, after, said}
 use Rattle.xtc.proofs.CommitCounts.{commits_counted}
+use Rattle.xtc.proofs.LiveLaws.{live_stand}
 
 -- ---- what is asked behind what was asked
 
@@ -78,6 +79,16 @@ pub valid_first : (xs ys : List (Asked StoreCall)) → AreValidAsks (xs ++ ys) �
 valid_first [] ys all = tt
 valid_first (x ∷ xs) ys all = (all.0, valid_first xs ys all.1)
 
+-- ---- lists in which no commit is asked for
+
+pub no_commit_first : (xs ys : List (Asked StoreCall)) → AskNoCommit (xs ++ ys) → AskNoCommit xs
+no_commit_first [] ys all = tt
+no_commit_first (x ∷ xs) ys all = (all.0, no_commit_first xs ys all.1)
+
+pub no_commit_rest : (xs ys : List (Asked StoreCall)) → AskNoCommit (xs ++ ys) → AskNoCommit ys
+no_commit_rest [] ys all = all
+no_commit_rest (x ∷ xs) ys all = no_commit_rest xs ys all.1
+
 -- ---- valid lines from a valid tree
 
 module _ (t : Tree) (n limit : ℕ) (formed : IsValidTree t) (asked : List (Asked StoreCall)) (valid : AreValidAsks asked) where
@@ -110,6 +121,7 @@ module _ (t : Tree) (n limit : ℕ) (formed : IsValidTree t) (asked : List (Aske
   asked_sound = record {
     legal = legal;
     serial = serial_is;
+    live = λ before behind is. live_stand t n limit progress.book before behind legal is;
     deadlocks = λ before e behind is cycle shown answered. deadlock_shown store_meaning t n limit before e cycle answered shown;
     aborts = abort_leaves;
     state = state_of_book;

@@ -1,5 +1,5 @@
 -- What asking session 1 in turn leaves of the core and the journal of a store: step by step, and one list behind another.
-use Rattle.std.proofs.Common.{◌==◌, false, drop, slice_index_or, ◌≡◌, ℕ, Bool, List, [], ◌∷◌, ◌++◌, length, inl, inr, refl, sym, ap, subst, ◌∙◌, append-nil, arith}
+use Rattle.std.proofs.Common.{◌==◌, false, drop, slice_index_or, ◌≡◌, ◌≢◌, ℕ, Bool, List, [], ◌∷◌, ◌++◌, length, inl, inr, refl, sym, ap, subst, ◌∙◌, append-nil, arith}
 use Rattle.std.specs.Prelude.{None, Some, Result, Ok, Err}
 use Rattle.std.specs.Result.{IsErrAnd}
 use Rattle.std.proofs.lemmas.List.{append_assoc}
@@ -15,6 +15,7 @@ use Rattle.command_lines.specs.declared.command.StoreCall.{StoreCall}
 use Rattle.command_lines.specs.declared.line_reply.LineReply.{LineReply}
 use Rattle.session_driver.specs.Lines.{Asked, IsValidDoing}
 use Rattle.session_driver.specs.declared.doing.Doing.{Doing}
+use Rattle.session_driver.specs.declared.doing.Doing.TheVariants.{Commit}
 use Rattle.store_calls.specs.StoreCalls.{IsValidStoreCall}
 use Rattle.tx_core.specs.Cores.{CoreView}
 use Rattle.xtc.specs.Documents.{asks, reason_in}
@@ -28,7 +29,7 @@ use Rattle.xtc.specs.declared.status.Status.TheVariants.{Done, Usage, LineTooLon
 use Rattle.xtc.specs.Statuses.{status_of_halt}
 use Rattle.xtc.specs.inside.Asking.{AreValidAsks, after, said, HoldsFirst, LeavesFirst, AllAnswered, Stopped, StopsBy, AskedInTurn, IsStop}
 use Rattle.xtc.specs.inside.Stores.{asked_from, HoldsAll, HoldsEither, LeadsTo, LeavesEither}
-use Rattle.xtc.proofs.AskedLaws.{after_on, said_on, reason_behind, valid_on}
+use Rattle.xtc.proofs.AskedLaws.{after_on, said_on, reason_behind, valid_on, no_commit_first, no_commit_rest}
 
 -- ---- lists
 
@@ -86,6 +87,7 @@ module _ (is_known : Bool) (s : State StoreCall) (xs ys : List (Asked StoreCall)
           settled = λ known holds. subst (λ (u : State StoreCall). HoldsAll u new) (sym state) (two.leads.settled known (one.leads.settled known holds));
         };
         moments = moments_on new ys two.moments;
+        still = λ none. two.still (no_commit_rest xs ys none) ∙ one.still (no_commit_first xs ys none);
         replies = two.replies ∙ ap (λ (l : List LineReply). l ++ said (after s xs) ys) one.replies ∙ append_assoc before (said s xs) (said (after s xs) ys) ∙ ap (λ (l : List LineReply). before ++ l) (sym lines);
         unrefused = ap reason_in lines ∙ reason_behind (said s xs) (said (after s xs) ys) one.unrefused ∙ two.unrefused;
       }
@@ -118,6 +120,7 @@ module _ (is_known : Bool) (s : State StoreCall) (xs ys : List (Asked StoreCall)
             subst (λ (u : State StoreCall × State StoreCall). HoldsEither u.0 u.1 image)
             (λ i. (sym (after_on s xs two.answered) i, (sym (after_on s xs (two.answered ++ two.more)) ∙ ap (after s) whole) i))
             (two.left known (one.leads.settled known holds) image is);
+        still = λ none. two.still (no_commit_rest xs ys none) ∙ one.still (no_commit_first xs ys none);
         stops = record {
           front = xs ++ two.stops.front;
           last = two.stops.last;
@@ -135,6 +138,7 @@ none_asked is_known s core journal replies stands = record {
   valid = tt;
   leads = record { stands = stands; settled = λ known holds. holds };
   moments = λ known holds. started (HoldsFirst s []) journal;
+  still = λ none. refl;
   replies = sym (append-nil replies);
   unrefused = refl;
 }
@@ -149,6 +153,7 @@ not_begun is_known s all old new same = subst (λ (h : History). Stopped is_know
   valid = tt;
   moments = λ known holds. started (HoldsFirst s []) old;
   left = λ known holds image is. inl (image_holds s old holds image is);
+  still = λ none. refl;
   stops = record { front = []; last = []; parts = refl; one = omega arith; unrefused = refl };
   by = tt;
 })
@@ -164,6 +169,7 @@ stopped_wider is_known s xs ys old new status h = record {
   valid = h.valid;
   moments = h.moments;
   left = h.left;
+  still = λ none. h.still (no_commit_first xs ys none);
   stops = h.stops;
   by = h.by;
 }
@@ -182,6 +188,7 @@ stopped_behind is_known s all old new core before now h =
       valid = subst AreValidAsks (sym whole) h.valid;
       moments = subst (λ (l : List (Asked StoreCall)). LeavesFirst is_known s l old new) (sym whole) h.moments;
       left = λ known holds image is. inl (image_holds (after s all) new (h.leads.settled known holds) image is);
+      still = h.still;
       stops = record { front = all; last = []; parts = refl; one = omega arith; unrefused = h.unrefused };
       by = tt;
     }
@@ -200,7 +207,7 @@ asked_behind (Err e) is_known s xs ys old mid new core last before now later one
 
 -- ---- one step
 
-module _ (is_known : Bool) (s : State StoreCall) (doing : Doing StoreCall) (valid : IsValidDoing IsValidStoreCall doing) (old new : History) where
+module _ (is_known : Bool) (s : State StoreCall) (doing : Doing StoreCall) (valid : IsValidDoing IsValidStoreCall doing) (old new : History) (still : doing ≢ Commit → new ≡ old) where
   abbrev one_asked : List (Asked StoreCall)
   one_asked = asks doing ∷ []
 
@@ -216,12 +223,13 @@ module _ (is_known : Bool) (s : State StoreCall) (doing : Doing StoreCall) (vali
 
   pub step_answered : (core : CoreView StoreCall Entries) (before now : List LineReply) → LeadsTo is_known old core new s (asked_from s 1 doing).state → LeavesEither is_known old new s (asked_from s 1 doing).state
       → now ≡ before ++ (asked_from s 1 doing).lines → reason_in before ≡ None → reason_in now ≡ None → AllAnswered is_known s one_asked old core new before now
-  step_answered core before now leads leaves replies unrefused still = record {
+  step_answered core before now leads leaves replies unrefused none = record {
     valid = (valid, tt);
     leads = leads;
     moments = step_moments leaves;
+    still = λ asks_none. still asks_none.0;
     replies = replies ∙ ap (λ (l : List LineReply). before ++ l) (sym step_lines);
-    unrefused = ap reason_in step_lines ∙ sym (reason_behind before (asked_from s 1 doing).lines unrefused) ∙ ap reason_in (sym replies) ∙ still;
+    unrefused = ap reason_in step_lines ∙ sym (reason_behind before (asked_from s 1 doing).lines unrefused) ∙ ap reason_in (sym replies) ∙ none;
   }
 
   pub step_refused : (core : CoreView StoreCall Entries) (before now : List LineReply) (rest : List (Asked StoreCall)) (why : Reason) → LeadsTo is_known old core new s (asked_from s 1 doing).state → LeavesEither is_known old new s (asked_from s 1 doing).state
@@ -235,6 +243,7 @@ module _ (is_known : Bool) (s : State StoreCall) (doing : Doing StoreCall) (vali
     valid = (valid, tt);
     moments = step_moments leaves;
     left = λ known holds image is. inl (image_holds (asked_from s 1 doing).state new (leads.settled known holds) image is);
+    still = λ asks_none. still asks_none.0;
     stops = record { front = []; last = one_asked; parts = refl; one = omega arith; unrefused = refl };
     by = (ap reason_in step_lines ∙ sym (reason_behind before (asked_from s 1 doing).lines unrefused) ∙ ap reason_in (sym replies) ∙ refused, refl);
   }
@@ -253,6 +262,7 @@ module _ (is_known : Bool) (s : State StoreCall) (doing : Doing StoreCall) (vali
     valid = (valid, tt);
     moments = step_moments leaves;
     left = λ known holds. now_left (HoldsEither s (asked_from s 1 doing).state) old new (leaves known holds) (λ image is. inl (image_holds s old holds image is));
+    still = λ asks_none. still asks_none.0;
     stops = record { front = []; last = one_asked; parts = refl; one = omega arith; unrefused = refl };
     by = halts h one_asked;
   }

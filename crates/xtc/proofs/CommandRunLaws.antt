@@ -1,5 +1,5 @@
 -- What a command that ran over a store that was opened leaves, by what its parts leave.
-use Rattle.std.proofs.Common.{◌≡◌, ◌-◌, ℕ, Bool, [], refl, sym, ap, subst, ◌∙◌, inl, add-zero, arith}
+use Rattle.std.proofs.Common.{List, ◌≡◌, ◌≤◌, ◌+◌, ◌-◌, ℕ, Bool, [], refl, sym, ap, subst, ◌∙◌, inl, add-zero, arith, length}
 use Rattle.std.specs.Prelude.{Some, Result, Ok, Err, IfOk, IfErr, IfSome, OnOk, IsTrue}
 use Rattle.outside_kinds.specs.Bounds.{input_limit}
 use Rattle.outside_traits.specs.DiskPairs.{Pair}
@@ -12,12 +12,13 @@ use Rattle.node_seq.specs.Trees.{StandsFor}
 use Rattle.recovery.specs.Opened.{contents_of_files}
 use Rattle.script_runs.specs.Counts as counts
 use Rattle.script_runs.specs.Counts.{CountedWhere, DisksCountedWhere, ReadCountedWhere, counted}
+use Rattle.script_runs.specs.Whole.{piece}
 use Rattle.script_runs.specs.declared.halt.Halt.TheVariants as halt
 use Rattle.script_runs.specs.declared.running.End.{End}
 use Rattle.script_runs.specs.declared.running.End.TheVariants as end
 use Rattle.xtc.specs.Commands.{Command, run, put, get, reads_input}
 use Rattle.xtc.specs.Statuses.{status_of_end}
-use Rattle.xtc.specs.TopCall.{IsOfOpened, IsSilent, ScriptRan, tx_limit}
+use Rattle.xtc.specs.TopCall.{IsOfOpened, IsSilent, ScriptRan, tx_limit, whole_limit}
 use Rattle.xtc.specs.declared.status.Status.{Status}
 use Rattle.xtc.specs.declared.status.Status.TheVariants.{Done, Usage, LineTooLong, Damaged, ReadFault, WriteFault, DiskFault, NoMemory, NotJsonMl, DocumentRefused}
 use Rattle.xtc.specs.inside.Asking.{IsUnwritten, IsWriteEnd}
@@ -83,13 +84,15 @@ disk_end (end.Halted halt.NoMemory) it = absurd cc
 pub script_runs : (journal_known pages_known : Bool) (base : Entries) (number : ℕ) (e : End) (input input_now : Input) (output output_now : Output) (disks disks_now : Disks)
     → RanOver journal_known pages_known base number run (status_of_end e) input input_now output output_now disks.files disks_now.files
     → (e ≡ end.Done → IfSome input_now.left (λ rest. rest ≡ []))
+    → input_now.given ≤ input.given + input_limit
     → ReadCountedWhere (e ≡ end.ReadFault) input_limit input.faults input_now.faults input.given input_now.given
     → CountedWhere (e ≡ end.WriteFault) output.faults output_now.faults
     → DisksCountedWhere (e ≡ end.Halted halt.DiskFault) disks.faults disks_now.faults
     → RunsCommand journal_known pages_known base number run (status_of_end e) input input_now output output_now disks disks_now
-script_runs journal_known pages_known base number e input input_now output output_now disks disks_now ran whole read write disk = record {
+script_runs journal_known pages_known base number e input input_now output output_now disks disks_now ran whole bound read write disk = record {
   ran = ran;
   whole = λ reads is. whole (done_end e is);
+  bound = bound;
   silent = script_not_silent e _;
   opened = script_opened e;
   read = read_counted_as (read_end e) (ap status_of_end) _ _ _ _ _ read;
@@ -107,6 +110,7 @@ pub nothing_runs : (journal_known pages_known : Bool) (base : Entries) (number :
 nothing_runs journal_known pages_known base number input output disks disks_now ran same = record {
   ran = ([], gave_none input.left, sym (add-zero input.given), ran);
   whole = λ reads is. absurd cc;
+  bound = omega arith;
   silent = tt;
   opened = tt;
   read = read_never input_limit input.faults input.given (λ it. cc);
@@ -197,6 +201,10 @@ ends_back : {T : Type 0} (r : Result T Status) (status x : Status) (P : Type 0) 
 ends_back (Ok text) status x P is it = absurd cc
 ends_back (Err why) status x P is it = is.1 ∙ error_of it
 
+-- what an input of a command of one document may give is within what one run takes
+pub put_within : (given given_now : ℕ) (read : List ℕ) → given_now ≡ given + length read → length read ≤ whole_limit + piece → given_now ≤ given + input_limit
+put_within given given_now read sum within = omega (arith, sum, within)
+
 -- the count of a source's faults alone says why a read failed
 pub by_count : {P : Type 0} (most before now given given_now : ℕ) → CountedWhere P before now → ReadCountedWhere P most before now given given_now
 by_count most before now given given_now c = record { cause = λ p. counted (c.counted p); exact = c.exact }
@@ -206,16 +214,18 @@ pub document_runs : {T : Type 0} (journal_known pages_known : Bool) (base : Entr
     → EndsBy r status (output_now.held ≡ output.held)
     → RanOver journal_known pages_known base number c status input input_now output output_now disks.files disks_now.files
     → (IsTrue (reads_input (Some c)) → OnOk r (IfSome input_now.left (λ rest. rest ≡ [])))
+    → input_now.given ≤ input.given + input_limit
     → ReadCountedWhere (r ≡ Err ReadFault) input_limit input.faults input_now.faults input.given input_now.given
     → CountedWhere (status ≡ WriteFault) output.faults output_now.faults
     → Counts (r ≡ Err DiskFault) disks.faults.journal disks_now.faults.journal
     → disks_now.faults.pages ≡ disks.faults.pages
     → RunsCommand journal_known pages_known base number c status input input_now output output_now disks disks_now
-document_runs journal_known pages_known base number c r status input input_now output output_now disks disks_now ends ran whole read write journal pages =
+document_runs journal_known pages_known base number c r status input input_now output output_now disks disks_now ends ran whole bound read write journal pages =
     let P : Type 0 = output_now.held ≡ output.held in
     record {
       ran = ran;
       whole = λ reads is. ends_done r status P _ ends (whole reads) is;
+      bound = bound;
       silent = ends_silent c r status P ends;
       opened = ends_opened c r status P ends;
       read = read_counted_as (ends_there r status ReadFault P (λ no. no) ends) (ends_back r status ReadFault P ends) _ _ _ _ _ read;

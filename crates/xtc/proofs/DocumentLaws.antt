@@ -1,6 +1,6 @@
 -- A command of one document: what it leaves of the journal by its status, and of the whole store.
-use Rattle.std.proofs.Common.{◌≡◌, ◌≤◌, ℕ, ◌+◌, Bool, false, IsTrue, List, [], ◌++◌, length, take, inl, ⊎_elim, refl, sym, ap, subst, ◌∙◌, append-nil, add-zero, arith}
-use Rattle.std.specs.Prelude.{Option, None, Some, Result, Ok, Err, IfOk, IfErr}
+use Rattle.std.proofs.Common.{◌≡◌, ◌≤◌, ℕ, ◌+◌, Bool, false, IsTrue, List, [], ◌++◌, length, take, inl, inr, ⊎_elim, refl, sym, ap, subst, ◌∙◌, append-nil, add-zero, arith}
+use Rattle.std.specs.Prelude.{Option, None, Some, Result, Ok, Err, IfOk, IfErr, IfSome}
 use Rattle.std.specs.Result.{IsErrAnd}
 use Rattle.std.proofs.lemmas.List.{append_assoc, length-append}
 use Rattle.std.proofs.lemmas.Option.{same_Some}
@@ -13,45 +13,67 @@ use Rattle.outside_traits.specs.Moments.{History, IsAllSynced}
 use Rattle.outside_traits.proofs.ImageLaws.{image-all_synced}
 use Rattle.outside_traits.proofs.MomentLaws.{started, weaker}
 use Rattle.outside_traits.proofs.PairLaws.{journal_phase}
+use Rattle.dewey_labels.specs.Labels.{Label}
 use Rattle.tree_model.specs.Entries.{Entries}
 use Rattle.tree_model.specs.Names.{Name}
 use Rattle.tree_model.specs.StoredTree.{IsStoredTree}
 use Rattle.tree_model.specs.Tree.{Tree, map_of}
 use Rattle.tree_model.specs.ValidTrees.{IsValidTree}
+use Rattle.tree_model.specs.declared.fragment.Fragment.{Fragment}
 use Rattle.node_seq.specs.Trees.{StandsFor}
 use Rattle.jsonml_io.specs.declared.fragment_error.FragmentError.{FragmentError}
 use Rattle.journal.specs.Groups.{is_next}
 use Rattle.journal.specs.Views.{JournalView}
 use Rattle.recovery.specs.Opened.{contents_of_files}
 use Rattle.recovery.specs.Openings.{TakesBehind}
+use Rattle.script_runs.specs.Whole.{piece}
 use Rattle.call_contract.specs.States.{State, start}
 use Rattle.command_lines.specs.declared.command.StoreCall.{StoreCall}
 use Rattle.command_lines.specs.declared.line_reply.LineReply.{LineReply}
 use Rattle.session_driver.specs.Lines.{Asked}
 use Rattle.tx_core.specs.Cores.{CoreView, next_number}
 use Rattle.xtc.specs.Book.{after_asked}
-use Rattle.xtc.specs.Commands.{Command, put, reads_input}
-use Rattle.xtc.specs.Documents.{asks_of, put_asks_of, end_by, end_of, reason_in, text_of}
+use Rattle.xtc.specs.Commands.{Command, run, put, get, reads_input}
+use Rattle.xtc.specs.Documents.{asks_of, put_asks_of, dump_asks, end_by, end_of, find_asks, label_in, reason_in, text_of}
 use Rattle.xtc.specs.Durable.{HoldState}
 use Rattle.xtc.specs.StoreMachine.{Stands}
-use Rattle.xtc.specs.TopCall.{AreFirst, DocumentRan, IsDocumentEnd, IsWithin, OpenAfterAsked, OpenAfter, Outcome, WroteWhole, slack, whole_limit}
+use Rattle.xtc.specs.TopCall.{AreFirst, DocumentRan, IsDocumentEnd, IsWhole, IsWithin, NeedsWhole, OpenAfterAsked, OpenAfter, Outcome, WroteWhole, slack, whole_limit}
 use Rattle.xtc.specs.declared.status.Status.{Status}
 use Rattle.xtc.specs.declared.status.Status.TheVariants.{Done, Usage, LineTooLong, Damaged, ReadFault, WriteFault, DiskFault, NoMemory, NotJsonMl, DocumentRefused}
-use Rattle.xtc.specs.inside.Asking.{AreValidAsks, after, said, HoldsFirst, LeavesFirst, AllAnswered, Stopped, StopsBy, AskedInTurn, DocumentWent, DocumentDone, HasText, IsReadElement, IsStop, IsUnwritten, IsWriteEnd}
+use Rattle.xtc.specs.inside.Asking.{AreValidAsks, AskNoCommit, after, said, HoldsFirst, LeavesFirst, AllAnswered, Stopped, StopsBy, AskedInTurn, DocumentWent, DocumentDone, HasText, IfJudged, InputDone, IsReadElement, IsStop, IsUnwritten, IsWriteEnd, WentAndJudged}
 use Rattle.xtc.specs.inside.Stores.{HoldsAll, HoldsEither, MayBeAsked}
 use Rattle.xtc.proofs.AskedLaws.{said_on, reason_stays, valid_first, asked_sound, opens_after_asked}
 use Rattle.xtc.proofs.AskingLaws.{image_holds}
 
 -- ---- by the status
 
+-- an answer that there is no element
+abbrev no_element : Status → Result Fragment Status
+no_element e = Err e
+
 none_first : (r : Result (List (Asked StoreCall)) FragmentError) → AreFirst [] r
 none_first (Ok asks) = (asks, refl)
 none_first (Err why) = refl
 
+-- what is asked, where the input is no error
+abbrev asks_in : Result (List (Asked StoreCall)) FragmentError → List (Asked StoreCall)
+asks_in (Ok asks) = asks
+asks_in (Err why) = []
+
+dump_no_commit : (label : Option Label) → AskNoCommit (dump_asks label)
+dump_no_commit None = tt
+dump_no_commit (Some at) = ((λ is. cc), ((λ is. cc), tt))
+
+-- a command that reads no input asks for no commit
+asks_no_commit : (c : Command) (s : State StoreCall) (read : List ℕ) (all : List (Asked StoreCall)) → asks_of c s read ≡ Ok all → reads_input (Some c) ≡ false → AskNoCommit all
+asks_no_commit run s read all is reads_none = absurd cc
+asks_no_commit (put name) s read all is reads_none = absurd cc
+asks_no_commit (get name) s read all is reads_none = subst AskNoCommit (ap asks_in is) ((λ it. cc), ((λ it. cc), dump_no_commit (label_in (said s (find_asks name)))))
+
 module _ (is_known : Bool) (s : State StoreCall) (c : Command) (read : List ℕ) where
   -- nothing was asked
-  pub nothing_asked : (old new : History) (status : Status) → new ≡ old → IsDocumentEnd c s read status [] → IsWithin status (length read) → DocumentWent is_known s c read old new status
-  nothing_asked old new status same end short = subst (λ (h : History). DocumentWent is_known s c read old h status) (sym same) (record {
+  pub nothing_asked : (journal : History) (status : Status) → IsDocumentEnd c s read status [] → IsWithin status (length read) → DocumentWent is_known s c read journal journal status
+  nothing_asked journal status end short = record {
     answered = [];
     more = [];
     first = none_first (asks_of c s read);
@@ -60,9 +82,16 @@ module _ (is_known : Bool) (s : State StoreCall) (c : Command) (read : List ℕ)
     stops = record { front = []; last = []; parts = refl; one = omega arith; unrefused = refl };
     end = end;
     short = short;
-    moments = λ known holds. started (HoldsFirst s []) old;
-    left = λ known holds image is. inl (image_holds s old holds image is);
-  })
+    moments = λ known holds. started (HoldsFirst s []) journal;
+    left = λ known holds image is. inl (image_holds s journal holds image is);
+    still = λ reads_none. refl;
+  }
+
+  -- nor judged
+  pub nothing_judged : (whole : Type 0) (journal : History) (status : Status) → IsDocumentEnd c s read status [] → IsWithin status (length read) → NeedsWhole status [] whole
+      → WentAndJudged is_known s c read whole journal journal status
+  unfolding nothing_asked
+  nothing_judged whole journal status end short judged = record { went = nothing_asked journal status end short; judged = judged }
 
   module _ (all : List (Asked StoreCall)) (is : asks_of c s read ≡ Ok all) (short : length read ≤ whole_limit) (old new : History) where
     few_by : (status : Status) (lines : List LineReply) (more : List (Asked StoreCall)) → StopsBy status lines more → length more ≤ 1 → length more ≤ slack status
@@ -96,7 +125,7 @@ module _ (is_known : Bool) (s : State StoreCall) (c : Command) (read : List ℕ)
     within_by : (status : Status) (lines : List LineReply) (more : List (Asked StoreCall)) → StopsBy status lines more → IsWithin status (length read)
     within_by (DocumentRefused why) lines more by = short
     within_by DiskFault lines more by = short
-    within_by NoMemory lines more by = tt
+    within_by NoMemory lines more by = omega (arith, short)
     within_by Done lines more by = absurd by
     within_by Usage lines more by = absurd by
     within_by (LineTooLong line) lines more by = absurd by
@@ -118,6 +147,7 @@ module _ (is_known : Bool) (s : State StoreCall) (c : Command) (read : List ℕ)
       short = within_by status (said s h.answered) h.more h.by;
       moments = h.moments;
       left = h.left;
+      still = λ reads_none. h.still (asks_no_commit c s read all is reads_none);
     }
 
     -- session 1 was answered to its end
@@ -136,6 +166,7 @@ module _ (is_known : Bool) (s : State StoreCall) (c : Command) (read : List ℕ)
             short = short;
             moments = subst (λ (l : List (Asked StoreCall)). LeavesFirst is_known s l old new) (sym whole) h.moments;
             left = λ known holds image is_image. inl (image_holds (after s all) new (h.leads.settled known holds) image is_image);
+            still = λ reads_none. h.still (asks_no_commit c s read all is reads_none);
           };
           shown = shown ∙ ap (text_of c) (h.replies ∙ ap (said s) (sym whole));
         }
@@ -153,6 +184,7 @@ module _ (is_known : Bool) (s : State StoreCall) (c : Command) (read : List ℕ)
     short = h.short;
     moments = h.moments;
     left = h.left;
+    still = h.still;
   }
 
 -- ---- the files
@@ -180,9 +212,9 @@ module _ (t : Tree) (n limit : ℕ) (formed : IsValidTree t) where
   -- a command over a store that was opened so, which wrote its text or nothing
   pub document_ran : (is_known : Bool) (c : Command) (o : Outcome) (journal pages : History) (status : Status) → IsTrue is_known → HoldsAll s journal → pages.now ≡ all_synced []
       → (went : DocumentWent is_known s c o.read journal o.new.journal status) → o.new.pages ≡ pages → IsImage o.new.journal.now o.new.journal.now.reads → IsImage o.new.pages.now o.new.pages.now.reads
-      → (reads_input (Some c) ≡ false → o.read ≡ []) → WroteWhole status o.before o.now (text_of c (said s (went.answered ++ went.more)))
-      → DocumentRan t n limit c status (pair_of journal pages) o
-  document_ran is_known c o journal pages status known settled empty went still of_journal of_pages unread wrote =
+      → (reads_input (Some c) ≡ false → o.read ≡ []) → (IsTrue (reads_input (Some c)) → NeedsWhole status (went.answered ++ went.more) (IsWhole o.left o.read))
+      → WroteWhole status o.before o.now (text_of c (said s (went.answered ++ went.more))) → DocumentRan t n limit c status (pair_of journal pages) o
+  document_ran is_known c o journal pages status known settled empty went still of_journal of_pages unread judged wrote =
       let asked : List (Asked StoreCall) = went.answered ++ went.more in
       let empty_now : o.new.pages.now ≡ all_synced [] = ap (λ (h : History). h.now) still ∙ empty in
       let Left : List ℕ → List ℕ → Type 0 = OpenAfterAsked t n limit (length went.answered) asked in
@@ -200,7 +232,9 @@ module _ (t : Tree) (n limit : ℕ) (formed : IsValidTree t) where
         sound = asked_sound t n limit formed asked went.valid;
         end = went.end;
         short = went.short;
+        whole = judged;
         unread = unread;
+        unwritten = went.still;
         wrote = wrote;
         any_moment = journal_phase (OpenAfterAsked t n limit 0 asked) (pair_of journal pages) o.new (record {
           leaves = weaker (HoldsFirst s asked) (λ j. (p : List ℕ) → IsImage pages.now p → OpenAfterAsked t n limit 0 asked j p) journal o.new.journal
@@ -238,13 +272,80 @@ pub not_had : (name : Name) (s : State StoreCall) (read : List ℕ) (status : St
 not_had name s read (NotJsonMl why) h = (ap (put_asks_of name) h.0, h.1)
 not_had name s read (LineTooLong line) h = ((h.0, refl), h.1)
 not_had name s read ReadFault h = ((refl, refl), h)
-not_had name s read NoMemory h = (tt, tt)
+not_had name s read NoMemory h = (tt, h)
 not_had name s read Done h = absurd h
 not_had name s read Usage h = absurd h
 not_had name s read (Damaged place) h = absurd h
 not_had name s read WriteFault h = absurd h
 not_had name s read DiskFault h = absurd h
 not_had name s read (DocumentRefused why) h = absurd h
+
+-- it was judged as a whole, if it was
+pub not_judged : (read : List ℕ) (left : Option (List ℕ)) (status : Status) → IsReadElement read (Err status) → IfJudged (no_element status) (IfSome left (λ rest. rest ≡ []))
+    → NeedsWhole status [] (IsWhole left read)
+not_judged read left (NotJsonMl why) h whole = (whole, h.1)
+not_judged read left (LineTooLong line) h whole = tt
+not_judged read left ReadFault h whole = tt
+not_judged read left NoMemory h whole = inl refl
+not_judged read left Done h whole = absurd h
+not_judged read left Usage h whole = absurd h
+not_judged read left (Damaged place) h whole = absurd h
+not_judged read left WriteFault h whole = absurd h
+not_judged read left DiskFault h whole = absurd h
+not_judged read left (DocumentRefused why) h whole = absurd h
+
+-- what may be read of an input
+pub read_within : (read : List ℕ) (r : Result Fragment Status) → IsReadElement read r → length read ≤ whole_limit + piece
+read_within read (Ok element) h = omega (arith, h.1)
+read_within read (Err (NotJsonMl why)) h = omega (arith, h.1)
+read_within read (Err (LineTooLong line)) h = h.1.most
+read_within read (Err ReadFault) h = omega (arith, h)
+read_within read (Err NoMemory) h = h
+read_within read (Err Done) h = absurd h
+read_within read (Err Usage) h = absurd h
+read_within read (Err (Damaged place)) h = absurd h
+read_within read (Err WriteFault) h = absurd h
+read_within read (Err DiskFault) h = absurd h
+read_within read (Err (DocumentRefused why)) h = absurd h
+
+-- ---- the whole input
+
+-- where it was read, all is said of it
+given_whole : (status : Status) (asked : List (Asked StoreCall)) (W : Type 0) → W → NeedsWhole status asked W
+given_whole Done asked W w = w
+given_whole Usage asked W w = w
+given_whole (LineTooLong line) asked W w = tt
+given_whole (Damaged place) asked W w = w
+given_whole ReadFault asked W w = tt
+given_whole WriteFault asked W w = w
+given_whole DiskFault asked W w = w
+given_whole NoMemory asked W w = inr w
+given_whole (NotJsonMl why) asked W w = w
+given_whole (DocumentRefused why) asked W w = w
+
+pub input_done : {T : Type 0} (r : Result T Status) (is_known : Bool) (s : State StoreCall) (c : Command) (read : List ℕ) (W : Type 0) (old new : History) (bytes : T → List ℕ)
+    → DocumentDone is_known s c read old new bytes r → W → InputDone is_known s c read W old new bytes r
+input_done (Ok text) is_known s c read W old new bytes done w = (done, w)
+input_done (Err status) is_known s c read W old new bytes went w = record { went = went; judged = given_whole status (went.answered ++ went.more) W w }
+
+pub input_err : {T : Type 0} (r : Result T Status) (status : Status) (is_known : Bool) (s : State StoreCall) (c : Command) (read : List ℕ) (W : Type 0) (old new : History) (bytes : T → List ℕ)
+    → IsErrAnd r (λ e. e ≡ status) → WentAndJudged is_known s c read W old new status → InputDone is_known s c read W old new bytes r
+input_err (Ok x) status is_known s c read W old new bytes none went = absurd none
+input_err (Err e) status is_known s c read W old new bytes is went = subst (WentAndJudged is_known s c read W old new) (sym is) went
+
+-- what was said of the one holds of the other
+judged_as : (status : Status) (asked : List (Asked StoreCall)) (V W : Type 0) → (V → W) → NeedsWhole status asked V → NeedsWhole status asked W
+judged_as Done asked V W to v = to v
+judged_as Usage asked V W to v = to v
+judged_as (LineTooLong line) asked V W to v = tt
+judged_as (Damaged place) asked V W to v = to v
+judged_as ReadFault asked V W to v = tt
+judged_as WriteFault asked V W to v = to v
+judged_as DiskFault asked V W to v = to v
+judged_as NoMemory asked V W to (inl none) = inl none
+judged_as NoMemory asked V W to (inr v) = inr (to v)
+judged_as (NotJsonMl why) asked V W to v = to v
+judged_as (DocumentRefused why) asked V W to v = to v
 
 -- ---- what is written
 
@@ -261,29 +362,31 @@ unwritten_is (NotJsonMl why) before now text is same = same
 unwritten_is (DocumentRefused why) before now text is same = same
 
 -- a command that went, with what it wrote
-pub record WentAndWrote (is_known : Bool) (s : State StoreCall) (c : Command) (read : List ℕ) (old new : History) (status : Status) (before now : Option (List ℕ)) : Type 0 where
+pub record WentAndWrote (is_known : Bool) (s : State StoreCall) (c : Command) (read : List ℕ) (whole : Type 0) (old new : History) (status : Status) (before now : Option (List ℕ)) : Type 0 where
   pub went : DocumentWent is_known s c read old new status
+  pub judged : NeedsWhole status (went.answered ++ went.more) whole
   pub wrote : WroteWhole status before now (text_of c (said s (went.answered ++ went.more)))
 
-module _ {T : Type 0} (is_known : Bool) (s : State StoreCall) (c : Command) (read : List ℕ) (old new : History) (bytes : T → List ℕ) (before now : Option (List ℕ)) where
-  text_written : (status : Status) (text : List ℕ) → HasText is_known s c read old new text → IsWriteEnd status → WroteWhole status before now text → WentAndWrote is_known s c read old new status before now
+module _ {T : Type 0} (is_known : Bool) (s : State StoreCall) (c : Command) (read : List ℕ) (W : Type 0) (old new : History) (bytes : T → List ℕ) (before now : Option (List ℕ)) where
+  text_written : (status : Status) (text : List ℕ) → HasText is_known s c read old new text → W → IsWriteEnd status → WroteWhole status before now text
+      → WentAndWrote is_known s c read W old new status before now
   unfolding write_failed
-  text_written Done text h is wrote = record { went = h.went; wrote = subst (Took before now) h.shown wrote }
-  text_written WriteFault text h is wrote = record { went = write_failed is_known s c read old new h.went; wrote = subst (TookPrefix before now) h.shown wrote }
-  text_written Usage text h is wrote = absurd is
-  text_written (LineTooLong line) text h is wrote = absurd is
-  text_written (Damaged place) text h is wrote = absurd is
-  text_written ReadFault text h is wrote = absurd is
-  text_written DiskFault text h is wrote = absurd is
-  text_written NoMemory text h is wrote = absurd is
-  text_written (NotJsonMl why) text h is wrote = absurd is
-  text_written (DocumentRefused why) text h is wrote = absurd is
+  text_written Done text h w is wrote = record { went = h.went; judged = w; wrote = subst (Took before now) h.shown wrote }
+  text_written WriteFault text h w is wrote = record { went = write_failed is_known s c read old new h.went; judged = w; wrote = subst (TookPrefix before now) h.shown wrote }
+  text_written Usage text h w is wrote = absurd is
+  text_written (LineTooLong line) text h w is wrote = absurd is
+  text_written (Damaged place) text h w is wrote = absurd is
+  text_written ReadFault text h w is wrote = absurd is
+  text_written DiskFault text h w is wrote = absurd is
+  text_written NoMemory text h w is wrote = absurd is
+  text_written (NotJsonMl why) text h w is wrote = absurd is
+  text_written (DocumentRefused why) text h w is wrote = absurd is
 
-  pub document_written : (r : Result T Status) (status : Status) → DocumentDone is_known s c read old new bytes r → IfErr r IsUnwritten
-      → IfOk r (λ text. IsWriteEnd status × WroteWhole status before now (bytes text)) → IfErr r (λ e. (status ≡ e) × (now ≡ before)) → WentAndWrote is_known s c read old new status before now
-  document_written (Ok text) status done unwritten written none = text_written status (bytes text) done written.0 written.1
-  document_written (Err e) status done unwritten written none = subst (λ (x : Status). WentAndWrote is_known s c read old new x before now) (sym none.0)
-      (record { went = done; wrote = unwritten_is e before now (text_of c (said s (done.answered ++ done.more))) unwritten none.1 })
+  pub document_written : (r : Result T Status) (status : Status) → InputDone is_known s c read W old new bytes r → IfErr r IsUnwritten
+      → IfOk r (λ text. IsWriteEnd status × WroteWhole status before now (bytes text)) → IfErr r (λ e. (status ≡ e) × (now ≡ before)) → WentAndWrote is_known s c read W old new status before now
+  document_written (Ok text) status done unwritten written none = text_written status (bytes text) done.0 done.1 written.0 written.1
+  document_written (Err e) status done unwritten written none = subst (λ (x : Status). WentAndWrote is_known s c read W old new x before now) (sym none.0)
+      (record { went = done.went; judged = done.judged; wrote = unwritten_is e before now (text_of c (said s (done.went.answered ++ done.went.more))) unwritten none.1 })
 
 -- ---- a core that was opened
 
@@ -303,11 +406,11 @@ may_begin base n limit core journal is stored takes = record {
 }
 
 -- memory was wanting for it
-pub not_opened : {T : Type 0} (r : Result T Status) (status : Status) (is_known : Bool) (s : State StoreCall) (c : Command) (read : List ℕ) (journal : History) (bytes : T → List ℕ) → status ≡ NoMemory → IsErrAnd r (λ e. e ≡ status)
+pub not_opened : {T : Type 0} (r : Result T Status) (status : Status) (is_known : Bool) (s : State StoreCall) (c : Command) (read : List ℕ) (journal : History) (bytes : T → List ℕ) → length read ≤ whole_limit → status ≡ NoMemory → IsErrAnd r (λ e. e ≡ status)
     → DocumentDone is_known s c read journal journal bytes r
-not_opened r status is_known s c read journal bytes no_memory is =
+not_opened r status is_known s c read journal bytes short no_memory is =
     done_err r status is_known s c read journal journal bytes is
-    (subst (DocumentWent is_known s c read journal journal) (sym no_memory) (nothing_asked is_known s c read journal journal NoMemory refl tt tt))
+    (subst (DocumentWent is_known s c read journal journal) (sym no_memory) (nothing_asked is_known s c read journal NoMemory tt (omega (arith, short))))
 
 -- a stop wrote nothing
 stop_unwritten : (status : Status) → IsStop status → IsUnwritten status
@@ -328,9 +431,12 @@ stops_unwritten (Err e) is = stop_unwritten e is
 
 -- ---- the whole command
 
-pub document_finished : (t : Tree) (n limit : ℕ) (formed : IsValidTree t) (is_known : Bool) (c : Command) (o : Outcome) (journal pages mid : History) (status : Status) → IsTrue is_known → HoldsAll (start t n limit) journal → pages.now ≡ all_synced []
-    → WentAndWrote is_known (start t n limit) c o.read journal mid status o.before o.now → o.new.journal ≡ mid → o.new.pages ≡ pages → IsImage o.new.journal.now o.new.journal.now.reads → IsImage o.new.pages.now o.new.pages.now.reads
-    → (reads_input (Some c) ≡ false → o.read ≡ []) → DocumentRan t n limit c status (pair_of journal pages) o
-document_finished t n limit formed is_known c o journal pages mid status known settled empty wrote same still of_journal of_pages unread =
-    let all : WentAndWrote is_known (start t n limit) c o.read journal o.new.journal status o.before o.now = subst (λ (h : History). WentAndWrote is_known (start t n limit) c o.read journal h status o.before o.now) (sym same) wrote in
-    document_ran t n limit formed is_known c o journal pages status known settled empty all.went still of_journal of_pages unread all.wrote
+pub document_finished : (t : Tree) (n limit : ℕ) (formed : IsValidTree t) (is_known : Bool) (c : Command) (o : Outcome) (W : Type 0) (journal pages mid : History) (status : Status) → IsTrue is_known → HoldsAll (start t n limit) journal
+    → pages.now ≡ all_synced [] → WentAndWrote is_known (start t n limit) c o.read W journal mid status o.before o.now → o.new.journal ≡ mid → o.new.pages ≡ pages
+    → IsImage o.new.journal.now o.new.journal.now.reads → IsImage o.new.pages.now o.new.pages.now.reads → (reads_input (Some c) ≡ false → o.read ≡ []) → (IsTrue (reads_input (Some c)) → W → IsWhole o.left o.read)
+    → DocumentRan t n limit c status (pair_of journal pages) o
+document_finished t n limit formed is_known c o W journal pages mid status known settled empty wrote same still of_journal of_pages unread whole =
+    let all : WentAndWrote is_known (start t n limit) c o.read W journal o.new.journal status o.before o.now
+    = subst (λ (h : History). WentAndWrote is_known (start t n limit) c o.read W journal h status o.before o.now) (sym same) wrote in
+    document_ran t n limit formed is_known c o journal pages status known settled empty all.went still of_journal of_pages unread
+    (λ reads. judged_as status (all.went.answered ++ all.went.more) W (IsWhole o.left o.read) (whole reads) all.judged) all.wrote

@@ -5,6 +5,7 @@ pub mod CommitCounts
 pub mod CommitLaws
 pub mod DocumentLaws
 pub mod LineLaws
+pub mod LiveLaws
 pub mod OnTreeLaws
 pub mod OpeningLaws
 pub mod ReasonLaws

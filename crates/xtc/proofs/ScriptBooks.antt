@@ -33,6 +33,7 @@ use Rattle.xtc.specs.ScriptLine.{Line, nothing, bad, asked, line_of}
 use Rattle.xtc.specs.StoreMachine.{store_machine}
 use Rattle.xtc.specs.TopCall.{OpenAfter, IsSound}
 use Rattle.xtc.proofs.CommitCounts.{commits_counted}
+use Rattle.xtc.proofs.LiveLaws.{live_stand}
 
 -- ---- what a store's machine does and answers
 
@@ -138,6 +139,7 @@ module _ (t : Tree) (n limit : ℕ) (formed : IsValidTree t) (lines : List (List
   script_sound = record {
     legal = legal;
     serial = serial_is;
+    live = λ before behind is. live_stand t n limit script.book before behind legal is;
     deadlocks = λ before e behind is cycle shown answered. deadlock_shown store_meaning t n limit before e cycle answered shown;
     aborts = abort_leaves;
     state = state_of_book;

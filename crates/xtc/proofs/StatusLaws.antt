@@ -29,6 +29,25 @@ unopened_silent command (error.Damaged place) P p = p
 unopened_silent command error.DiskFault P p = tt
 unopened_silent command error.NoMemory P p = tt
 
+-- it is no end
+pub unopened_not_done : (fault : OpenError) → status_of fault ≡ Done → ⊥
+unopened_not_done (error.Damaged place) is = cc
+unopened_not_done error.DiskFault is = cc
+unopened_not_done error.NoMemory is = cc
+
+-- and nothing was read
+pub nothing_read : (status : Status) (left left_now : Option (List ℕ)) (given given_now : ℕ) → left_now ≡ left → given_now ≡ given → IsUnread status ((left_now ≡ left) × (given_now ≡ given))
+nothing_read Done left left_now given given_now source count = tt
+nothing_read Usage left left_now given given_now source count = (source, count)
+nothing_read (LineTooLong line) left left_now given given_now source count = tt
+nothing_read (Damaged place) left left_now given given_now source count = (source, count)
+nothing_read ReadFault left left_now given given_now source count = tt
+nothing_read WriteFault left left_now given given_now source count = tt
+nothing_read DiskFault left left_now given given_now source count = tt
+nothing_read NoMemory left left_now given given_now source count = tt
+nothing_read (NotJsonMl why) left left_now given given_now source count = tt
+nothing_read (DocumentRefused why) left left_now given given_now source count = tt
+
 -- ---- a script that ran
 
 -- its status asks for no silence

@@ -1,5 +1,7 @@
--- The numbers that the program ends with (docs/MANUAL.md, "Statuses").
-use Rattle.std.specs.Prelude.{ℕ}
+-- The numbers that the program ends with, and what it prints of a status (docs/MANUAL.md, "Statuses").
+use Rattle.std.specs.Prelude.{ℕ, List, [], ◌++◌, codes, decimal}
+use Rattle.node_records.specs.declared.open_error.File.{File}
+use Rattle.node_records.specs.declared.open_error.File.TheVariants as file
 use Rattle.node_records.specs.declared.open_error.OpenError.{OpenError}
 use Rattle.node_records.specs.declared.open_error.OpenError.TheVariants as error
 use Rattle.jsonml_io.specs.declared.fragment_error.FragmentError.{FragmentError}
@@ -25,6 +27,25 @@ status_number DiskFault = 7
 status_number NoMemory = 8
 status_number (NotJsonMl why) = 9
 status_number (DocumentRefused why) = 10
+
+-- what a status calls the file of a place
+abbrev pub file_text : File → List ℕ
+file_text file.Journal = codes "journal"
+file_text file.Pages = codes "pages"
+file_text file.Tree = codes "tree"
+
+-- what is printed on standard error
+abbrev pub status_text : Status → List ℕ
+status_text Done = []
+status_text Usage = codes "xtc: usage"
+status_text (LineTooLong line) = codes "xtc: line " ++ decimal line ++ codes " is too long"
+status_text (Damaged place) = codes "xtc: damaged " ++ file_text place.file ++ codes " at " ++ decimal place.at
+status_text ReadFault = codes "xtc: input failed"
+status_text WriteFault = codes "xtc: output failed"
+status_text DiskFault = codes "xtc: disk failed"
+status_text NoMemory = codes "xtc: no memory"
+status_text (NotJsonMl why) = codes "xtc: not JsonML"
+status_text (DocumentRefused why) = codes "xtc: refused"
 
 -- the status of a store that isn't opened
 abbrev pub status_of : OpenError → Status

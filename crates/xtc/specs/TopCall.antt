@@ -1,14 +1,17 @@
 -- What a run of the program leaves, by its status (docs/MANUAL.md, "Statuses").
-use Rattle.std.specs.Prelude.{◌≡◌, ◌<◌, ◌≤◌, ◌⊎◌, ℕ, ◌+◌, List, [], ◌∷◌, ◌++◌, length, take, false, IsTrue, Option, Some, None, Result, Ok, Err}
+use Rattle.std.specs.Prelude.{◌≡◌, ◌≤◌, ◌⊎◌, ℕ, ◌+◌, List, [], ◌∷◌, ◌++◌, length, take, false, IsTrue, Option, Some, None, Result, Ok, Err, IfSome}
+use Rattle.outside_kinds.specs.Bounds.{input_limit}
 use Rattle.outside_traits.specs.Bytes.{Took, TookPrefix}
 use Rattle.outside_traits.specs.DiskPairs.{Pair, PairsHave, PairsLeave}
 use Rattle.tree_model.specs.Tree.{Tree}
 use Rattle.recovery.specs.Trees.{StandFor, StoodFor, LeaveWhatStood}
 use Rattle.script_runs.specs.Lines.{ended, lines_of, first_long, AllShort, line_limit}
 use Rattle.script_runs.specs.Runs.{AskedLines, TookAtLeast}
+use Rattle.script_runs.specs.Whole.{IsPast, piece}
 use Rattle.call_contract.specs.Books.{Book, IsBookFrom, IsSerial, commits, last}
 use Rattle.call_contract.specs.Deadlocks.{DeadlockIsTrue}
 use Rattle.call_contract.specs.Ends.{LeavesAllElse}
+use Rattle.call_contract.specs.Lives.{RepliesStand}
 use Rattle.call_contract.specs.SerialRuns.{serial}
 use Rattle.call_contract.specs.States.{State, start}
 use Rattle.call_contract.specs.declared.events.Event.TheVariants.{Abort}
@@ -57,10 +60,12 @@ pub record OpenAfterLines (t : Tree) (n limit : ℕ) (least : ℕ) (lines : List
 
 -- What holds of the book of a script from this tree, number and limit, and of the state after it.
 -- It is legal; its committed transactions, run one after another by one thread on a plain tree, give the replies that were given, and the committed tree;
+-- at each moment what the live ones were answered, those that abort later among them, is what they would be answered on the committed tree of that moment;
 -- a deadlock shows a true cycle; an aborted transaction leaves all else; and no session waits whose call would be answered.
 pub record IsSound (t : Tree) (n limit : ℕ) (script : Progress StoreCall) : Type 0 where
   pub legal : IsBookFrom IsValidStoreCall store_meaning t n limit script.book
   pub serial : IsSerial store_meaning t n limit script.book
+  pub live : (before behind : Book StoreCall) → script.book ≡ before ++ behind → RepliesStand store_meaning (last store_meaning (start t n limit) before)
   pub deadlocks : (before : Book StoreCall) (e : Noted StoreCall) (behind : Book StoreCall) → script.book ≡ before ++ e ∷ behind
       → DeadlockIsTrue store_meaning (last store_meaning (start t n limit) before) e
   pub aborts : (before : Book StoreCall) (e : Noted StoreCall) (behind : Book StoreCall) → script.book ≡ before ++ e ∷ behind → e.event ≡ Abort
@@ -151,11 +156,22 @@ pub record StopsAtRefusal (st : State StoreCall) (asked : List (Asked StoreCall)
   pub one : length last ≤ 1
   pub unrefused : reason_in (after_asked st front).lines ≡ None
 
--- so many bytes were read: more than an input may have at that status alone
+-- so many bytes were read: more than an input may have at that status alone, or where memory was wanting for them
 abbrev pub IsWithin : Status → ℕ → Type 0
-IsWithin (LineTooLong line) count = whole_limit < count
-IsWithin NoMemory count = Unit {0}
+IsWithin (LineTooLong line) count = IsPast whole_limit count
+IsWithin NoMemory count = count ≤ whole_limit + piece
 IsWithin status count = count ≤ whole_limit
+
+-- the input was read to its end, within its limit: what was read is all of it
+abbrev pub IsWhole : Option (List ℕ) → List ℕ → Type 0
+IsWhole left read = IfSome left (λ rest. rest ≡ []) × (length read ≤ whole_limit)
+
+-- what needs the whole input: each status that judges it, and all that was asked of the store
+abbrev pub NeedsWhole : Status → List (Asked StoreCall) → Type 0 → Type 0
+NeedsWhole (LineTooLong line) asked P = Unit {0}
+NeedsWhole ReadFault asked P = Unit {0}
+NeedsWhole NoMemory asked P = (asked ≡ []) ⊎ P
+NeedsWhole status asked P = P
 
 -- the text is written at the end, and nothing at any other status but a write fault
 abbrev pub WroteWhole : Status → Option (List ℕ) → Option (List ℕ) → List ℕ → Type 0
@@ -175,7 +191,10 @@ pub record DocumentRan (t : Tree) (n limit : ℕ) (c : Command) (status : Status
   pub sound : IsSound t n limit (after_asked (start t n limit) asked)
   pub end : IsDocumentEnd c (start t n limit) o.read status asked
   pub short : IsWithin status (length o.read)
+  -- `put` judges its whole input and commits nothing but that; `get` reads none, and leaves the journal
+  pub whole : IsTrue (reads_input (Some c)) → NeedsWhole status asked (IsWhole o.left o.read)
   pub unread : reads_input (Some c) ≡ false → o.read ≡ []
+  pub unwritten : reads_input (Some c) ≡ false → o.new.journal ≡ opening.journal
   pub wrote : WroteWhole status o.before o.now (text_of c (after_asked (start t n limit) asked).lines)
   -- a crash at any moment since the opening, a crash now, and the files as they read
   pub any_moment : PairsLeave (OpenAfterAsked t n limit 0 asked) opening o.new
@@ -222,6 +241,12 @@ abbrev pub IsUnread : Status → Type 0 → Type 0
 IsUnread Usage P = P
 IsUnread (Damaged place) P = P
 IsUnread status P = Unit {0}
+
+-- what a run took of its input, of so many bytes given: all of it at the end of a command that reads one, nothing where no store was opened
+pub record TookInput (command : Option Command) (status : Status) (left left_now : Option (List ℕ)) (given given_now : ℕ) : Type 0 where
+  pub whole : IsTrue (reads_input command) → status ≡ Done → IfSome left_now (λ rest. rest ≡ [])
+  pub unread : IsUnread status ((left_now ≡ left) × (given_now ≡ given))
+  pub bound : given_now ≤ given + input_limit
 
 -- so it is in a command of one document
 abbrev pub OfDocument : Option Command → Type 0 → Type 0

@@ -8,6 +8,7 @@ ghost use Rattle.tree_model.specs.Tree.{Tree};
 ghost use Rattle.node_seq.specs.Trees.{StandsFor};
 ghost use Rattle.recovery.specs.Openings.{TakesBehind};
 ghost use Rattle.script_runs.specs.Counts.{CountedWhere};
+ghost use Rattle.script_runs.specs.Whole.{piece};
 ghost use Rattle.call_contract.specs.States.{State, start};
 ghost use Rattle.command_lines.specs.declared.command.StoreCall.{StoreCall};
 ghost use Rattle.command_lines.specs.ValidCommands.{IsValidWhat};
@@ -20,8 +21,8 @@ ghost use Rattle.jsonml_io.specs.declared.fragment_error.FragmentError.TheVarian
 ghost use Rattle.xtc.specs.Commands.{put as put_command, get as get_command};
 ghost use Rattle.xtc.specs.Documents.{element_in, find_asks, dump_asks, put_asks, label_in, reason_in, tree_in, tree_line};
 ghost use Rattle.xtc.specs.StoreMachine.{Stands};
-ghost use Rattle.xtc.specs.TopCall.{WroteWhole, tx_limit, whole_limit};
-ghost use Rattle.xtc.specs.inside.Asking.{all_asks, AreValidAsks, AskedInTurn, DocumentDone, IsReadElement, IsStop, IsUnwritten, IsWriteEnd};
+ghost use Rattle.xtc.specs.TopCall.{IsWhole, WroteWhole, tx_limit, whole_limit};
+ghost use Rattle.xtc.specs.inside.Asking.{all_asks, AreValidAsks, AskedInTurn, DocumentDone, IfJudged, InputDone, IsReadElement, IsStop, IsUnwritten, IsWriteEnd};
 ghost use Rattle.xtc.specs.inside.CommandRuns.{Input, RunsCommand};
 ghost use Rattle.xtc.specs.inside.Stores.{MayBeAsked, Counts};
 
@@ -133,8 +134,9 @@ fn put_input<S: Source, J: Disk>(
     requires tree { IsStoredTree base }
     requires next { TakesBehind journal.old number }
     ensures done { (read : List ℕ) × Gave (S.left source.old) (S.left source.new) read × (S.given source.new ≡ S.given source.old + length read)
-        × ((t : Tree) → StandsFor (Some base) t
-        → DocumentDone J.is_known (start t number tx_limit) (put_command name.now) read journal.old.history journal.new.history (λ text. text.items) result) }
+        × (length read ≤ whole_limit + piece) × ((t : Tree) → StandsFor (Some base) t
+        → InputDone J.is_known (start t number tx_limit) (put_command name.now) read (IsWhole (S.left source.new) read)
+        journal.old.history journal.new.history (λ text. text.items) result) }
     ensures whole { OnOk result (IfSome (S.left source.new) (λ rest. rest ≡ [])) }
     ensures unwritten { IfErr result IsUnwritten }
     ensures read { CountedWhere (result ≡ Err Status.ReadFault) (S.faults source.old) (S.faults source.new) }
@@ -204,7 +206,7 @@ fn read_element<S: Source>(alloc: Global, source: &mut S) -> Result<Fragment, St
     ensures read { (read : List ℕ) × Gave (S.left source.old) (S.left source.new) read
         × (S.given source.new ≡ S.given source.old + length read) × IsReadElement read result }
     ensures valid { IfOk result (λ element. IsValid (plain element)) }
-    ensures whole { OnOk result (IfSome (S.left source.new) (λ rest. rest ≡ [])) }
+    ensures whole { IfJudged result (IfSome (S.left source.new) (λ rest. rest ≡ [])) }
     ensures cause { CountedWhere (result ≡ Err Status.ReadFault) (S.faults source.old) (S.faults source.new) }
 {
     let input = gather(alloc, WHOLE_LIMIT, source)?;

@@ -14,6 +14,6 @@ mod status;
 mod store;
 mod top_call;
 
-pub use laws::put_is_create;
+pub use laws::{get_is_dump, put_is_create};
 pub use status::{Reason, Status};
 pub use top_call::{Finish, xtc};

@@ -1,6 +1,6 @@
 // The statuses that the program ends with, with their numbers and texts.
 ghost use Rattle.std.specs.Prelude.{◌≡◌};
-ghost use Rattle.xtc.specs.Statuses.{status_number, status_of, status_of_end, status_of_gathering, status_of_fragment, status_of_halt};
+ghost use Rattle.xtc.specs.Statuses.{file_text, status_number, status_of, status_of_end, status_of_gathering, status_of_fragment, status_of_halt};
 
 use crate::halt::Halt as StoreHalt;
 use dewey_labels::NoMemory as WantsMemory;
@@ -142,7 +142,9 @@ impl From<WantsMemory> for Status {
 }
 
 /// What a status calls the file of a place.
-fn file_name(file: File) -> &'static str {
+fn file_name(file: File) -> &'static str
+    ensures { result.now ≡ file_text file }
+{
     match file {
         File::Journal => "journal",
         File::Pages => "pages",
@@ -152,6 +154,11 @@ fn file_name(file: File) -> &'static str {
 
 /// What the program prints of the status on standard error; nothing at `Done`.
 impl Display for Status {
+    ghost use Rattle.std.specs.Prelude.{Some};
+    ghost use Rattle.xtc.specs.Statuses.{status_text};
+
+    ghost output = { λ status. Some (status_text status) };
+
     fn fmt<W: Write>(&self, f: &mut Formatter<W>) -> fmt::Result {
         match self {
             Status::Done => Ok(()),

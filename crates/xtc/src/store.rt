@@ -1,5 +1,5 @@
 // A store's sessions over its two disks, as a machine that does the lines of a script.
-ghost use Rattle.std.specs.Prelude.{◌≡◌, ◌<◌, ◌++◌, ◌∷◌, [], length, Some, Err, OnOk, vec_capacity};
+ghost use Rattle.std.specs.Prelude.{◌≡◌, ◌≢◌, ◌<◌, ◌++◌, ◌∷◌, [], length, Some, Err, OnOk, vec_capacity};
 ghost use Rattle.call_contract.specs.States.{State};
 ghost use Rattle.command_lines.specs.Replies.{reply_text};
 ghost use Rattle.command_lines.specs.declared.command.StoreCall.{StoreCall};
@@ -148,6 +148,7 @@ pub fn answer<J: Disk>(
     ensures takes { OnOk result (TakesNext core.new journal.new) }
     ensures any_moment { (s : State StoreCall) → Stands core.old s
         → LeavesEither J.is_known journal.old.history journal.new.history s (asked_from s session doing).state }
+    ensures still { doing ≢ Commit → journal.new ≡ journal.old }
     ensures unmade { result ≡ Err Halt.DiskFault → core.new.book ≡ core.old.book }
     ensures counts { Counts (result ≡ Err Halt.DiskFault) journal.old.faults journal.new.faults }
 {

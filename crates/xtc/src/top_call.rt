@@ -1,5 +1,5 @@
 // The program's one call: it tests the words, opens the store, and runs the script of the source over it.
-ghost use Rattle.std.specs.Prelude.{◌≡◌, ◌↔◌, ◌+◌, ℕ, List, [], ◌-◌, length, IsTrue, IfSome, None};
+ghost use Rattle.std.specs.Prelude.{◌≡◌, ◌↔◌, ◌+◌, ℕ, List, ◌-◌, length, IsTrue, None};
 ghost use Rattle.outside_traits.specs.Bytes.{Gave};
 ghost use Rattle.outside_traits.specs.CrashImages.{IsImage};
 ghost use Rattle.outside_traits.specs.DiskPairs.{pair_of};
@@ -8,8 +8,8 @@ ghost use Rattle.node_records.specs.declared.open_error.Place.{Place};
 ghost use Rattle.recovery.specs.Openings.{FoundDamaged, TakesBehind};
 ghost use Rattle.script_runs.specs.Counts.{CountedWhere, DisksCountedWhere, ReadCountedWhere};
 ghost use Rattle.outside_kinds.specs.Bounds.{input_limit};
-ghost use Rattle.xtc.specs.Commands.{command_of, meant, reads_input, run};
-ghost use Rattle.xtc.specs.TopCall.{Leaves, IsSilent, IsUnread, tx_limit};
+ghost use Rattle.xtc.specs.Commands.{command_of, meant, run};
+ghost use Rattle.xtc.specs.TopCall.{Leaves, IsSilent, TookInput, tx_limit};
 ghost use Rattle.xtc.specs.inside.CommandRuns.{RunsCommand};
 
 use crate::command::{Command, command_of};
@@ -54,9 +54,10 @@ pub fn xtc<S: Source, K: Sink, J: Disk + Send, P: Disk + Send>(
           old = pair_of (J.history journal) (P.history pages);
           new = pair_of (J.history result.journal) (P.history result.pages);
         })) }
-    ensures whole { IsTrue (reads_input (command_of words.now.items)) → result.status ≡ Status.Done → IfSome (S.left source.new) (λ rest. rest ≡ []) }
+    // The most that is read of the input, by the status, and when nothing is written.
+    ensures input { TookInput (command_of words.now.items) result.status
+        (S.left source.old) (S.left source.new) (S.given source.old) (S.given source.new) }
     ensures silent { IsSilent (command_of words.now.items) result.status (K.held sink.new ≡ K.held sink.old) }
-    ensures unread { IsUnread result.status ((S.left source.new ≡ S.left source.old) × (S.given source.new ≡ S.given source.old)) }
 
     // Damaged files are synced, and as they were.
     ensures damaged { (place : Place) → result.status ≡ Status.Damaged place → IsTrue J.is_known → IsTrue P.is_known

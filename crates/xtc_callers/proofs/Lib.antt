@@ -1,1 +1,2 @@
+pub mod NewDocumentLaws
 pub mod NewStoreLaws

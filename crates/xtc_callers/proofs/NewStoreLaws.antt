@@ -39,14 +39,27 @@ abbrev entries_read : Result Contents Place → Entries
 entries_read (Ok contents) = contents.entries
 entries_read (Err place) = []
 
+-- two files stand for one tree
+pub one_tree : (journal pages : List ℕ) (t u : Tree) (n k : ℕ) → StandFor journal pages t n → StandFor journal pages u k → t ≡ u
+one_tree journal pages t u n k one other =
+    let same : Ok (record { entries = map_of t; number = n }) ≡ Ok (record { entries = map_of u; number = k }) = sym one.opens ∙ other.opens in
+    same_tree t u one.is_valid_tree other.is_valid_tree (ap entries_read same)
+
 -- two empty files stand for no other tree and number
-alone : StandFor [] [] empty_tree 0 → (t : Tree) (n : ℕ) → StandFor [] [] t n → (t ≡ empty_tree) × (n ≡ 0)
+pub alone : StandFor [] [] empty_tree 0 → (t : Tree) (n : ℕ) → StandFor [] [] t n → (t ≡ empty_tree) × (n ≡ 0)
 alone empty t n stand =
     let same : Ok (record { entries = map_of t; number = n }) ≡ Ok (record { entries = map_of empty_tree; number = 0 }) = sym stand.opens ∙ empty.opens in
     (same_tree t empty_tree stand.is_valid_tree empty.is_valid_tree (ap entries_read same), ap number_read same)
 
+-- what stood for two empty files at the start stands for the empty tree
+pub stands_unopened : StandFor [] [] empty_tree 0 → (old : Pair) → old.journal.now ≡ all_synced [] → old.pages.now ≡ all_synced [] → (journal pages : List ℕ) → StoodFor old journal pages → StandFor journal pages empty_tree 0
+stands_unopened empty old old_journal old_pages journal pages stood =
+    let then_journal : stood.journal_then ≡ [] = image-all_synced [] stood.journal_then (subst (λ (s : DiskState). IsImage s stood.journal_then) old_journal stood.of_journal) in
+    let then_pages : stood.pages_then ≡ [] = image-all_synced [] stood.pages_then (subst (λ (s : DiskState). IsImage s stood.pages_then) old_pages stood.of_pages) in
+    record { is_valid_tree = empty.is_valid_tree; opens = stood.same ∙ (λ i. contents_of_files (then_journal i) (then_pages i)) ∙ empty.opens }
+
 -- a whole input was read
-all_read : (script read : List ℕ) (left : Option (List ℕ)) → Gave (Some script) left read → IfSome left (λ rest. rest ≡ []) → read ≡ script
+pub all_read : (script read : List ℕ) (left : Option (List ℕ)) → Gave (Some script) left read → IfSome left (λ rest. rest ≡ []) → read ≡ script
 all_read script read (Some rest) gave none = sym (same_Some _ _ gave ∙ ap (λ (l : List ℕ). read ++ l) none ∙ append-nil read)
 all_read script read None gave none = cc
 
@@ -124,7 +137,7 @@ first_lines script read left lines gave (inr whole) = ([], ap lines_of (sym (all
 
 -- over a sink that was empty
 module _ (o : Outcome) (text : List ℕ) (before : o.before ≡ Some []) (now : o.now ≡ Some text) where
-  took_all : (all : List ℕ) → Took o.before o.now all → text ≡ all
+  pub took_all : (all : List ℕ) → Took o.before o.now all → text ≡ all
   took_all all took = same_Some _ _ (sym now ∙ took ∙ ap (λ (held : Option (List ℕ)). option_map (λ bytes. bytes ++ all) held) before)
 
   -- what of the text isn't written
@@ -186,13 +199,12 @@ module _ (o : Outcome) (text : List ℕ) (before : o.before ≡ Some []) (now : 
   unopened_begun empty status script none old_journal old_pages of_journal of_pages leaves =
       let held : (journal pages : List ℕ) → StoodFor o.old journal pages → OpenAfterLines empty_tree 0 tx_limit 0 [] journal pages
       = λ journal pages stood.
-      let then_journal : stood.journal_then ≡ [] = image-all_synced [] stood.journal_then (subst (λ (s : DiskState). IsImage s stood.journal_then) old_journal stood.of_journal) in
-      let then_pages : stood.pages_then ≡ [] = image-all_synced [] stood.pages_then (subst (λ (s : DiskState). IsImage s stood.pages_then) old_pages stood.of_pages) in
+      let stands = stands_unopened empty o.old old_journal old_pages journal pages stood in
       record {
         count = 0;
         enough = omega arith;
         within = omega arith;
-        opens = record { is_valid_tree = empty.is_valid_tree; opens = stood.same ∙ (λ i. contents_of_files (then_journal i) (then_pages i)) ∙ empty.opens };
+        opens = record { is_valid_tree = stands.is_valid_tree; opens = stands.opens };
       } in
       record {
         lines = [];

@@ -1,1 +1,2 @@
+pub mod NewDocuments
 pub mod NewStores

@@ -1,6 +1,8 @@
-//! A caller of the library's call `xtc` that is proved by its clauses alone: a whole script over a new store in memory.
+//! Callers of the library's call `xtc` that are proved by its clauses alone: over a new store in memory a whole script, a document that is put, and the same got.
 #![tactic(auto)]
 
+mod new_document;
 mod new_store;
 
+pub use new_document::{PutAndGot, put_and_get, put_into_new_store};
 pub use new_store::{MemRun, run_new_store};

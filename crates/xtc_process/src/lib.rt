@@ -1,16 +1,18 @@
 //! The process around the library's call `xtc`: the words after its name, standard input and standard output, and the store's two files in the working folder, handed to that call.
-//! It ends with the number of the status (clause of `Status::number`) and prints the status's text on standard error. Where it doesn't get the files it ends with 11.
+//! It ends with the number of the status and prints the status's text on standard error (clauses of `ended`, and of `Display` of `Status`). Where it doesn't get the files it ends with 11.
 //! All that it answers is the library's; the real files are trusted to keep, and the streams to hand over, the bytes that they are given.
 #![tactic(auto)]
 
-mod store_files;
+ghost use Rattle.std.specs.Prelude.{◌≡◌};
+ghost use Rattle.std.specs.Process.{exit_status};
+ghost use Rattle.xtc.specs.Statuses.{status_number};
 
-use crate::store_files::{JournalKind, PagesKind, StoreFile, StoreFiles};
-use outside_kinds::{StdSink, StdSource};
+use outside_kinds::{FileDisk, StdSink, StdSource};
 use std::alloc::Global;
 use std::env::Env;
 use std::process::ExitCode;
 use std::{env, io};
+use store_files::{JournalKind, PagesKind, StoreFile, StoreFiles};
 use xtc::{Finish, Status, xtc};
 
 /// What the program ends with where it doesn't get the store's files.
@@ -19,8 +21,7 @@ const NOT_AVAILABLE: u8 = 11;
 /// Runs the program's words on the store of the working folder.
 pub fn run_process(rt: &HostRuntime) -> ExitCode {
     let Ok(StoreFiles { journal, pages }) = StoreFiles::open(rt) else {
-        let _ = eprintln!(rt; "xtc: store is not available");
-        return ExitCode::from(NOT_AVAILABLE);
+        return not_available(rt);
     };
     let words = match words(rt) {
         Ok(words) => words,
@@ -29,7 +30,7 @@ pub fn run_process(rt: &HostRuntime) -> ExitCode {
     let mut source = StdSource::new(rt.stdin());
     let mut sink = StdSink::new(rt.stdout());
     // It has the journal, and with it the lock, up to the end.
-    let finish: Finish<StoreFile<JournalKind>, StoreFile<PagesKind>> = xtc(
+    let finish: Finish<StoreFile<FileDisk, JournalKind>, StoreFile<FileDisk, PagesKind>> = xtc(
         rt.alloc(),
         &words,
         &mut source,
@@ -40,8 +41,18 @@ pub fn run_process(rt: &HostRuntime) -> ExitCode {
     ended(rt, finish.status)
 }
 
+/// Tells that the store's files aren't to be had.
+fn not_available<R: Eprint>(rt: &R) -> ExitCode
+    ensures { exit_status result ≡ 11 }
+{
+    let _ = eprintln!(rt; "xtc: store is not available");
+    ExitCode::from(NOT_AVAILABLE)
+}
+
 /// Tells the status on standard error. Its number tells it too, so a failed write here loses nothing.
-fn ended<R: Eprint>(rt: &R, status: Status) -> ExitCode {
+fn ended<R: Eprint>(rt: &R, status: Status) -> ExitCode
+    ensures { exit_status result ≡ status_number status }
+{
     if status.number() != 0 {
         let _ = eprintln!(rt; "{status}");
     }

@@ -153,6 +153,15 @@ const ENDS: &[Case<'static>] = &[
         status: "9 TextLimit at /1/k",
         ..PUT
     },
+    // An input of several pieces is judged once it is whole, whatever its first piece is.
+    Case {
+        input: "[\"a\"]@65531  @x",
+        journal: SIXTY,
+        piece: 65_536,
+        status: "9 NotJson at ",
+        now: Some(SIXTY),
+        ..PUT
+    },
     // The words are tested first, then the store is opened, then the input is read.
     Case {
         words: "put -x",
@@ -238,6 +247,15 @@ const ROUND_TRIPS: &[Case<'static>] = &[
         text: "\"1.1001\"\n",
         now: None,
         then: "0 [\"a\",\"\u{e9}\\n\"]\n",
+        ..PUT
+    },
+    // An input of 100,000 bytes, of which the first piece is no JSON.
+    Case {
+        input: r#"["a","@99992 x@"]"#,
+        piece: 65_536,
+        text: "\"1.1001\"\n",
+        now: None,
+        then: "0 [\"a\",\"@99992 x@\"]\n",
         ..PUT
     },
     // The deepest level and the longest text.

@@ -7,6 +7,8 @@ mod documents;
 #[cfg(test)]
 mod in_pieces;
 #[cfg(test)]
+mod real_files;
+#[cfg(test)]
 mod sessions;
 #[cfg(test)]
 mod tests;

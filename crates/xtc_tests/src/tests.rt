@@ -74,7 +74,7 @@ fn ended(alloc: Global, status: &Status) -> Result<String, AllocError> {
 }
 
 /// How a run ended, and then what it has written.
-fn told(alloc: Global, status: &Status, text: &[u8]) -> Result<Vec<u8>, AllocError> {
+pub fn told(alloc: Global, status: &Status, text: &[u8]) -> Result<Vec<u8>, AllocError> {
     let mut told = ended(alloc, status)?.into_bytes();
     told.extend_from_slice(text)?;
     Ok(told)
@@ -98,7 +98,7 @@ pub fn written_out(alloc: Global, text: &str) -> Result<String, AllocError> {
     Ok(out)
 }
 
-fn listed<T: Copy>(alloc: Global, items: &[T]) -> Result<List<T>, AllocError> {
+pub fn listed<T: Copy>(alloc: Global, items: &[T]) -> Result<List<T>, AllocError> {
     Ok(List::from_vec(Vec::from_slice(alloc, items)?))
 }
 
@@ -131,7 +131,7 @@ fn sink_of(alloc: Global, case: &Case<'_>) -> Result<InPieces<MemSink>, AllocErr
     })
 }
 
-fn words_of(alloc: Global, text: &str) -> Result<Vec<String>, AllocError> {
+pub fn words_of(alloc: Global, text: &str) -> Result<Vec<String>, AllocError> {
     let mut words = Vec::new(alloc);
     for word in text.split(' ') {
         words.push(String::from_str(alloc, word)?)?;
@@ -538,6 +538,14 @@ fn run_others(rt: &impl Abort, alloc: Global) -> Result<(), Fail> {
     for words in OTHERS {
         is_usage(rt, alloc, words)?;
     }
+    no_words(rt, alloc)
+}
+
+/// No word at all is no command.
+fn no_words(rt: &impl Abort, alloc: Global) -> Result<(), Fail> {
+    let outcome = run_words(alloc, &PLAIN, 0, &Vec::new(alloc))?;
+    assert_eq!(rt; outcome.told.as_slice(), b"2 xtc: usage".as_slice());
+    assert_eq!(rt; (outcome.journal_calls, outcome.pages_calls), (0, 0));
     Ok(())
 }
 
@@ -620,6 +628,11 @@ struct Stop {
 const STOPS: &[Stop] = &[
     Stop {
         call: 1,
+        least: 0,
+        most: 0,
+    },
+    Stop {
+        call: 2,
         least: 0,
         most: 0,
     },

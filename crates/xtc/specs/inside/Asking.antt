@@ -1,5 +1,6 @@
 -- What asking session 1 in turn leaves of the core and the journal of a store.
-use Rattle.std.specs.Prelude.{◌≡◌, ◌<◌, ◌≤◌, ℕ, Bool, List, [], ◌++◌, length, map, None, Some, Result, Ok, Err, IsTrue}
+use Rattle.std.specs.Prelude.{◌≡◌, ◌≢◌, ◌≤◌, ◌+◌, ℕ, Bool, false, List, [], ◌++◌, length, map, None, Some, Result, Ok, Err, IsTrue}
+use Rattle.std.specs.List.{AllByRecursion}
 use Rattle.outside_traits.specs.CrashImages.{IsImage}
 use Rattle.outside_traits.specs.Moments.{History, LeavesOnly}
 use Rattle.tree_model.specs.Entries.{Entries}
@@ -8,14 +9,16 @@ use Rattle.call_contract.specs.States.{State}
 use Rattle.command_lines.specs.declared.command.StoreCall.{StoreCall}
 use Rattle.command_lines.specs.declared.line_reply.LineReply.{LineReply}
 use Rattle.session_driver.specs.Lines.{Asked, AreValid}
+use Rattle.script_runs.specs.Whole.{IsPast, piece}
 use Rattle.session_driver.specs.declared.doing.Doing.{Doing}
+use Rattle.session_driver.specs.declared.doing.Doing.TheVariants.{Commit}
 use Rattle.store_calls.specs.StoreCalls.{IsValidStoreCall}
 use Rattle.tx_core.specs.Cores.{CoreView}
 use Rattle.xtc.specs.Book.{after_asked}
-use Rattle.xtc.specs.Commands.{Command}
+use Rattle.xtc.specs.Commands.{Command, reads_input}
 use Rattle.xtc.specs.Documents.{asks, asks_of, element_in, reason_in, text_of}
 use Rattle.xtc.specs.Durable.{HoldState}
-use Rattle.xtc.specs.TopCall.{AreFirst, IsDocumentEnd, IsWithin, StopsAtRefusal, slack, whole_limit}
+use Rattle.xtc.specs.TopCall.{AreFirst, IsDocumentEnd, IsWithin, NeedsWhole, StopsAtRefusal, slack, whole_limit}
 use Rattle.xtc.specs.declared.status.Status.{Status}
 use Rattle.xtc.specs.declared.status.Status.TheVariants.{Done, Usage, LineTooLong, Damaged, ReadFault, WriteFault, DiskFault, NoMemory, NotJsonMl, DocumentRefused}
 use Rattle.xtc.specs.inside.Stores.{HoldsAll, HoldsEither, LeadsTo}
@@ -27,6 +30,10 @@ all_asks doings = map asks doings
 
 abbrev pub AreValidAsks : List (Asked StoreCall) → Type 0
 AreValidAsks asked = AreValid IsValidStoreCall asked
+
+-- no commit is asked for
+abbrev pub AskNoCommit : List (Asked StoreCall) → Type 0
+AskNoCommit asked = AllByRecursion (λ (a : Asked StoreCall). a.doing ≢ Commit) asked
 
 -- the state after these, and what was answered to them
 abbrev pub after : State StoreCall → List (Asked StoreCall) → State StoreCall
@@ -60,6 +67,7 @@ pub record AllAnswered (is_known : Bool) (s : State StoreCall) (all : List (Aske
   pub valid : AreValidAsks all
   pub leads : LeadsTo is_known old core new s (after s all)
   pub moments : LeavesFirst is_known s all old new
+  pub still : AskNoCommit all → new ≡ old
   pub replies : now ≡ before ++ said s all
   pub unrefused : reason_in (said s all) ≡ None
 
@@ -80,6 +88,7 @@ pub record Stopped (is_known : Bool) (s : State StoreCall) (all : List (Asked St
   pub valid : AreValidAsks (answered ++ more)
   pub moments : LeavesFirst is_known s (answered ++ more) old new
   pub left : LeftEither is_known s answered more old new
+  pub still : AskNoCommit all → new ≡ old
   pub stops : StopsAtRefusal s (answered ++ more)
   pub by : StopsBy status (said s answered) more
 
@@ -124,6 +133,7 @@ pub record DocumentWent (is_known : Bool) (s : State StoreCall) (c : Command) (r
   pub short : IsWithin status (length read)
   pub moments : LeavesFirst is_known s (answered ++ more) old new
   pub left : LeftEither is_known s answered more old new
+  pub still : reads_input (Some c) ≡ false → new ≡ old
 
 -- it went to its end, and this text is to be written; or it stopped
 pub record HasText (is_known : Bool) (s : State StoreCall) (c : Command) (read : List ℕ) (old new : History) (text : List ℕ) : Type 0 where
@@ -134,11 +144,26 @@ abbrev pub DocumentDone : {T : Type 0} → Bool → State StoreCall → Command 
 DocumentDone is_known s c read old new bytes (Ok text) = HasText is_known s c read old new (bytes text)
 DocumentDone is_known s c read old new bytes (Err status) = DocumentWent is_known s c read old new status
 
+-- the same, and what needs the whole input; `whole` says that it was read to its end
+pub record WentAndJudged (is_known : Bool) (s : State StoreCall) (c : Command) (read : List ℕ) (whole : Type 0) (old new : History) (status : Status) : Type 0 where
+  pub went : DocumentWent is_known s c read old new status
+  pub judged : NeedsWhole status (went.answered ++ went.more) whole
+
+abbrev pub InputDone : {T : Type 0} → Bool → State StoreCall → Command → List ℕ → Type 0 → History → History → (T → List ℕ) → Result T Status → Type 0
+InputDone is_known s c read whole old new bytes (Ok text) = HasText is_known s c read old new (bytes text) × whole
+InputDone is_known s c read whole old new bytes (Err status) = WentAndJudged is_known s c read whole old new status
+
+-- so it is where an input was judged
+abbrev pub IfJudged : {T : Type 0} → Result T Status → Type 0 → Type 0
+IfJudged (Ok element) P = P
+IfJudged (Err (NotJsonMl why)) P = P
+IfJudged (Err status) P = Unit {0}
+
 -- the whole input is this element, or why it isn't had
 abbrev pub IsReadElement : List ℕ → Result Fragment Status → Type 0
 IsReadElement read (Ok element) = (element_in read ≡ Ok element) × (length read ≤ whole_limit)
 IsReadElement read (Err (NotJsonMl why)) = (element_in read ≡ Err why) × (length read ≤ whole_limit)
-IsReadElement read (Err (LineTooLong line)) = (line ≡ 0) × (whole_limit < length read)
+IsReadElement read (Err (LineTooLong line)) = (line ≡ 0) × IsPast whole_limit (length read)
 IsReadElement read (Err ReadFault) = length read ≤ whole_limit
-IsReadElement read (Err NoMemory) = Unit {0}
+IsReadElement read (Err NoMemory) = length read ≤ whole_limit + piece
 IsReadElement read (Err status) = ⊥

@@ -1,5 +1,5 @@
 -- What running a command over a store that was opened leaves.
-use Rattle.std.specs.Prelude.{◌≡◌, ℕ, ◌+◌, ◌-◌, Bool, IsTrue, List, [], length, Option, Some, Ok, IfSome}
+use Rattle.std.specs.Prelude.{◌≡◌, ◌≤◌, ℕ, ◌+◌, ◌-◌, Bool, IsTrue, List, [], length, Option, Some, Ok, IfSome}
 use Rattle.outside_kinds.specs.Bounds.{input_limit}
 use Rattle.outside_traits.specs.Bytes.{Gave}
 use Rattle.outside_traits.specs.DiskPairs.{Pair}
@@ -54,6 +54,7 @@ pub record RunsCommand (journal_known pages_known : Bool) (base : Entries) (numb
     (input input_now : Input) (output output_now : Output) (disks disks_now : Disks) : Type 0 where
   pub ran : RanOver journal_known pages_known base number c status input input_now output output_now disks.files disks_now.files
   pub whole : IsTrue (reads_input (Some c)) → status ≡ Done → IfSome input_now.left (λ rest. rest ≡ [])
+  pub bound : input_now.given ≤ input.given + input_limit
   pub silent : IsSilent (Some c) status (output_now.held ≡ output.held)
   pub opened : IsOfOpened status
   pub read : ReadCountedWhere (status ≡ ReadFault) input_limit input.faults input_now.faults input.given input_now.given

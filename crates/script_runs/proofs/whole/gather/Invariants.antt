@@ -1,5 +1,6 @@
 use Rattle.std.proofs.Common.{◌≡◌, ◌+◌, ◌-◌, ◌<◌, ◌≤◌, length}
 use Rattle.outside_traits.specs.Bytes.{Gave}
+use Rattle.script_runs.specs.Whole.{piece}
 use Rattle.script_runs.proofs.whole.gather.Given as goal
 
 abbrev pub invariant-loop-count : goal.invariant-loop-count
@@ -8,6 +9,7 @@ invariant-loop-count g l = record {
   given : g.S.Source.given l.source ≡ g.S.Source.given l.fn.source + length l.bytes.items;
   within : length l.bytes.items ≤ l.limit;
   room : 0 < length l.buffer.items;
+  most : length l.buffer.items ≤ piece;
   no_fault : g.S.Source.faults l.source ≡ g.S.Source.faults l.fn.source;
 }
 

@@ -20,3 +20,8 @@ returns-in_err-tree_line-clause-asked g c = λ s stands.
     stopped_err c.from_residual-in_err-tree_line.result NoMemory g.J.Disk.is_known s (dump_asks c.args.label) c.args.journal.now.history c.ask_in_turn.new.core c.ask_in_turn.new.journal.history c.args.replies.now.items c.ask_in_turn.new.replies.items
     c.from_residual-in_err-tree_line.ensures.1
     (stopped_behind g.J.Disk.is_known s (dump_asks c.args.label) c.args.journal.now.history c.ask_in_turn.new.journal.history c.ask_in_turn.new.core c.args.replies.now.items c.ask_in_turn.new.replies.items asked)
+
+pub returns-clause-asked : goal.returns-clause-asked
+returns-clause-asked g c = λ s stands.
+    subst (λ (l : List (Asked StoreCall)). AllAnswered g.J.Disk.is_known s l c.args.journal.now.history c.ask_in_turn.new.core c.ask_in_turn.new.journal.history c.args.replies.now.items c.ask_in_turn.new.replies.items)
+    c.in_ok-doings.ensures.asks (c.in_ok-ask_in_turn.ensures.asked s stands)

@@ -1,4 +1,4 @@
-use Rattle.std.proofs.Common.{◌≡◌, ℕ, [], refl, sym, subst, add-zero}
+use Rattle.std.proofs.Common.{arith, ◌≡◌, ℕ, [], refl, sym, subst, add-zero}
 use Rattle.std.specs.Prelude.{Err, IfErr}
 use Rattle.outside_traits.specs.DiskPairs.{pair_of}
 use Rattle.outside_traits.proofs.Laws.{gave_none}
@@ -11,7 +11,7 @@ use Rattle.xtc.specs.inside.Asking.{IsStop, IsUnwritten}
 use Rattle.xtc.specs.inside.CommandRuns.{Output, Disks, RunsCommand}
 use Rattle.xtc.specs.inside.Stores.{Counts}
 use Rattle.xtc.proofs.CommandRunLaws.{document_runs, ends_by, read_never}
-use Rattle.xtc.proofs.DocumentLaws.{document_finished, document_written, opening_holds, stops_unwritten}
+use Rattle.xtc.proofs.DocumentLaws.{document_finished, document_written, input_done, opening_holds, stops_unwritten}
 use Rattle.xtc.proofs.document.run_get.Goals as goal
 
 pub returns : goal.returns
@@ -39,11 +39,14 @@ returns g c = λ input.
       gave_none input.left,
       sym (add-zero input.given),
       λ kj kp synced empty opens t is old.
-          let wrote = document_written known (start t store.number tx_limit) (get c.args.name.now) [] store.journal.history mid (λ t. t.items) output.held output_now.held text status (c.get_document-text.ensures.done t is) unwritten c.written.ensures.text c.written.ensures.none in
-          document_finished t store.number tx_limit is.valid known (get c.args.name.now) _ store.journal.history (history store.pages) mid status kj (opening_holds t store.number tx_limit is.valid store.journal.history store.base is synced opens) empty
-          wrote out.history refl (c.with_disks.ensures.journal kj) (c.with_disks.ensures.pages kp) (λ no. refl),
+          let s = start t store.number tx_limit in
+          let done = input_done text known s (get c.args.name.now) [] (Unit {0}) store.journal.history mid (λ t. t.items) (c.get_document-text.ensures.done t is) tt in
+          let wrote = document_written known s (get c.args.name.now) [] (Unit {0}) store.journal.history mid (λ t. t.items) output.held output_now.held text status done unwritten c.written.ensures.text c.written.ensures.none in
+          document_finished t store.number tx_limit is.valid known (get c.args.name.now) _ (Unit {0}) store.journal.history (history store.pages) mid status kj (opening_holds t store.number tx_limit is.valid store.journal.history store.base is synced opens) empty
+          wrote out.history refl (c.with_disks.ensures.journal kj) (c.with_disks.ensures.pages kp) (λ no. refl) (λ reads w. absurd cc),
     )
     (λ reads. cc)
+    (omega arith)
     (read_never _ _ _ (λ it. subst (λ r. IfErr r IsStop) it c.get_document-text.ensures.stops))
     c.written.ensures.write
     (subst (λ (n : ℕ). Counts (text ≡ Err DiskFault) store.journal.faults n) (sym out.faults) c.get_document-text.ensures.counts) refl)

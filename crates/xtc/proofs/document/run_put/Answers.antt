@@ -3,12 +3,12 @@ use Rattle.std.specs.Prelude.{Err}
 use Rattle.outside_traits.specs.DiskPairs.{pair_of}
 use Rattle.call_contract.specs.States.{start}
 use Rattle.xtc.specs.Commands.{put}
-use Rattle.xtc.specs.TopCall.{WroteWhole, tx_limit}
+use Rattle.xtc.specs.TopCall.{IsWhole, WroteWhole, tx_limit}
 use Rattle.xtc.specs.declared.status.Status.TheVariants.{DiskFault}
 use Rattle.xtc.specs.declared.top_call.Finish.{Finish}
 use Rattle.xtc.specs.inside.CommandRuns.{Input, Output, Disks, RunsCommand}
 use Rattle.xtc.specs.inside.Stores.{Counts}
-use Rattle.xtc.proofs.CommandRunLaws.{by_count, document_runs, ends_by}
+use Rattle.xtc.proofs.CommandRunLaws.{by_count, document_runs, ends_by, put_within}
 use Rattle.xtc.proofs.DocumentLaws.{document_finished, document_written, opening_holds}
 use Rattle.xtc.proofs.document.run_put.Goals as goal
 
@@ -39,11 +39,14 @@ returns g c =
       done.1,
       done.2,
       λ kj kp synced empty opens t is old.
-          let wrote = document_written known (start t store.number tx_limit) (put c.args.name.now) done.0 store.journal.history mid (λ t. t.items) output.held output_now.held text status (done.3 t is) c.put_input-text.ensures.unwritten c.written.ensures.text c.written.ensures.none in
-          document_finished t store.number tx_limit is.valid known (put c.args.name.now) _ store.journal.history (history store.pages) mid status kj (opening_holds t store.number tx_limit is.valid store.journal.history store.base is synced opens) empty
-          wrote out.history refl (c.with_disks.ensures.journal kj) (c.with_disks.ensures.pages kp) (λ no. cc),
+          let whole = IsWhole input_now.left done.0 in
+          let wrote = document_written known (start t store.number tx_limit) (put c.args.name.now) done.0 whole store.journal.history mid (λ t. t.items) output.held output_now.held text status (done.4 t is) c.put_input-text.ensures.unwritten
+          c.written.ensures.text c.written.ensures.none in
+          document_finished t store.number tx_limit is.valid known (put c.args.name.now) _ whole store.journal.history (history store.pages) mid status kj (opening_holds t store.number tx_limit is.valid store.journal.history store.base is synced opens) empty
+          wrote out.history refl (c.with_disks.ensures.journal kj) (c.with_disks.ensures.pages kp) (λ no. cc) (λ reads w. w),
     )
     (λ reads. c.put_input-text.ensures.whole)
+    (put_within input.given input_now.given done.0 done.2 done.3)
     (by_count _ _ _ _ _ c.put_input-text.ensures.read)
     c.written.ensures.write
     (subst (λ (n : ℕ). Counts (text ≡ Err DiskFault) store.journal.faults n) (sym out.faults) c.put_input-text.ensures.counts) refl)

@@ -1,4 +1,4 @@
-use Rattle.std.proofs.Common.{◌≡◌, ◌++◌, ◌<◌, List, length, ap, subst, ◌∙◌}
+use Rattle.std.proofs.Common.{◌≡◌, ◌++◌, ◌<◌, List, length, refl, ap, subst, ◌∙◌}
 use Rattle.std.specs.Prelude.{Option, Some, IfSome, vec_capacity}
 use Rattle.call_contract.specs.States.{State}
 use Rattle.command_lines.specs.declared.command.StoreCall.{StoreCall}
@@ -71,3 +71,15 @@ returns-in-Ok-Some-clause-any_moment g c =
     by_commit (λ (d : Doing StoreCall) (s : State StoreCall). LeavesEither g.J.Disk.is_known c.args.journal.now.history c.commit.new.journal.history s (asked_from s c.args.session d).state)
     c.args.session c.args.doing old mid c.args.replies.now.items c.drive.new.out.items prepared driven due.0
     c.commit.ensures.any_moment
+
+pub returns-in-Ok-Some-clause-still : goal.returns-in-Ok-Some-clause-still
+returns-in-Ok-Some-clause-still g c = λ other.
+    let old = c.args.core.now in
+    let mid = c.drive.new.core in
+    let prepared = c.in-Ok-Some.prepared in
+    let driven : Driven c.args.session c.args.doing old mid c.args.replies.now.items c.drive.new.out.items (Some prepared)
+    = subst (Driven c.args.session c.args.doing old mid c.args.replies.now.items c.drive.new.out.items) c.in-Ok-Some.field-0-is c.in-Ok-Some.ensures.line in
+    let due : (mid ≡ record old { prepared = Some c.args.session }) × IsPrepared old prepared
+    = subst (λ (p : Option Prepared). IfSome p (λ it. (mid ≡ record old { prepared = Some c.args.session }) × IsPrepared old it)) c.in-Ok-Some.field-0-is c.in-Ok-Some.ensures.prepared in
+    absurd (other (by_commit (λ (d : Doing StoreCall) (s : State StoreCall). d ≡ Commit) c.args.session c.args.doing old mid c.args.replies.now.items c.drive.new.out.items prepared driven due.0
+    (λ s stands. refl) c.requires.may.state c.requires.may.stands))

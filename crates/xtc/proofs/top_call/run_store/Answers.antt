@@ -55,7 +55,7 @@ returns g c =
       λ kj kp synced empty opens t is old.
           store_ran known history g.P.Disk.faults store.base store.number tx_limit store.journal store.pages t is (record { known = both_known _ _ kj kp; synced = synced; empty = empty; opens = opens })
           c.run-run.result.end read.0 _ _ _ _ c.new-2.result m old _ same (record { files = files; journal_image = c.with_disks-2.ensures.journal kj; pages_image = c.with_disks-2.ensures.pages kp }) read.3 _ refl,
-    ) ran.whole ran.read ran.write
+    ) ran.whole ran.bound ran.read ran.write
     (disks_moved _ _ _ _ (λ i. record { journal = (same i).journal.faults; pages = g.P.Disk.faults (same i).pages }) (λ i. record { journal = out.faults i; pages = g.P.Disk.faults (out.pages i) }) ran.disk))
 
 -- there is no memory for a core, and nothing is read

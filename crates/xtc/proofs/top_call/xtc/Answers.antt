@@ -1,4 +1,4 @@
-use Rattle.std.proofs.Common.{◌≡◌, ◌-◌, ◌∙◌, [], Option, refl, sym, ap, subst, add-zero, Some, Ok}
+use Rattle.std.proofs.Common.{◌≡◌, ◌-◌, ◌∙◌, arith, [], Option, refl, sym, ap, subst, add-zero, Some, Ok}
 use Rattle.outside_traits.specs.DiskPairs.{Pair, pair_of}
 use Rattle.outside_traits.specs.Disks.{all_synced}
 use Rattle.outside_traits.proofs.Laws.{gave_none}
@@ -9,8 +9,13 @@ use Rattle.script_runs.specs.Counts.{Counts, DisksCountedWhere}
 use Rattle.xtc.specs.declared.status.Status.TheVariants.{DiskFault}
 use Rattle.xtc.specs.Commands.{Command, command_of, meant, reads_input}
 use Rattle.xtc.specs.TopCall.{Outcome, Leaves, OpenedStoreLeaves, IsSilent, tx_limit}
-use Rattle.xtc.proofs.StatusLaws.{beside_none, unopened_leaves, unopened_silent, opened_leaves, opened_unread, opened_not_damaged, damaged_of, cause_of, no_fault}
+use Rattle.xtc.proofs.StatusLaws.{beside_none, nothing_read, unopened_leaves, unopened_not_done, unopened_silent, opened_leaves, opened_unread, opened_not_damaged, damaged_of, cause_of, no_fault}
 use Rattle.xtc.proofs.top_call.xtc.Goals as goal
+
+-- ---- the words were no command
+
+pub returns-in_default-clause-input : goal.returns-in_default-clause-input
+returns-in_default-clause-input g c = record { whole = λ reads done. absurd cc; unread = (refl, refl); bound = omega arith }
 
 -- ---- the store wasn't opened
 
@@ -38,6 +43,13 @@ pub returns-in-Err-clause-silent : goal.returns-in-Err-clause-silent
 returns-in-Err-clause-silent g c =
     let held = g.K.Sink.held c.args.sink.now in
     subst (λ status. IsSilent (command_of c.args.words.now.items) status (held ≡ held)) (sym c.from.ensures) (unopened_silent (command_of c.args.words.now.items) c.in-Err.field-0.fault (held ≡ held) refl)
+
+pub returns-in-Err-clause-input : goal.returns-in-Err-clause-input
+returns-in-Err-clause-input g c = record {
+  whole = λ reads done. absurd (unopened_not_done c.in-Err.field-0.fault (sym c.from.ensures ∙ done));
+  unread = nothing_read c.from.result (g.S.Source.left c.args.source.now) (g.S.Source.left c.args.source.now) (g.S.Source.given c.args.source.now) (g.S.Source.given c.args.source.now) refl refl;
+  bound = omega arith;
+}
 
 pub returns-in-Err-clause-damaged : goal.returns-in-Err-clause-damaged
 returns-in-Err-clause-damaged g c = λ place is. damaged_of _ _ c.in-Err.field-0.fault place c.in-Err.ensures.reason (sym c.from.ensures ∙ is)
@@ -82,15 +94,16 @@ returns-in-Ok-clause-leaves g c =
           (subst (λ (command : Option Command). OpenedStoreLeaves tx_limit command status o) c.in-Some.ensures leaves),
     )
 
-pub returns-in-Ok-clause-whole : goal.returns-in-Ok-clause-whole
-returns-in-Ok-clause-whole g c = λ reads. c.run_command.ensures.whole (ap reads_input c.in-Some.ensures ∙ reads)
+pub returns-in-Ok-clause-input : goal.returns-in-Ok-clause-input
+returns-in-Ok-clause-input g c = record {
+  whole = λ reads. c.run_command.ensures.whole (ap reads_input c.in-Some.ensures ∙ reads);
+  unread = opened_unread c.run_command.result.status _ c.run_command.ensures.opened;
+  bound = c.run_command.ensures.bound;
+}
 
 pub returns-in-Ok-clause-silent : goal.returns-in-Ok-clause-silent
 returns-in-Ok-clause-silent g c =
     subst (λ (command : Option Command). IsSilent command c.run_command.result.status (g.K.Sink.held c.run_command.new.sink ≡ g.K.Sink.held c.args.sink.now)) c.in-Some.ensures c.run_command.ensures.silent
-
-pub returns-in-Ok-clause-unread : goal.returns-in-Ok-clause-unread
-returns-in-Ok-clause-unread g c = opened_unread c.run_command.result.status _ c.run_command.ensures.opened
 
 pub returns-in-Ok-clause-damaged : goal.returns-in-Ok-clause-damaged
 returns-in-Ok-clause-damaged g c = λ place is. absurd (opened_not_damaged c.run_command.result.status place c.run_command.ensures.opened is)

@@ -21,7 +21,7 @@ returns c =
     = λ place is. not_damaged empty _ _ place (ap (λ (h : History). h.now) journal_is) (ap (λ (h : History). h.now) pages_is) (c.xtc-status.ensures.damaged place is refl refl) in
     record {
       done = λ named done.
-          script_done empty _ _ _ c.args.script _ _ named done (run.3 refl refl) script_is run.1 (c.xtc-status.ensures.whole (ap reads_input named) done) held_is refl
+          script_done empty _ _ _ c.args.script _ _ named done (run.3 refl refl) script_is run.1 (c.xtc-status.ensures.input.whole (ap reads_input named) done) held_is refl
           (ap (λ (h : History). h.now.reads) journal_is) (ap (λ (h : History). h.now.reads) pages_is);
       begun = λ named not_usage.
           script_begun empty _ c.args.script _ _ script_is run.1 held_is refl (ap (λ (h : History). h.now) journal_is) (ap (λ (h : History). h.now) pages_is)

@@ -1,0 +1,57 @@
+-- What `put` of a document into a new store is answered, and what it leaves (docs/MANUAL.md, "Commands").
+use Rattle.std.specs.Prelude.{◌≡◌, ◌⊎◌, ℕ, List, [], ◌++◌, Some, Ok}
+use Rattle.outside_traits.specs.DiskPairs.{PairsHave, pair_of}
+use Rattle.outside_traits.specs.Moments.{History}
+use Rattle.tree_model.specs.DomCalls.{dom}
+use Rattle.tree_model.specs.Names.{Name}
+use Rattle.tree_model.specs.Tree.{Tree, empty_tree}
+use Rattle.tree_model.specs.declared.dom_call.DomCall.TheVariants.{Create}
+use Rattle.tree_model.specs.declared.fragment.Fragment.{Fragment}
+use Rattle.call_contract.specs.Books.{commits}
+use Rattle.call_contract.specs.SerialRuns.{serial}
+use Rattle.command_lines.specs.declared.command.StoreCall.{StoreCall}
+use Rattle.session_driver.specs.Lines.{Asked}
+use Rattle.session_driver.specs.Progress.{Progress}
+use Rattle.store_calls.specs.StoreCalls.{store_meaning}
+use Rattle.xtc.specs.Book.{after_asked}
+use Rattle.xtc.specs.Documents.{element_in, label_in, label_line, put_asks}
+use Rattle.xtc.specs.TopCall.{OpenAfterAsked, tx_limit}
+use Rattle.xtc.specs.declared.status.Status.{Status}
+use Rattle.xtc.specs.declared.status.Status.TheVariants.{ReadFault, DiskFault, NoMemory}
+use Rattle.xtc_callers.specs.NewStores.{StandForCommits, new_store}
+
+-- so it is where no call failed, and there was memory
+abbrev pub UnlessFailed : Status → Type 0 → Type 0
+UnlessFailed ReadFault P = Unit {0}
+UnlessFailed DiskFault P = Unit {0}
+UnlessFailed NoMemory P = Unit {0}
+UnlessFailed status P = P
+
+-- what `put` of this element into a new store does
+abbrev pub put_new : Name → Fragment → Progress StoreCall
+put_new name element = after_asked new_store (put_asks name element)
+
+-- the tree with the document alone
+abbrev pub tree_of_document : Name → Fragment → Tree
+tree_of_document name element = (dom (Create name (Some element)) empty_tree).1
+
+-- The whole input was put as a document of a new store: this text is its label's line, and the files stand for the tree with it alone.
+pub record PutDone (name : Name) (input text : List ℕ) (journal pages : History) : Type 0 where
+  pub element : Fragment
+  pub of_input : element_in input ≡ Ok element
+  pub answered : text ≡ label_line (label_in (put_new name element).lines)
+  -- as `create` on the plain tree has it
+  pub tree : (serial store_meaning (commits (put_new name element).book) empty_tree).tree ≡ tree_of_document name element
+  -- as they read and as a crash leaves them
+  pub stored : StandForCommits (put_new name element).book journal.now.reads pages.now.reads
+  pub durable : PairsHave (StandForCommits (put_new name element).book) (pair_of journal pages)
+
+-- these are the first of what `put` of the whole input asks, if any
+abbrev pub OfWholeInput : Name → List ℕ → List (Asked StoreCall) → Type 0
+OfWholeInput name input asked = (asked ≡ []) ⊎ ((element : Fragment) × (element_in input ≡ Ok element) × (rest : List (Asked StoreCall)) × (asked ++ rest ≡ put_asks name element))
+
+-- `put` was begun, whatever its end: the files stand for nothing, or for what the commit of the whole input leaves
+pub record PutBegun (name : Name) (input : List ℕ) (journal pages : List ℕ) : Type 0 where
+  pub asked : List (Asked StoreCall)
+  pub of_input : OfWholeInput name input asked
+  pub stored : OpenAfterAsked empty_tree 0 tx_limit 0 asked journal pages
