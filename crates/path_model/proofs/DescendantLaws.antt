@@ -26,8 +26,8 @@ nodes_only none = refl
 nodes_only (node l r ats ch nx) =
     filter_joined is_node ((a_node l r ∷ attributes_at l ats) ++ positions_in ch) (positions_in nx)
     ∙ ap (λ ps. ps ++ filter is_node (positions_in nx)) (filter_joined is_node (a_node l r ∷ attributes_at l ats) (positions_in ch)
-      ∙ ap (λ ps. (a_node l r ∷ ps) ++ filter is_node (positions_in ch)) (no_nodes is_node (λ k n v. refl) l ats)
-      ∙ ap (λ (ps : List Position). a_node l r ∷ ps) (nodes_only ch))
+    ∙ ap (λ ps. (a_node l r ∷ ps) ++ filter is_node (positions_in ch)) (no_nodes is_node (λ k n v. refl) l ats)
+    ∙ ap (λ (ps : List Position). a_node l r ∷ ps) (nodes_only ch))
     ∙ ap (λ ps. (a_node l r ∷ all_seen ch) ++ ps) (nodes_only nx)
 
 -- under the label of a found node lie the nodes below it

@@ -78,9 +78,9 @@ false≢true z = cc
 filter_mapped : {A B : Type 0} (q : B → Bool) (f : A → B) (xs : List A) → filter q (map f xs) ≡ map f (filter (λ x. q (f x)) xs)
 filter_mapped q f [] = refl
 filter_mapped q f (x ∷ xs) = elim (q (f x)) as (λ b. cond b (f x ∷ filter q (map f xs)) (filter q (map f xs)) ≡ map f (cond b (x ∷ filter (λ y. q (f y)) xs) (filter (λ y. q (f y)) xs))) [
-    | true ↦ ap (λ (ys : List _). f x ∷ ys) (filter_mapped q f xs)
-    | false ↦ filter_mapped q f xs
-  ]
+  | true ↦ ap (λ (ys : List _). f x ∷ ys) (filter_mapped q f xs)
+  | false ↦ filter_mapped q f xs
+]
 
 one_more : {A : Type 0} (p q : A → Bool) (x : A) (xs : List A) → (q x ≡ true → p x ≡ true) → filter q (filter p xs) ≡ filter q xs
     → (b c : Bool) → p x ≡ b → q x ≡ c → filter q (cond b (x ∷ filter p xs) (filter p xs)) ≡ cond c (x ∷ filter q xs) (filter q xs)
@@ -96,9 +96,9 @@ filter_twice p q h (x ∷ xs) = one_more p q x xs (h x) (filter_twice p q h xs) 
 pub filter_joined : {A : Type 0} (q : A → Bool) (xs ys : List A) → filter q (xs ++ ys) ≡ filter q xs ++ filter q ys
 filter_joined q [] ys = refl
 filter_joined q (x ∷ xs) ys = elim (q x) as (λ b. cond b (x ∷ filter q (xs ++ ys)) (filter q (xs ++ ys)) ≡ cond b (x ∷ filter q xs) (filter q xs) ++ filter q ys) [
-    | true ↦ ap (λ (zs : List _). x ∷ zs) (filter_joined q xs ys)
-    | false ↦ filter_joined q xs ys
-  ]
+  | true ↦ ap (λ (zs : List _). x ∷ zs) (filter_joined q xs ys)
+  | false ↦ filter_joined q xs ys
+]
 
 -- what the labels of entries keep those of positions keep
 mapped_labels : (P : Label → Type 0) (es : Entries) → AllByRecursion (Labelled P) es → AllByRecursion (λ n. P (label_of n)) (map position_of es)
