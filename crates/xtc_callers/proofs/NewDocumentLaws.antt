@@ -1,10 +1,8 @@
 -- What the clauses of `xtc` say of a document that is put into two empty files, and then got.
 use Rattle.std.proofs.Common.{◌≡◌, ◌≢◌, ◌⊎◌, ⊎_elim, inl, inr, ℕ, ◌+◌, ◌≤◌, List, [], ◌++◌, length, take, Option, Some, None, Result, Ok, Err, refl, sym, ap, subst, ◌∙◌, arith}
-use Rattle.std.specs.Prelude.{IfSome}
-use Rattle.std.specs.Option.{option_map}
-use Rattle.std.proofs.lemmas.List.{append-nil, length-append, take_all}
+use Rattle.std.proofs.lemmas.List.{length-append, take_all}
 use Rattle.std.proofs.lemmas.Option.{same_Some}
-use Rattle.outside_traits.specs.Bytes.{Gave, Took}
+use Rattle.outside_traits.specs.Bytes.{Gave}
 use Rattle.outside_traits.specs.CrashImages.{IsImage}
 use Rattle.outside_traits.specs.DiskPairs.{Pair}
 use Rattle.outside_traits.specs.Disks.{DiskState, all_synced}
@@ -19,7 +17,6 @@ use Rattle.tree_model.specs.declared.reply.Reply.TheVariants as reply
 use Rattle.node_records.specs.declared.open_error.Place.{Place}
 use Rattle.jsonml_io.specs.declared.fragment_error.FragmentError.{FragmentError}
 use Rattle.recovery.specs.Trees.{StandFor}
-use Rattle.script_runs.specs.Whole.{IsPast}
 use Rattle.call_contract.specs.Books.{Book, commits}
 use Rattle.call_contract.specs.SerialRuns.{serial}
 use Rattle.call_contract.specs.States.{State, start}

@@ -1,11 +1,11 @@
-use Rattle.std.proofs.Common.{◌≡◌, [], Option, Some, None, refl, sym, ap, ◌∙◌}
+use Rattle.std.proofs.Common.{◌≡◌, [], Some, None, refl, sym, ap, ◌∙◌}
 use Rattle.outside_traits.specs.Moments.{History}
 use Rattle.tree_model.specs.Names.{Name}
 use Rattle.tree_model.specs.Tree.{empty_tree}
 use Rattle.node_records.specs.declared.open_error.Place.{Place}
 use Rattle.outside_kinds.specs.Memory.{SinkInMemory, SourceInMemory}
 use Rattle.outside_kinds.specs.MemoryDisks.{history_of, start}
-use Rattle.xtc.specs.Commands.{Command, command_of, put}
+use Rattle.xtc.specs.Commands.{command_of, put}
 use Rattle.xtc.specs.TopCall.{tx_limit}
 use Rattle.xtc.specs.declared.status.Status.TheVariants.{Damaged, Usage}
 use Rattle.xtc_callers.proofs.NewDocumentLaws.{put_begun, put_done, put_no_element, put_not_json}
