@@ -17,7 +17,7 @@ use Rattle.path_model.proofs.OrderLaws.{filter_where}
 use Rattle.path_model.proofs.SubtreeLaws.{filter_joined, all_labelled, within_subtree}
 
 -- no attribute is a node
-no_nodes : (q : Position → Bool) → ((l : Label) (n v : List _) → q (an_attribute l n v) ≡ false) → (l : Label) (ats : Attributes) → filter q (attributes_at l ats) ≡ []
+pub no_nodes : (q : Position → Bool) → ((l : Label) (n v : List _) → q (an_attribute l n v) ≡ false) → (l : Label) (ats : Attributes) → filter q (attributes_at l ats) ≡ []
 no_nodes q h l [] = refl
 no_nodes q h l (a ∷ ats) = ap (λ b. cond b (an_attribute l a.0 a.1 ∷ filter q (attributes_at l ats)) (filter q (attributes_at l ats))) (h l a.0 a.1) ∙ no_nodes q h l ats
 

@@ -3,5 +3,11 @@ pub mod Members
 pub mod OrderLaws
 pub mod SubtreeLaws
 pub mod DescendantLaws
+pub mod Filters
+pub mod Standing
+pub mod NodeLooks
+pub mod Ways
+pub mod OneMore
 pub mod AnswerLaws
+pub mod AxisLooks
 mod Rows

@@ -80,7 +80,7 @@ filter_none (x ∷ xs) = filter_none xs
 
 -- ---- one more position
 
-abbrev Higher : Position → Position → Type 0
+abbrev pub Higher : Position → Position → Type 0
 Higher x m = key_cmp (key_of x) (key_of m) ≡ Less
 
 not_same_higher : (x m : Position) → Higher x m → is_same m x ≡ false
@@ -93,7 +93,7 @@ same_itself : (x : Position) → is_same x x ≡ true
 same_itself x = ap is_eq (key_itself (key_of x))
 
 -- before positions that lie above it
-put_low : (x : Position) (ms : List Position) → AllByRecursion (Higher x) ms → put_in x ms ≡ x ∷ ms
+pub put_low : (x : Position) (ms : List Position) → AllByRecursion (Higher x) ms → put_in x ms ≡ x ∷ ms
 put_low x [] h = refl
 put_low x (m ∷ ms) h = ap (λ o. by_order o (x ∷ m ∷ ms) (m ∷ ms) (m ∷ put_in x ms)) h.0
 

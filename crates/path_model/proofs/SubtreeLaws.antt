@@ -48,7 +48,7 @@ nothing_below : (lo : Name) → slice_cmp nat_cmp lo [] ≡ Less → ⊥
 nothing_below [] h = cc
 nothing_below (x ∷ lo) h = cc
 
-named_above : (lo n : Name) → slice_cmp nat_cmp lo n ≡ Less → is_empty n ≡ false
+pub named_above : (lo n : Name) → slice_cmp nat_cmp lo n ≡ Less → is_empty n ≡ false
 named_above lo [] h = absurd (nothing_below lo h)
 named_above lo (x ∷ n) h = refl
 
