@@ -1,6 +1,6 @@
 -- The answer of a path's program is the set that the path means, where the looks of axes show what the axes relate.
-use Rattle.std.proofs.Common.{◌≡◌, ℕ, ◌+◌, Bool, true, false, cond, not, ◌&&◌, ◌||◌, if◌then◌else◌, List, [], ◌∷◌, ◌++◌, map, drop, length, reverse, refl, sym, ap, ◌∙◌, Option, None, Some}
-use Rattle.std.specs.List.{AllByRecursion, filter, list_any}
+use Rattle.std.proofs.Common.{◌≡◌, ℕ, ◌+◌, Bool, true, false, not, ◌&&◌, ◌||◌, if◌then◌else◌, List, [], ◌∷◌, ◌++◌, map, drop, length, reverse, refl, sym, ap, ◌∙◌}
+use Rattle.std.specs.List.{AllByRecursion, filter}
 use Rattle.std.specs.Str.{chars}
 use Rattle.tree_model.specs.Tree.{Tree}
 use Rattle.tree_model.specs.ValidTrees.{IsValidTree}
@@ -13,7 +13,7 @@ use Rattle.path_model.specs.declared.path.Op.TheVariants as op
 use Rattle.path_model.specs.Paths.{Expr, path, literal, apply, Exprs, no_more, then_expr, Steps, no_steps, step}
 use Rattle.path_model.specs.Paths as paths
 use Rattle.path_model.specs.Positions.{Position, positions, label_of, passes}
-use Rattle.path_model.specs.Axes.{document_of, relates, is_reverse, in_axis_order, on_axis}
+use Rattle.path_model.specs.Axes.{document_of, relates, is_reverse, on_axis}
 use Rattle.path_model.specs.AxisPrograms.{along}
 use Rattle.path_model.specs.Numbers.{Num, plus, minus, times}
 use Rattle.path_model.specs.Values.{ValueOf, nodes, text, flag, Strings, truth, text_in, number_in, compare, same_flag}
@@ -24,18 +24,13 @@ use Rattle.path_model.specs.Functions as functions
 use Rattle.path_model.specs.Meaning as meaning
 use Rattle.path_model.specs.Meaning.{union, own_document, begun, holding, value_in, some_hold, all_hold, values_in, kept, reached, found_from}
 use Rattle.path_model.specs.Programs.{at_node, Program, ends, looks, answer, and_then, gathered}
-use Rattle.path_model.specs.Evaluation.{in_order, string_value, string_values, first_value, with_strings, with_first, compared, in_number, in_numbers, in_text, in_texts, texts_of, numbers_of, by_strings, part, applied, kept_by, start, value, settled, operands, filtered, taken, find_from}
+use Rattle.path_model.specs.Evaluation.{in_order, string_value, string_values, with_strings, with_first, compared, in_number, in_numbers, in_text, in_texts, texts_of, numbers_of, by_strings, part, applied, kept_by, start, value, settled, operands, filtered, taken, find_from}
 use Rattle.path_model.proofs.ProgramAnswers.{answer-and_then, answer-gathered, flat, flat_on}
 use Rattle.path_model.proofs.OrderLaws.{union_is}
-use Rattle.path_model.proofs.Members.{Among, AllAmong, all_filtered, all_joined, all_reversed, filtered_among}
+use Rattle.path_model.specs.Sets.{At, AllAt}
+use Rattle.path_model.proofs.Members.{all_joined, all_reversed, filtered_among}
 
 -- ---- what looks show of a tree
-
-abbrev pub At : Tree → Position → Type 0
-At t n = Among n (positions t)
-
-abbrev pub AllAt : Tree → List Position → Type 0
-AllAt t ns = AllByRecursion (At t) ns
 
 -- the looks of the axes, of string-values and of the document show what these mean
 pub record LooksTrue (t : Tree) : Type 0 where
@@ -80,11 +75,11 @@ module _ (t : Tree) where
   flat_at leads h [] = tt
   flat_at leads h (n ∷ ns) = all_joined (At t) (leads n) (flat leads ns) (h n) (flat_at leads h ns)
 
-  begun_at : (b : Bool) (n : Position) → At t n → AllAt t (begun t b n)
+  pub begun_at : (b : Bool) (n : Position) → At t n → AllAt t (begun t b n)
   begun_at true n h = filtered_among _ (positions t)
   begun_at false n h = (h, tt)
 
-  reached_at : (ss : Steps) (ns : List Position) → AllAt t ns → AllAt t (reached t ss ns)
+  pub reached_at : (ss : Steps) (ns : List Position) → AllAt t ns → AllAt t (reached t ss ns)
   reached_at no_steps ns h = h
   reached_at (step a test es ss) ns h = reached_at ss (union t (λ n. kept t es (on_axis t a test n)) ns) (union_at (λ n. kept t es (on_axis t a test n)) ns)
 
@@ -316,12 +311,12 @@ module _ (t : Tree) (valid : IsValidTree t) (w : LooksTrue t) where
       ∙ ap (λ v. if keeps v p then n ∷ answer t (kept_by f size (p + 1) ns) else answer t (kept_by f size (p + 1) ns)) (z c h.0)
       ∙ ap (λ ms. if keeps (g c) p then n ∷ ms else ms) (kept_by_is f g z size (p + 1) ns h.1)
 
-  start_is : (b : Bool) (n : Position) → At t n → answer t (start b n) ≡ begun t b n
+  pub start_is : (b : Bool) (n : Position) → At t n → answer t (start b n) ≡ begun t b n
   start_is true n h = w.documents n h
   start_is false n h = refl
 
   mutual
-    value_is : (e : Expr) (c : Context) → At t c.at → answer t (value e c) ≡ value_in t e c
+    pub value_is : (e : Expr) (c : Context) → At t c.at → answer t (value e c) ≡ value_in t e c
     value_is (path b ss) c h =
         answer-and_then t (and_then (start b c.at) (λ ns. taken ss ns)) (λ ns. ends (nodes ns))
         ∙ ap nodes (answer-and_then t (start b c.at) (λ ns. taken ss ns) ∙ ap (λ ns. answer t (taken ss ns)) (start_is b c.at h) ∙ taken_is ss (begun t b c.at) (begun_at t b c.at h))

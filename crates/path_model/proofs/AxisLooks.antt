@@ -12,7 +12,7 @@ use Rattle.dewey_labels.proofs.Sides.{side_itself, under_before}
 use Rattle.tree_model.specs.declared.record.Record.{Record}
 use Rattle.tree_model.specs.declared.record.Record.TheVariants.{Document, Element, Text, Attr}
 use Rattle.tree_model.specs.Names.{Name}
-use Rattle.tree_model.specs.Tree.{Attributes, Forest, node, Tree, at, found, below, attributes_of, beside}
+use Rattle.tree_model.specs.Tree.{Attributes, Tree, at, found, below, attributes_of, beside}
 use Rattle.tree_model.specs.ValidTrees.{IsValidTree, KeysRise, NamesRise, may_have, same_label}
 use Rattle.tree_model.proofs.Keys.{list_tied}
 use Rattle.tree_model.proofs.NamedLists.{none_named}
@@ -23,24 +23,25 @@ use Rattle.path_model.specs.declared.path.Axis.{Axis}
 use Rattle.path_model.specs.declared.path.Axis.TheVariants as axis
 use Rattle.path_model.specs.declared.path.NodeTest.{NodeTest}
 use Rattle.path_model.specs.declared.path.NodeTest.TheVariants as test
-use Rattle.path_model.specs.Axes.{document_of, share_document, is_left, lies_under, is_child_of, is_parent_of, lies_above, are_siblings, follows, is_attribute_of, relates, is_reverse, in_axis_order, on_axis, side_of}
+use Rattle.path_model.specs.Axes.{document_of, share_document, lies_under, is_child_of, is_parent_of, lies_above, are_siblings, is_attribute_of, relates, is_reverse, in_axis_order, on_axis}
 use Rattle.path_model.specs.AxisPrograms.{along, ancestors_up, nodes_at, on_left, on_right, under_or_right}
 use Rattle.path_model.specs.Evaluation.{string_value}
 use Rattle.path_model.specs.Meaning as meaning
 use Rattle.path_model.specs.Meaning.{joined_texts, own_document}
 use Rattle.path_model.specs.Positions.{Position, a_node, an_attribute, attributes_at, positions_in, positions, label_of, is_node, is_document, is_same, passes}
-use Rattle.path_model.specs.Programs.{Program, looks, ends, at_node, at_tree, answer, head_seen, row_seen, tree_seen, all_seen, value_seen}
-use Rattle.path_model.proofs.AnswerLaws.{At, LooksTrue}
-use Rattle.path_model.proofs.DescendantLaws.{no_nodes, descendants_are}
+use Rattle.path_model.specs.Programs.{looks, ends, at_node, answer, head_seen, row_seen, tree_seen, all_seen, value_seen}
+use Rattle.path_model.proofs.AnswerLaws.{LooksTrue}
+use Rattle.path_model.proofs.DescendantLaws.{descendants_are}
 use Rattle.path_model.proofs.Filters.{filter_both, filter_out, filter_reversed, filter_there}
-use Rattle.path_model.proofs.Members.{Among, all_themselves, filtered_among}
+use Rattle.path_model.specs.Sets.{Among, At}
+use Rattle.path_model.proofs.Members.{all_themselves, filtered_among}
 use Rattle.path_model.proofs.NodeLooks.{NodeAt, ChildOf, same_label_itself, node_is, children_are, children_rise}
-use Rattle.path_model.proofs.OneMore.{with_itself, under_last, above_first, with_element, has_name}
+use Rattle.path_model.proofs.OneMore.{with_itself, under_last, above_first, with_element}
 use Rattle.path_model.proofs.OrderLaws.{filter_on}
 use Rattle.path_model.proofs.Standing.{HasNode, Stands, stands, has_node, node_lies, document_below_root, parent_there, no_attributes, odd_end}
 use Rattle.path_model.proofs.ProgramAnswers.{answer-and_then}
 use Rattle.path_model.proofs.SubtreeLaws.{filter_joined, all_labelled, within_subtree}
-use Rattle.path_model.proofs.Ways.{Above, IsTop, node_there, ancestors_seen, document_top, document_shows}
+use Rattle.path_model.proofs.Ways.{Above, node_there, ancestors_seen, document_top, document_shows}
 
 -- ---- an axis and its node test
 
@@ -199,7 +200,7 @@ module _ (t : Tree) (valid : IsValidTree t) where
       same (a_node k s) i = elim (is_child k l) as (λ b. is_child k l ≡ b → b ≡ same_label (parent l) k) [
         | true ↦ λ e. sym (ap (λ z. same_label z k) (parent_is k l (odd_end t valid k s (has_node t valid k s i)) e) ∙ same_label_itself k)
         | false ↦ λ e. elim (same_label (parent l) k) as (λ b. same_label (parent l) k ≡ b → false ≡ b) [
-          | true ↦ λ g. absurd (true≢false (sym (subst (λ z. is_child z l ≡ true) (same_label_is (parent l) k g) (is_child_there) ) ∙ e))
+          | true ↦ λ g. absurd (true≢false (sym (subst (λ z. is_child z l ≡ true) (same_label_is (parent l) k g) (is_child_there)) ∙ e))
           | false ↦ λ _. refl
         ] refl
       ] refl
@@ -215,7 +216,7 @@ module _ (t : Tree) (valid : IsValidTree t) where
   parent_shown (an_attribute l n v) i z = let e = node_of (an_attribute l n v) i in sym (node_is t valid l e.0 e.1)
 
   -- a node that stands is a position
-  node_at : (l : Label) (r : Record) → HasNode t.documents l r → At t (a_node l r)
+  pub node_at : (l : Label) (r : Record) → HasNode t.documents l r → At t (a_node l r)
   node_at l r h = (subst (AllByRecursion (At t)) (node_is t valid l r h ∙ ap head_seen h.is) (filtered_among (NodeAt l) (positions t))).0
 
   ancestor_shown : (n : Position) → At t n → (z : NodeTest) → answer t (along axis.Ancestor z n) ≡ related t axis.Ancestor n

@@ -1,15 +1,15 @@
 -- The descendants of a node are the nodes under its label.
-use Rattle.std.proofs.Common.{◌≡◌, Bool, true, false, cond, ◌&&◌, List, [], ◌∷◌, ◌++◌, map, refl, sym, ap, subst, ◌∙◌}
-use Rattle.std.specs.List.{AllByRecursion, filter}
+use Rattle.std.proofs.Common.{◌≡◌, Bool, true, false, cond, List, [], ◌∷◌, ◌++◌, refl, ap, ◌∙◌}
+use Rattle.std.specs.List.{filter}
 use Rattle.dewey_labels.specs.Labels.{Label, root}
 use Rattle.dewey_labels.specs.Sides.{side, is_in, is_under, under}
 use Rattle.dewey_labels.proofs.Sides.{side_itself, under_is_in}
 use Rattle.tree_model.specs.declared.record.Record.{Record}
 use Rattle.tree_model.specs.Tree.{Attributes, Forest, none, node, Tree, entries_of, at}
 use Rattle.tree_model.specs.inside.FoundNodes.{up}
-use Rattle.tree_model.specs.ValidTrees.{IsValidTree, KeysRise}
+use Rattle.tree_model.specs.ValidTrees.{IsValidTree}
 use Rattle.tree_model.proofs.Found.{Lies, lies}
-use Rattle.tree_model.proofs.Split.{Labelled, SideIs, all_under}
+use Rattle.tree_model.proofs.Split.{SideIs, all_under}
 use Rattle.path_model.specs.Axes.{lies_under}
 use Rattle.path_model.specs.Positions.{Position, a_node, an_attribute, attributes_at, positions_in, positions, label_of, is_node}
 use Rattle.path_model.specs.Programs.{all_seen}

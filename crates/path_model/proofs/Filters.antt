@@ -4,7 +4,8 @@ use Rattle.std.specs.List.{AllByRecursion, filter}
 use Rattle.std.proofs.lemmas.Grind.{reverse_onto}
 use Rattle.tree_model.specs.Tree.{Tree}
 use Rattle.path_model.specs.Positions.{Position, positions}
-use Rattle.path_model.proofs.Members.{Among, all_themselves}
+use Rattle.path_model.specs.Sets.{Among}
+use Rattle.path_model.proofs.Members.{all_themselves}
 use Rattle.path_model.proofs.OrderLaws.{filter_where}
 use Rattle.path_model.proofs.SubtreeLaws.{filter_joined}
 

@@ -10,4 +10,5 @@ pub mod Ways
 pub mod OneMore
 pub mod AnswerLaws
 pub mod AxisLooks
+pub mod PathLaws
 mod Rows

@@ -1,16 +1,10 @@
 -- Members of lists of positions.
-use Rattle.std.proofs.Common.{◌≡◌, Bool, true, false, cond, if◌then◌else◌, List, [], ◌∷◌, ◌++◌, ◌⊎◌, inl, inr, refl, sym, subst}
+use Rattle.std.proofs.Common.{Bool, true, false, cond, List, [], ◌∷◌, ◌++◌, inl, inr, refl, sym, subst}
 use Rattle.std.specs.List.{AllByRecursion, filter}
 use Rattle.std.proofs.Common.{reverse}
 use Rattle.std.proofs.lemmas.Grind.{reverse_onto}
-use Rattle.path_model.specs.Axes.{in_axis_order, is_reverse}
-use Rattle.path_model.specs.declared.path.Axis.{Axis}
 use Rattle.path_model.specs.Positions.{Position}
-
--- the position is one of these
-abbrev pub Among : Position → List Position → Type 0
-Among n [] = ⊥
-Among n (m ∷ ms) = (n ≡ m) ⊎ Among n ms
+use Rattle.path_model.specs.Sets.{Among}
 
 -- each is one of those
 abbrev pub AllAmong : List Position → List Position → Type 0

@@ -3,18 +3,18 @@ use Rattle.std.proofs.Common.{◌≡◌, Bool, true, false, cond, ◌&&◌, List
 use Rattle.std.specs.List.{AllByRecursion, filter}
 use Rattle.std.specs.Ordering.{ordering_reverse}
 use Rattle.std.specs.Cmp.Lexicographic.{slice_cmp, nat_list_cmp_total}
-use Rattle.dewey_labels.specs.Labels.{Label, root, is_child}
-use Rattle.dewey_labels.specs.Sides.{Side, side, is_in, is_under, is_right, under, right, same}
-use Rattle.dewey_labels.proofs.Sides.{side_itself, under_before, under_is_in}
+use Rattle.dewey_labels.specs.Labels.{Label, is_child}
+use Rattle.dewey_labels.specs.Sides.{side, is_in, under, right, same}
+use Rattle.dewey_labels.proofs.Sides.{side_itself, under_before}
 use Rattle.dewey_labels.proofs.Codes.{child_under, children_right}
 use Rattle.tree_model.specs.declared.record.Record.{Record}
-use Rattle.tree_model.specs.Tree.{Attributes, Forest, none, node, Tree, at, below}
+use Rattle.tree_model.specs.Tree.{Forest, none, node, Tree, at, below}
 use Rattle.tree_model.specs.ValidTrees.{IsValidTree, KeysRise, same_label}
 use Rattle.tree_model.proofs.EntryLimits.{list_itself}
 use Rattle.tree_model.proofs.Split.{SideIs, all_under}
 use Rattle.tree_model.proofs.StoredCatalogues.{same_label_is}
 use Rattle.path_model.specs.Positions.{Position, a_node, an_attribute, attributes_at, positions_in, positions, label_of, is_node}
-use Rattle.path_model.specs.Programs.{head_seen, row_seen, all_seen, tree_seen}
+use Rattle.path_model.specs.Programs.{head_seen, row_seen, tree_seen}
 use Rattle.path_model.proofs.DescendantLaws.{no_nodes, nodes_only}
 use Rattle.path_model.proofs.Filters.{filter_both, filter_out}
 use Rattle.path_model.proofs.Standing.{HasNode, node_lies}

@@ -12,15 +12,13 @@ use Rattle.tree_model.specs.Keys.{key_cmp}
 use Rattle.tree_model.specs.Names.{Name}
 use Rattle.tree_model.specs.Orders.{by_order}
 use Rattle.tree_model.specs.Tree.{Attributes, Tree}
-use Rattle.tree_model.specs.ValidTrees.{IsValidTree, NamesRise, same_label}
-use Rattle.tree_model.proofs.EntryLimits.{list_itself}
+use Rattle.tree_model.specs.ValidTrees.{IsValidTree, NamesRise}
 use Rattle.tree_model.proofs.Keys.{key_total, key_turned}
 use Rattle.path_model.specs.Axes.{is_above, lies_under, lies_above}
 use Rattle.path_model.specs.Evaluation.{put_in}
 use Rattle.path_model.specs.Positions.{Position, a_node, an_attribute, attributes_at, positions, label_of, key_of, is_node, is_same}
-use Rattle.path_model.proofs.Members.{Among}
-use Rattle.path_model.proofs.NodeLooks.{same_label_turned}
-use Rattle.path_model.proofs.OrderLaws.{Higher, put_low, put_filter, positions_rise, filter_on}
+use Rattle.path_model.specs.Sets.{Among, Precedes}
+use Rattle.path_model.proofs.OrderLaws.{put_low, put_filter, positions_rise, filter_on}
 use Rattle.path_model.proofs.Standing.{Stands, stands, node_lies}
 use Rattle.path_model.proofs.SubtreeLaws.{named_above}
 use Rattle.path_model.proofs.Ways.{Above, filter_holds}
@@ -36,7 +34,7 @@ same_turned : (n m : Position) → is_same n m ≡ is_same m n
 same_turned n m = ap is_eq (key_total.antisymm (key_of n) (key_of m)) ∙ is_eq_turned (key_cmp (key_of m) (key_of n))
 
 -- behind positions that lie below it
-pub put_high : (x : Position) (ms : List Position) → AllByRecursion (λ m. Higher m x) ms → put_in x ms ≡ ms ++ (x ∷ [])
+pub put_high : (x : Position) (ms : List Position) → AllByRecursion (λ m. Precedes m x) ms → put_in x ms ≡ ms ++ (x ∷ [])
 put_high x [] h = refl
 put_high x (m ∷ ms) h = ap (λ o. by_order o (x ∷ m ∷ ms) (m ∷ ms) (m ∷ put_in x ms)) (key_turned (key_of m) (key_of x) h.0) ∙ ap (λ (ns : List Position). m ∷ ns) (put_high x ms h.1)
 
@@ -74,9 +72,9 @@ module _ (t : Tree) (valid : IsValidTree t) where
       ∙ sym (put_filter n q (positions t) (positions_rise t valid) h)
 
   pub under_last : (l : Label) (r : _) → put_in (a_node l r) (filter (lies_under (a_node l r)) (positions t)) ≡ a_node l r ∷ filter (lies_under (a_node l r)) (positions t)
-  under_last l r = put_low (a_node l r) _ (all_of (λ m. lies_under (a_node l r) m ≡ true) (Higher (a_node l r)) higher (filter (lies_under (a_node l r)) (positions t)) (filter_holds (lies_under (a_node l r)) (positions t)))
+  under_last l r = put_low (a_node l r) _ (all_of (λ m. lies_under (a_node l r) m ≡ true) (Precedes (a_node l r)) higher (filter (lies_under (a_node l r)) (positions t)) (filter_holds (lies_under (a_node l r)) (positions t)))
     where
-      higher : (m : Position) → lies_under (a_node l r) m ≡ true → Higher (a_node l r) m
+      higher : (m : Position) → lies_under (a_node l r) m ≡ true → Precedes (a_node l r) m
       higher (a_node k s) e = lower_label l k [] [] (under_before l k (under_is (side l k) e))
       higher (an_attribute k n v) e = absurd (true≢false (sym e))
 
@@ -93,7 +91,7 @@ module _ (t : Tree) (valid : IsValidTree t) where
 
   -- what lies above a position stands before it
   pub above_first : (n : Position) → Among n (positions t) → put_in n (filter (lies_above n) (positions t)) ≡ filter (lies_above n) (positions t) ++ (n ∷ [])
-  above_first n h = put_high n _ (all_of (λ m. lies_above n m ≡ true) (λ m. Higher m n) (lower n h) (filter (lies_above n) (positions t)) (filter_holds (lies_above n) (positions t)))
+  above_first n h = put_high n _ (all_of (λ m. lies_above n m ≡ true) (λ m. Precedes m n) (lower n h) (filter (lies_above n) (positions t)) (filter_holds (lies_above n) (positions t)))
     where
       named : (k : Label) (l : Label) (n : Name) → is_empty n ≡ false → (o : Ordering) → slice_cmp nat_cmp l k ≡ o → (is_eq o || is_above (side l k)) ≡ true → ordering_then (slice_cmp nat_cmp k l) (slice_cmp nat_cmp [] n) ≡ Less
       named k l [] e o q g = absurd (true≢false e)
@@ -104,7 +102,7 @@ module _ (t : Tree) (valid : IsValidTree t) where
           key_less k l q = Rattle.std.specs.Cmp.Lexicographic.nat_list_cmp_total.antisymm k l ∙ ap ordering_reverse q
       named k l (x ∷ n) e Greater q g = lower_label k l [] (x ∷ n) (above_lower l k g)
 
-      lower : (n : Position) → Among n (positions t) → (m : Position) → lies_above n m ≡ true → Higher m n
+      lower : (n : Position) → Among n (positions t) → (m : Position) → lies_above n m ≡ true → Precedes m n
       lower (a_node l r) h (a_node k s) e = lower_label k l [] [] (above_lower l k e)
       lower (a_node l r) h (an_attribute k m v) e = absurd (true≢false (sym e))
       lower (an_attribute l n v) h (a_node k s) e = named k l n (has_name l n v h) (slice_cmp nat_cmp l k) refl e
@@ -117,9 +115,9 @@ module _ (t : Tree) (valid : IsValidTree t) where
       let x : Position = a_node l r in
       Rattle.path_model.proofs.Filters.filter_there t (lies_above (an_attribute l n v)) (λ m. is_same x m || Above l m) both
       ∙ with_itself x (Above l) h
-      ∙ put_high x (filter (Above l) (positions t)) (all_of (λ m. Above l m ≡ true) (λ m. Higher m x) lower (filter (Above l) (positions t)) (filter_holds (Above l) (positions t)))
+      ∙ put_high x (filter (Above l) (positions t)) (all_of (λ m. Above l m ≡ true) (λ m. Precedes m x) lower (filter (Above l) (positions t)) (filter_holds (Above l) (positions t)))
     where
-      lower : (m : Position) → Above l m ≡ true → Higher m (a_node l r)
+      lower : (m : Position) → Above l m ≡ true → Precedes m (a_node l r)
       lower (a_node k s) e = lower_label k l [] [] (above_lower l k e)
       lower (an_attribute k m u) e = absurd (true≢false (sym e))
 

@@ -1,31 +1,25 @@
 -- Lists of a tree's positions, put in document order without doubles, are what is filtered out of all positions.
-use Rattle.std.proofs.Common.{◌≡◌, Bool, true, false, cond, ◌||◌, List, [], ◌∷◌, ◌++◌, ◌⊎◌, inl, inr, map, refl, sym, ap, subst, ◌∙◌, Less, Equal, Greater}
+use Rattle.std.proofs.Common.{◌≡◌, Bool, true, false, cond, ◌||◌, List, [], ◌∷◌, ◌++◌, inl, inr, map, refl, sym, ap, subst, ◌∙◌, Less}
 use Rattle.std.specs.List.{AllByRecursion, filter, list_any}
 use Rattle.std.specs.Ordering.{is_eq}
-use Rattle.std.specs.declared.cmp.Ordering.{Ordering}
 use Rattle.std.proofs.lemmas.List.Folds.{list_any-append}
 use Rattle.dewey_labels.specs.Labels.{Label, root}
 use Rattle.tree_model.specs.declared.key.Key.{Key}
-use Rattle.tree_model.specs.declared.record.Record.{Record}
 use Rattle.tree_model.specs.Entries.{Entries, Above, Sorted}
 use Rattle.tree_model.specs.Keys.{key_cmp}
 use Rattle.tree_model.specs.Orders.{by_order}
 use Rattle.tree_model.specs.Tree.{Attributes, Forest, none, node, Tree, attr_entry, own, entries_of}
-use Rattle.tree_model.specs.ValidTrees.{IsValidTree, KeysRise}
+use Rattle.tree_model.specs.ValidTrees.{IsValidTree}
 use Rattle.tree_model.proofs.Keys.{key_itself, key_turned}
 use Rattle.tree_model.proofs.Sorted.{entries_sorted}
-use Rattle.path_model.specs.Positions.{Position, a_node, an_attribute, attributes_at, positions_in, positions, key_of, is_same}
+use Rattle.path_model.specs.Positions.{Position, a_node, attributes_at, positions_in, positions, key_of, is_same}
 use Rattle.path_model.specs.Meaning.{is_among, union}
 use Rattle.path_model.specs.Evaluation.{put_in, in_order}
-use Rattle.path_model.proofs.Members.{Among, AllAmong}
+use Rattle.path_model.specs.Sets.{Among, Precedes, Rises}
+use Rattle.path_model.proofs.Members.{AllAmong}
 use Rattle.path_model.proofs.ProgramAnswers.{flat}
 
 -- ---- rising positions
-
--- all that stand behind a position lie above it
-abbrev pub Rises : List Position → Type 0
-Rises [] = Unit {0}
-Rises (n ∷ ns) = AllByRecursion (λ m. key_cmp (key_of n) (key_of m) ≡ Less) ns × Rises ns
 
 -- positions and the entries at their keys
 abbrev Paired : List Position → Entries → Type 0
@@ -80,56 +74,53 @@ filter_none (x ∷ xs) = filter_none xs
 
 -- ---- one more position
 
-abbrev pub Higher : Position → Position → Type 0
-Higher x m = key_cmp (key_of x) (key_of m) ≡ Less
-
-not_same_higher : (x m : Position) → Higher x m → is_same m x ≡ false
+not_same_higher : (x m : Position) → Precedes x m → is_same m x ≡ false
 not_same_higher x m h = ap is_eq (key_turned (key_of x) (key_of m) h)
 
-not_same_lower : (x m : Position) → Higher m x → is_same m x ≡ false
+not_same_lower : (x m : Position) → Precedes m x → is_same m x ≡ false
 not_same_lower x m h = ap is_eq h
 
 same_itself : (x : Position) → is_same x x ≡ true
 same_itself x = ap is_eq (key_itself (key_of x))
 
 -- before positions that lie above it
-pub put_low : (x : Position) (ms : List Position) → AllByRecursion (Higher x) ms → put_in x ms ≡ x ∷ ms
+pub put_low : (x : Position) (ms : List Position) → AllByRecursion (Precedes x) ms → put_in x ms ≡ x ∷ ms
 put_low x [] h = refl
 put_low x (m ∷ ms) h = ap (λ o. by_order o (x ∷ m ∷ ms) (m ∷ ms) (m ∷ put_in x ms)) h.0
 
-higher_filtered : (x : Position) (q : Position → Bool) (ms : List Position) → AllByRecursion (Higher x) ms → AllByRecursion (Higher x) (filter q ms)
+higher_filtered : (x : Position) (q : Position → Bool) (ms : List Position) → AllByRecursion (Precedes x) ms → AllByRecursion (Precedes x) (filter q ms)
 higher_filtered x q [] h = tt
-higher_filtered x q (m ∷ ms) h = elim (q m) as (λ b. AllByRecursion (Higher x) (cond b (m ∷ filter q ms) (filter q ms))) [ true ↦ (h.0, higher_filtered x q ms h.1) | false ↦ higher_filtered x q ms h.1 ]
+higher_filtered x q (m ∷ ms) h = elim (q m) as (λ b. AllByRecursion (Precedes x) (cond b (m ∷ filter q ms) (filter q ms))) [ true ↦ (h.0, higher_filtered x q ms h.1) | false ↦ higher_filtered x q ms h.1 ]
 
-higher_member : (y x : Position) (ms : List Position) → AllByRecursion (Higher y) ms → Among x ms → Higher y x
+higher_member : (y x : Position) (ms : List Position) → AllByRecursion (Precedes y) ms → Among x ms → Precedes y x
 higher_member y x [] h i = absurd i
-higher_member y x (m ∷ ms) h (inl e) = subst (Higher y) (sym e) h.0
+higher_member y x (m ∷ ms) h (inl e) = subst (Precedes y) (sym e) h.0
 higher_member y x (m ∷ ms) h (inr i) = higher_member y x ms h.1 i
 
 module _ (x : Position) (q : Position → Bool) where
   abbrev Or : Position → Bool
   Or m = is_same m x || q m
 
-  put_here : (ys : List Position) → AllByRecursion (Higher x) ys → (b : Bool) → put_in x (cond b (x ∷ filter q ys) (filter q ys)) ≡ x ∷ filter q ys
+  put_here : (ys : List Position) → AllByRecursion (Precedes x) ys → (b : Bool) → put_in x (cond b (x ∷ filter q ys) (filter q ys)) ≡ x ∷ filter q ys
   put_here ys h true = ap (λ o. by_order o (x ∷ x ∷ filter q ys) (x ∷ filter q ys) (x ∷ put_in x (filter q ys))) (key_itself (key_of x))
   put_here ys h false = put_low x (filter q ys) (higher_filtered x q ys h)
 
   pub put_filter : (ps : List Position) → Rises ps → Among x ps → put_in x (filter q ps) ≡ filter Or ps
   put_filter [] r i = absurd i
   put_filter (y ∷ ys) r (inl e) =
-      let above : AllByRecursion (Higher x) ys = subst (λ z. AllByRecursion (Higher z) ys) (sym e) r.0 in
-      let others : filter q ys ≡ filter Or ys = filter_where (Higher x) q Or (λ m h. sym (ap (λ b. b || q m) (not_same_higher x m h))) ys above in
+      let above : AllByRecursion (Precedes x) ys = subst (λ z. AllByRecursion (Precedes z) ys) (sym e) r.0 in
+      let others : filter q ys ≡ filter Or ys = filter_where (Precedes x) q Or (λ m h. sym (ap (λ b. b || q m) (not_same_higher x m h))) ys above in
       ap (λ z. put_in x (cond (q y) (z ∷ filter q ys) (filter q ys))) (sym e)
       ∙ put_here ys above (q y)
       ∙ ap (λ (zs : List Position). x ∷ zs) others
       ∙ ap (λ z. z ∷ filter Or ys) e
       ∙ sym (ap (λ b. cond (b || q y) (y ∷ filter Or ys) (filter Or ys)) (ap (λ z. is_same y z) e ∙ same_itself y))
   put_filter (y ∷ ys) r (inr i) =
-      let low : Higher y x = higher_member y x ys r.0 i in
+      let low : Precedes y x = higher_member y x ys r.0 i in
       let rest = put_filter ys r.1 i in
       passed (q y) low rest ∙ sym (ap (λ b. cond (b || q y) (y ∷ filter Or ys) (filter Or ys)) (not_same_lower x y low))
     where
-      passed : (b : Bool) → Higher y x → put_in x (filter q ys) ≡ filter Or ys → put_in x (cond b (y ∷ filter q ys) (filter q ys)) ≡ cond b (y ∷ filter Or ys) (filter Or ys)
+      passed : (b : Bool) → Precedes y x → put_in x (filter q ys) ≡ filter Or ys → put_in x (cond b (y ∷ filter q ys) (filter q ys)) ≡ cond b (y ∷ filter Or ys) (filter Or ys)
       passed true low rest = ap (λ o. by_order o (x ∷ y ∷ filter q ys) (y ∷ filter q ys) (y ∷ put_in x (filter q ys))) (key_turned (key_of y) (key_of x) low) ∙ ap (λ (zs : List Position). y ∷ zs) rest
       passed false low rest = rest
 

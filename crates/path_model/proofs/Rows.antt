@@ -1,6 +1,6 @@
 -- Worked rows: what paths mean on small trees, what they find and what they look at, by computation.
-use Rattle.std.proofs.Common.{◌≡◌, Bool, true, false, List, [], ◌∷◌, refl, Option, None, Some, map}
-use Rattle.std.specs.Prelude.{codes, pos, length, ℕ}
+use Rattle.std.proofs.Common.{◌≡◌, Bool, true, false, List, [], ◌∷◌, refl, map}
+use Rattle.std.specs.Prelude.{codes, pos, ℕ}
 use Rattle.dewey_labels.specs.Labels.{Label}
 use Rattle.tree_model.specs.declared.record.Record.TheVariants.{Document, Element, Text}
 use Rattle.tree_model.specs.Tree.{Forest, none, node, Tree}
@@ -11,8 +11,8 @@ use Rattle.path_model.specs.declared.path.NodeTest.TheVariants as test
 use Rattle.path_model.specs.declared.path.Op.TheVariants.{Eq, Gt}
 use Rattle.path_model.specs.Paths.{Expr, path, literal, apply, Exprs, no_more, then_expr, Steps, no_steps, step, binary}
 use Rattle.path_model.specs.Paths as paths
-use Rattle.path_model.specs.Positions.{Position, a_node, an_attribute, label_of}
-use Rattle.path_model.specs.Programs.{Look, at_node, at_row, at_tree, at_attribute, Program, ends, looks, answer, seen, looked}
+use Rattle.path_model.specs.Positions.{Position, a_node, label_of}
+use Rattle.path_model.specs.Programs.{at_node, at_row, at_tree, at_attribute, answer, looked}
 use Rattle.path_model.specs.Evaluation.{find_from}
 use Rattle.path_model.specs.Meaning.{found_from}
 

@@ -1,12 +1,11 @@
 -- The positions of a valid tree are found: each one's label is that of a node, whose record or attribute it is.
-use Rattle.std.proofs.Common.{◌≡◌, true, false, cond, List, [], ◌∷◌, ◌++◌, ◌⊎◌, inl, inr, ⊎_elim, Option, None, Some, refl, sym, ap, subst, ◌∙◌, true≢false}
-use Rattle.dewey_labels.specs.Labels.{Label, root, is_child, parent, is_label}
+use Rattle.std.proofs.Common.{◌≡◌, true, false, List, [], ◌∷◌, ◌++◌, ◌⊎◌, inl, inr, ⊎_elim, None, refl, sym, ap, subst, ◌∙◌, true≢false}
+use Rattle.dewey_labels.specs.Labels.{Label, root, parent}
 use Rattle.dewey_labels.specs.Sides.{Side, side, under, right}
 use Rattle.dewey_labels.proofs.Sides.{side_itself}
 use Rattle.dewey_labels.proofs.Codes.{OddEnd, child_odd}
 use Rattle.tree_model.specs.declared.record.Record.{Record}
 use Rattle.tree_model.specs.declared.record.Record.TheVariants.{Document, Element, Text, Attr}
-use Rattle.tree_model.specs.Names.{Name}
 use Rattle.tree_model.specs.Tree.{Attributes, Forest, none, node, Tree, choose, at, found, record_of}
 use Rattle.tree_model.specs.inside.FoundNodes.{up}
 use Rattle.tree_model.specs.ValidTrees.{IsValidTree, KeysRise, KindsAllowed, may_stand, may_have}
@@ -16,7 +15,7 @@ use Rattle.tree_model.proofs.FoundParents.{found_right, over_is}
 use Rattle.tree_model.proofs.FoundRecords.{at_kinds}
 use Rattle.tree_model.proofs.WholeTree.{found_under}
 use Rattle.path_model.specs.Positions.{Position, a_node, an_attribute, attributes_at, positions_in, positions, label_of}
-use Rattle.path_model.proofs.Members.{Among}
+use Rattle.path_model.specs.Sets.{Among}
 
 -- ---- nodes
 
@@ -89,12 +88,12 @@ pub stands_in : (p b : Label) (f : Forest) (n : Position) → KeysRise p b f →
 stands_in p b none n w h = absurd h
 stands_in p b (node l r ats ch nx) n w h =
     ⊎_elim
-        (λ i. ⊎_elim
-            (λ j. own_stands l r ats ch nx n j)
-            (λ j. let s : Stands ch n = stands_in l l ch n w.4 j in moved l r ats ch nx ch n under (found_under l l (label_of n) ch w.4 (ap found s.is)) refl s)
-            (among_joined n (a_node l r ∷ attributes_at l ats) (positions_in ch) i))
-        (λ i. let s : Stands nx n = stands_in p l nx n w.5 i in moved l r ats ch nx nx n right (found_right p l (label_of n) l nx w.5 w.0 (inr refl) (ap found s.is)) refl s)
-        (among_joined n ((a_node l r ∷ attributes_at l ats) ++ positions_in ch) (positions_in nx) h)
+    (λ i. ⊎_elim
+    (λ j. own_stands l r ats ch nx n j)
+    (λ j. let s : Stands ch n = stands_in l l ch n w.4 j in moved l r ats ch nx ch n under (found_under l l (label_of n) ch w.4 (ap found s.is)) refl s)
+    (among_joined n (a_node l r ∷ attributes_at l ats) (positions_in ch) i))
+    (λ i. let s : Stands nx n = stands_in p l nx n w.5 i in moved l r ats ch nx nx n right (found_right p l (label_of n) l nx w.5 w.0 (inr refl) (ap found s.is)) refl s)
+    (among_joined n ((a_node l r ∷ attributes_at l ats) ++ positions_in ch) (positions_in nx) h)
 
 module _ (t : Tree) (valid : IsValidTree t) where
   pub stands : (n : Position) → Among n (positions t) → Stands t.documents n
@@ -127,16 +126,16 @@ module _ (t : Tree) (valid : IsValidTree t) where
   pub document_below_root : (l : Label) → HasNode t.documents l Document → parent l ≡ root
   document_below_root l h =
       ⊎_elim
-          (λ e. sym (up_is_parent l Document h) ∙ e.0)
-          (λ e. absurd (not_below (at (up l root t.documents) t.documents) e.0 (subst (λ o. may_stand o Document ≡ true) e.1 (kinds l Document h).0)))
-          (over_is None root root l t.documents valid.keys (ap found h.is))
+      (λ e. sym (up_is_parent l Document h) ∙ e.0)
+      (λ e. absurd (not_below (at (up l root t.documents) t.documents) e.0 (subst (λ o. may_stand o Document ≡ true) e.1 (kinds l Document h).0)))
+      (over_is None root root l t.documents valid.keys (ap found h.is))
 
   pub parent_there : (l : Label) (r : Record) → may_stand None r ≡ false → HasNode t.documents l r → found (at (parent l) t.documents) ≡ true
   parent_there l r below h =
       ⊎_elim
-          (λ e. absurd (true≢false (sym (subst (λ o. may_stand o r ≡ true) e.1 (kinds l r h).0) ∙ below)))
-          (λ e. subst (λ p. found (at p t.documents) ≡ true) (up_is_parent l r h) e.0)
-          (over_is None root root l t.documents valid.keys (ap found h.is))
+      (λ e. absurd (true≢false (sym (subst (λ o. may_stand o r ≡ true) e.1 (kinds l r h).0) ∙ below)))
+      (λ e. subst (λ p. found (at p t.documents) ≡ true) (up_is_parent l r h) e.0)
+      (over_is None root root l t.documents valid.keys (ap found h.is))
 
   -- only an element has attributes
   pub no_attributes : (l : Label) (r : Record) (h : HasNode t.documents l r) → may_have r (([], []) ∷ []) ≡ false → h.attributes ≡ []

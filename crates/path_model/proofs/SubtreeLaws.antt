@@ -1,16 +1,14 @@
 -- What lies at and under a found node, among the positions of the tree.
-use Rattle.std.proofs.Common.{◌≡◌, Bool, true, false, cond, ◌&&◌, List, [], ◌∷◌, ◌++◌, map, drop, refl, sym, ap, subst, ◌∙◌, nat_cmp, Less}
+use Rattle.std.proofs.Common.{◌≡◌, Bool, true, false, cond, List, [], ◌∷◌, ◌++◌, map, refl, sym, ap, subst, ◌∙◌, nat_cmp, Less}
 use Rattle.std.specs.List.{AllByRecursion, filter}
 use Rattle.std.specs.Cmp.Lexicographic.{slice_cmp}
-use Rattle.dewey_labels.specs.Labels.{Label, root, is_child}
+use Rattle.dewey_labels.specs.Labels.{Label, root}
 use Rattle.dewey_labels.specs.Lists.{is_empty}
-use Rattle.dewey_labels.specs.Sides.{side, is_in, is_under, under}
-use Rattle.dewey_labels.proofs.Sides.{side_itself}
+use Rattle.dewey_labels.specs.Sides.{side, is_in}
 use Rattle.tree_model.specs.declared.key.Key.{Key}
 use Rattle.tree_model.specs.declared.record.Record.{Record}
 use Rattle.tree_model.specs.declared.record.Record.TheVariants.{Document, Element, Text, Attr}
 use Rattle.tree_model.specs.Names.{Name}
-use Rattle.tree_model.specs.Keys.{node_key}
 use Rattle.tree_model.specs.Entries.{Entries}
 use Rattle.tree_model.specs.Tree.{Attributes, Forest, none, node, Tree, attr_entry, own, entries_of, at}
 use Rattle.tree_model.specs.inside.FoundNodes.{up}
@@ -18,8 +16,7 @@ use Rattle.tree_model.specs.ValidTrees.{IsValidTree, KeysRise, NamesRise}
 use Rattle.tree_model.proofs.Found.{Lies, lies}
 use Rattle.tree_model.proofs.Split.{Labelled}
 use Rattle.tree_model.proofs.Stretches.{stretch_law}
-use Rattle.path_model.specs.Positions.{Position, a_node, an_attribute, attributes_at, positions_in, positions, label_of, is_node}
-use Rattle.path_model.specs.Programs.{all_seen, tree_seen}
+use Rattle.path_model.specs.Positions.{Position, a_node, an_attribute, attributes_at, positions_in, positions, label_of}
 use Rattle.path_model.proofs.OrderLaws.{filter_on}
 
 -- ---- positions as entries

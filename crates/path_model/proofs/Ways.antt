@@ -24,10 +24,11 @@ use Rattle.path_model.specs.Positions.{Position, a_node, an_attribute, attribute
 use Rattle.path_model.specs.Programs.{head_seen, tree_seen, answer, looks, ends, at_node}
 use Rattle.path_model.proofs.DescendantLaws.{no_nodes}
 use Rattle.path_model.proofs.Filters.{filter_out, filter_there}
-use Rattle.path_model.proofs.Members.{Among, all_reversed, filtered_among}
+use Rattle.path_model.specs.Sets.{Among}
+use Rattle.path_model.proofs.Members.{all_reversed, filtered_among}
 use Rattle.path_model.proofs.NodeLooks.{NodeIn, all_are}
 use Rattle.path_model.proofs.ProgramAnswers.{flat, answer-gathered}
-use Rattle.path_model.proofs.Standing.{HasNode, Stands, stands, has_node}
+use Rattle.path_model.proofs.Standing.{HasNode, stands, has_node}
 use Rattle.path_model.proofs.SubtreeLaws.{filter_joined, all_labelled}
 
 -- ---- the nodes over a label, from the top of a forest down

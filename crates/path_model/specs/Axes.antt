@@ -1,8 +1,6 @@
 -- The axes (XPath 1.0, section 2.2): relations between two positions of a tree.
 use Rattle.std.specs.Prelude.{Bool, true, false, not, ◌&&◌, ◌||◌, if◌then◌else◌, List, [], ◌∷◌, reverse}
 use Rattle.std.specs.List.{filter}
-use Rattle.std.specs.Ordering.{is_eq, nat_cmp}
-use Rattle.std.specs.Cmp.Lexicographic.{slice_cmp}
 use Rattle.dewey_labels.specs.Labels.{Label, parent, is_child}
 use Rattle.dewey_labels.specs.Sides.{Side, side, is_under, is_right, above, left, same, under, right}
 use Rattle.dewey_labels.specs.Ancestors.{ancestors}

@@ -1,5 +1,5 @@
 -- What is looked at for the axes (docs/PROFILE.md, "Paths").
-use Rattle.std.specs.Prelude.{Bool, true, false, List, [], ◌∷◌, ◌||◌, reverse, drop}
+use Rattle.std.specs.Prelude.{Bool, List, [], ◌∷◌, ◌||◌, reverse, drop}
 use Rattle.std.specs.List.{filter}
 use Rattle.dewey_labels.specs.Labels.{Label, parent}
 use Rattle.dewey_labels.specs.Sides.{side, is_under, is_right}

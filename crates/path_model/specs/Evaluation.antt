@@ -1,5 +1,5 @@
 -- The evaluation of a path as one program: what is looked at, in which order (docs/PROFILE.md, "Paths").
-use Rattle.std.specs.Prelude.{ℕ, ◌+◌, Bool, true, false, not, if◌then◌else◌, List, [], ◌∷◌, ◌++◌, drop, length, Some}
+use Rattle.std.specs.Prelude.{ℕ, ◌+◌, Bool, true, false, not, if◌then◌else◌, List, [], ◌∷◌, drop, length, Some}
 use Rattle.std.specs.List.{filter}
 use Rattle.std.specs.Str.{chars}
 use Rattle.tree_model.specs.declared.record.Record.TheVariants.{Text}

@@ -1,5 +1,5 @@
 -- What operators and functions answer (XPath 1.0, sections 3 and 4; docs/PROFILE.md, "Paths").
-use Rattle.std.specs.Prelude.{ℕ, Bool, true, false, not, List, [], ◌∷◌, map, drop, length, pos, Option, None, Some}
+use Rattle.std.specs.Prelude.{ℕ, Bool, true, false, not, List, [], ◌∷◌, map, drop, length, pos, None, Some}
 use Rattle.std.specs.Ordering.{int_eq}
 use Rattle.std.specs.Str.{chars}
 use Rattle.tree_model.specs.Names.{Name}

@@ -3,6 +3,7 @@ pub mod Paths
 pub mod PlainPaths
 -- Positions and axes
 pub mod Positions
+pub mod Sets
 pub mod Axes
 -- Values
 pub mod Numbers
@@ -15,3 +16,5 @@ pub mod Meaning
 pub mod Programs
 pub mod AxisPrograms
 pub mod Evaluation
+-- The call
+pub mod Finds

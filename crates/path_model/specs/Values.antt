@@ -1,5 +1,5 @@
 -- Values of expressions, and how they are compared (XPath 1.0, sections 3.4 and 4; docs/PROFILE.md, "Paths").
-use Rattle.std.specs.Prelude.{ℕ, Bool, true, false, not, ◌||◌, if◌then◌else◌, ℤ, pos, int_le, int_lt, List, [], ◌∷◌, Option, None, Some, codes}
+use Rattle.std.specs.Prelude.{ℕ, Bool, true, false, not, ◌||◌, if◌then◌else◌, pos, int_le, int_lt, List, [], ◌∷◌, None, Some, codes}
 use Rattle.std.specs.List.{list_any}
 use Rattle.std.specs.Ordering.{int_eq}
 use Rattle.std.specs.Str.{bytes_eq}

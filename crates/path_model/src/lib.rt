@@ -4,6 +4,11 @@
 #![tactic(auto)]
 
 mod copies;
+mod laws;
 mod path;
 
+pub use laws::{
+    expressions_are_evaluated_to_their_values, find_answers_a_set_or_not_found,
+    looks_show_what_axes_relate, paths_find_the_sets_that_they_mean,
+};
 pub use path::{Axis, CompareOp, Expr, NodeTest, Op, Step, XPath};
