@@ -11,4 +11,7 @@ pub mod OneMore
 pub mod AnswerLaws
 pub mod AxisLooks
 pub mod PathLaws
+pub mod StepLaws
 mod Rows
+mod AxisRows
+mod ComparisonRows

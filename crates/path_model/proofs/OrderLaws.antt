@@ -74,13 +74,13 @@ filter_none (x ∷ xs) = filter_none xs
 
 -- ---- one more position
 
-not_same_higher : (x m : Position) → Precedes x m → is_same m x ≡ false
+pub not_same_higher : (x m : Position) → Precedes x m → is_same m x ≡ false
 not_same_higher x m h = ap is_eq (key_turned (key_of x) (key_of m) h)
 
 not_same_lower : (x m : Position) → Precedes m x → is_same m x ≡ false
 not_same_lower x m h = ap is_eq h
 
-same_itself : (x : Position) → is_same x x ≡ true
+pub same_itself : (x : Position) → is_same x x ≡ true
 same_itself x = ap is_eq (key_itself (key_of x))
 
 -- before positions that lie above it
@@ -92,7 +92,7 @@ higher_filtered : (x : Position) (q : Position → Bool) (ms : List Position) �
 higher_filtered x q [] h = tt
 higher_filtered x q (m ∷ ms) h = elim (q m) as (λ b. AllByRecursion (Precedes x) (cond b (m ∷ filter q ms) (filter q ms))) [ true ↦ (h.0, higher_filtered x q ms h.1) | false ↦ higher_filtered x q ms h.1 ]
 
-higher_member : (y x : Position) (ms : List Position) → AllByRecursion (Precedes y) ms → Among x ms → Precedes y x
+pub higher_member : (y x : Position) (ms : List Position) → AllByRecursion (Precedes y) ms → Among x ms → Precedes y x
 higher_member y x [] h i = absurd i
 higher_member y x (m ∷ ms) h (inl e) = subst (Precedes y) (sym e) h.0
 higher_member y x (m ∷ ms) h (inr i) = higher_member y x ms h.1 i

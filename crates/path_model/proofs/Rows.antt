@@ -4,7 +4,7 @@ use Rattle.std.specs.Prelude.{codes, pos, ℕ}
 use Rattle.dewey_labels.specs.Labels.{Label}
 use Rattle.tree_model.specs.declared.record.Record.TheVariants.{Document, Element, Text}
 use Rattle.tree_model.specs.Tree.{Forest, none, node, Tree}
-use Rattle.path_model.specs.declared.path.Axis.TheVariants.{Child, Attribute, PrecedingSibling, DescendantOrSelf}
+use Rattle.path_model.specs.declared.path.Axis.TheVariants.{Child, Descendant, Attribute, PrecedingSibling, DescendantOrSelf}
 use Rattle.path_model.specs.declared.path.Axis.{Axis}
 use Rattle.path_model.specs.declared.path.NodeTest.{NodeTest}
 use Rattle.path_model.specs.declared.path.NodeTest.TheVariants as test
@@ -133,3 +133,13 @@ first_of_each = refl
 
 finds_first_of_each : answered prices true first_prices (a_node D Document) ≡ under (under E 1001) 1001 ∷ under (under E 1003) 1001 ∷ under (under E 1005) 1001 ∷ under (under E 1007) 1001 ∷ []
 finds_first_of_each = refl
+
+-- /descendant::price[1] is the first of all
+abbrev first_price : Steps
+first_price = named Descendant (codes "price") (one (paths.number (pos 1))) no_steps
+
+first_of_all : meant prices true first_price (a_node D Document) ≡ under (under E 1001) 1001 ∷ []
+first_of_all = refl
+
+finds_first_of_all : answered prices true first_price (a_node D Document) ≡ under (under E 1001) 1001 ∷ []
+finds_first_of_all = refl

@@ -1,22 +1,22 @@
 //! The laws of paths, each the contract of a function that does nothing.
-ghost use Rattle.std.specs.Prelude.{◌≡◌, ◌∷◌, [], Bool, false, not};
-ghost use Rattle.std.specs.List.{filter};
+ghost use Rattle.std.specs.Prelude.{◌≡◌, ◌∷◌, [], ◌&&◌, Bool, false, not, List};
+ghost use Rattle.std.specs.List.{filter, list_any};
 ghost use Rattle.dewey_labels.specs.Labels.{Label};
 ghost use Rattle.tree_model.specs.Outcomes.{is_refused, not_found_err};
 ghost use Rattle.tree_model.specs.Tree.{Tree, at, found};
 ghost use Rattle.tree_model.specs.ValidTrees.{IsValidTree};
 ghost use Rattle.tree_model.specs.declared.refusal.Refusal.TheVariants.{Dom};
 ghost use Rattle.tree_model.specs.declared.reply.Reply.TheVariants.{Refused};
-ghost use Rattle.path_model.specs.Axes.{on_axis};
+ghost use Rattle.path_model.specs.Axes.{on_axis, relates};
 ghost use Rattle.path_model.specs.AxisPrograms.{along};
 ghost use Rattle.path_model.specs.Evaluation as evaluation;
 ghost use Rattle.path_model.specs.Evaluation.{find_from, start};
 ghost use Rattle.path_model.specs.Finds.{find, found_at};
 ghost use Rattle.path_model.specs.Functions.{Context};
 ghost use Rattle.path_model.specs.Meaning as meaning;
-ghost use Rattle.path_model.specs.Meaning.{begun, found_from, value_in};
-ghost use Rattle.path_model.specs.Paths.{Expr, Path, Steps};
-ghost use Rattle.path_model.specs.Positions.{Position, passes};
+ghost use Rattle.path_model.specs.Meaning.{begun, found_from, reached, value_in};
+ghost use Rattle.path_model.specs.Paths.{Expr, Path, Steps, no_more, no_steps, step};
+ghost use Rattle.path_model.specs.Positions.{Position, passes, positions};
 ghost use Rattle.path_model.specs.Programs.{answer, at_node, looked};
 ghost use Rattle.path_model.specs.Sets.{AllAt, At, Rises};
 ghost use Rattle.path_model.specs.declared.path.Axis.{Axis};
@@ -29,6 +29,13 @@ pub fn looks_show_what_axes_relate()
     ensures document { (t : Tree) (is_absolute : Bool) (n : Position) → IsValidTree t → At t n
         → answer t (start is_absolute n) ≡ begun t is_absolute n }
     ensures string_value { (t : Tree) (n : Position) → IsValidTree t → At t n → answer t (evaluation.string_value n) ≡ meaning.string_value t n }
+{}
+
+/// A step without predicates leads to each position that its axis relates to one of a set and its node test passes, whatever way the axis counts.
+#[tactic(auto, using(crate::proofs::StepLaws::step_leads))]
+pub fn steps_lead_to_what_their_axes_relate()
+    ensures step { (t : Tree) (axis : Axis) (test : NodeTest) (ns : List Position) → IsValidTree t
+        → reached t (step axis test no_more no_steps) ns ≡ filter (λ m. list_any (λ n. relates axis n m) ns && passes axis test m) (positions t) }
 {}
 
 /// The program of an expression answers the value of the expression.
