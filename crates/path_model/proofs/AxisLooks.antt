@@ -1,12 +1,12 @@
 -- The looks of the axes, of the document and of string-values show on every valid tree what these mean.
-use Rattle.std.proofs.Common.{◌≡◌, Bool, true, false, cond, not, ◌&&◌, ◌||◌, List, [], ◌∷◌, ◌++◌, reverse, drop, is_eq, nat_cmp, Option, None, Some, if◌then◌else◌, inr, refl, sym, ap, subst, ◌∙◌, true≢false, append-nil}
+use Rattle.std.proofs.Common.{◌≡◌, Bool, true, false, cond, not, ◌&&◌, ◌||◌, List, [], ◌∷◌, ◌++◌, reverse, drop, is_eq, nat_cmp, Option, None, Some, if◌then◌else◌, inr, refl, sym, ap, subst, ◌∙◌, true≢false, append-nil, Ordering, Less, Equal, Greater}
 use Rattle.std.specs.List.{AllByRecursion, filter}
 use Rattle.std.specs.Str.{bytes_eq}
 use Rattle.std.specs.Cmp.Lexicographic.{slice_cmp}
 use Rattle.std.proofs.lemmas.List.{reverse-append}
 use Rattle.std.proofs.lemmas.Map.Text.{is_eq-slice_cmp}
 use Rattle.dewey_labels.specs.Labels.{Label, root, is_child, parent}
-use Rattle.dewey_labels.specs.Sides.{side, is_in, is_under, is_right, under}
+use Rattle.dewey_labels.specs.Sides.{side, is_in, is_under, is_right, under, Side}
 use Rattle.dewey_labels.proofs.Codes.{parent_is}
 use Rattle.dewey_labels.proofs.Sides.{side_itself, under_before}
 use Rattle.tree_model.specs.declared.record.Record.{Record}
@@ -25,7 +25,7 @@ use Rattle.path_model.specs.declared.path.NodeTest.{NodeTest}
 use Rattle.path_model.specs.declared.path.NodeTest.TheVariants as test
 use Rattle.path_model.specs.Axes.{document_of, share_document, lies_under, is_child_of, is_parent_of, lies_above, are_siblings, is_attribute_of, relates, is_reverse, in_axis_order, on_axis}
 use Rattle.path_model.specs.AxisPrograms.{along, ancestors_up, nodes_at, on_left, on_right, under_or_right}
-use Rattle.path_model.specs.Evaluation.{string_value}
+use Rattle.path_model.specs.Evaluation.{string_value, put_in}
 use Rattle.path_model.specs.Meaning as meaning
 use Rattle.path_model.specs.Meaning.{joined_texts, own_document}
 use Rattle.path_model.specs.Positions.{Position, a_node, an_attribute, attributes_at, positions_in, positions, label_of, is_node, is_document, is_same, passes}
@@ -38,7 +38,7 @@ use Rattle.path_model.proofs.Members.{all_themselves, filtered_among}
 use Rattle.path_model.proofs.NodeLooks.{NodeAt, ChildOf, same_label_itself, node_is, children_are, children_rise}
 use Rattle.path_model.proofs.OneMore.{with_itself, under_last, above_first, with_element}
 use Rattle.path_model.proofs.OrderLaws.{filter_on}
-use Rattle.path_model.proofs.Standing.{HasNode, Stands, stands, has_node, node_lies, document_below_root, parent_there, no_attributes, odd_end}
+use Rattle.path_model.proofs.Standing.{HasNode, Stands, stands, has_node, node_lies, document_below_root, parent_there, no_attributes, odd_end, up_is_parent}
 use Rattle.path_model.proofs.ProgramAnswers.{answer-and_then}
 use Rattle.path_model.proofs.SubtreeLaws.{filter_joined, all_labelled, within_subtree}
 use Rattle.path_model.proofs.Ways.{Above, node_there, ancestors_seen, document_top, document_shows}
@@ -122,10 +122,10 @@ one_named l k lo (a ∷ ats) w =
       | false ↦ λ q. one_named l k a.0 ats w.2 ∙ sym (ap (λ b. cond b (an_attribute l a.0 a.1 ∷ rest) rest) (sym (is_eq-slice_cmp k a.0) ∙ q))
     ] refl
   where
-    equal_of : (o : Rattle.std.specs.declared.cmp.Ordering.Ordering) → is_eq o ≡ true → o ≡ Rattle.std.proofs.Common.Equal
-    equal_of Rattle.std.proofs.Common.Less e = cc
-    equal_of Rattle.std.proofs.Common.Equal e = refl
-    equal_of Rattle.std.proofs.Common.Greater e = cc
+    equal_of : (o : Ordering) → is_eq o ≡ true → o ≡ Equal
+    equal_of Less e = cc
+    equal_of Equal e = refl
+    equal_of Greater e = cc
 
 -- ---- each axis
 
@@ -158,13 +158,13 @@ module _ (t : Tree) (valid : IsValidTree t) where
       ap (λ (ps : List Position). a_node l r ∷ ps) (under_shown l r i) ∙ sym (under_last t valid l r) ∙ sym (with_itself t valid (a_node l r) (lies_under (a_node l r)) i)
   descendant_or_self_shown (an_attribute l n v) i z =
       let x : Position = an_attribute l n v in
-      sym (with_itself t valid x (lies_under x) i ∙ ap (Rattle.path_model.specs.Evaluation.put_in x) (nothing_under l n v))
+      sym (with_itself t valid x (lies_under x) i ∙ ap (put_in x) (nothing_under l n v))
 
   self_shown : (n : Position) → At t n → (z : NodeTest) → answer t (along axis.SelfNode z n) ≡ related t axis.SelfNode n
   self_shown n i z =
       sym (filter_on (is_same n) (λ m. is_same n m || false) (λ m. or_false (is_same n m)) (positions t)
       ∙ with_itself t valid n (λ m. false) i
-      ∙ ap (Rattle.path_model.specs.Evaluation.put_in n) (none_left t (λ m. false) (λ m. refl)))
+      ∙ ap (put_in n) (none_left t (λ m. false) (λ m. refl)))
     where
       or_false : (b : Bool) → b ≡ (b || false)
       or_false true = refl
@@ -185,7 +185,7 @@ module _ (t : Tree) (valid : IsValidTree t) where
             absurd (apart (sym (ap (side root) is_root) ∙ found_under root root k t.documents valid.keys (is_found (a_node k s) i)))
       ] refl
         where
-          apart : Rattle.dewey_labels.specs.Sides.same ≡ under → ⊥
+          apart : Side.same ≡ under → ⊥
           apart e = cc
 
   -- any other node's is the node with that label
@@ -206,7 +206,7 @@ module _ (t : Tree) (valid : IsValidTree t) where
       ] refl
         where
           is_child_there : is_child (parent l) l ≡ true
-          is_child_there = subst (λ z. is_child z l ≡ true) (Rattle.path_model.proofs.Standing.up_is_parent t valid l r h) (node_lies t valid l r h).is_child_of
+          is_child_there = subst (λ z. is_child z l ≡ true) (up_is_parent t valid l r h) (node_lies t valid l r h).is_child_of
 
   parent_shown : (n : Position) → At t n → (z : NodeTest) → answer t (along axis.Parent z n) ≡ related t axis.Parent n
   parent_shown (a_node l Document) i z = sym (none_over_document l (has_node t valid l Document i))

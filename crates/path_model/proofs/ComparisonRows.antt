@@ -1,5 +1,5 @@
 -- Worked rows: comparisons of node sets, which hold where they do of some node or pair and not of the first alone (XPath 1.0, section 3.4), and values in predicates.
-use Rattle.std.proofs.Common.{◌≡◌, Bool, true, false, List, [], ◌∷◌, refl, map}
+use Rattle.std.proofs.Common.{◌≡◌, Bool, true, false, List, [], ◌∷◌, refl, map, Some}
 use Rattle.std.specs.Prelude.{codes, pos, ℕ}
 use Rattle.dewey_labels.specs.Labels.{Label}
 use Rattle.tree_model.specs.declared.record.Record.TheVariants.{Document, Element}
@@ -106,10 +106,10 @@ empty_is_false = refl
 first_text : worth (call op.StringOf ks) ≡ text (codes "1")
 first_text = refl
 
-first_number : worth (binary op.Add ks (paths.number (pos 1))) ≡ values.number (Rattle.std.proofs.Common.Some (pos 2))
+first_number : worth (binary op.Add ks (paths.number (pos 1))) ≡ values.number (Some (pos 2))
 first_number = refl
 
-all_added : worth (call op.Sum ks) ≡ values.number (Rattle.std.proofs.Common.Some (pos 3))
+all_added : worth (call op.Sum ks) ≡ values.number (Some (pos 3))
 all_added = refl
 
 no_text : worth (call op.StringOf cs) ≡ text []

@@ -1,5 +1,5 @@
 -- What filters leave of positions.
-use Rattle.std.proofs.Common.{◌≡◌, Bool, true, false, cond, ◌&&◌, List, [], ◌∷◌, ◌++◌, reverse, refl, sym, ap, ◌∙◌}
+use Rattle.std.proofs.Common.{◌≡◌, Bool, true, false, cond, ◌&&◌, List, [], ◌∷◌, ◌++◌, reverse, refl, sym, ap, ◌∙◌, append-nil}
 use Rattle.std.specs.List.{AllByRecursion, filter}
 use Rattle.std.proofs.lemmas.Grind.{reverse_onto}
 use Rattle.tree_model.specs.Tree.{Tree}
@@ -27,7 +27,7 @@ module _ {A : Type 0} where
   -- backwards
   one_reversed : (q : A → Bool) (x : A) (xs : List A) (b : Bool) → reverse (filter q xs) ++ cond b (x ∷ []) [] ≡ reverse (cond b (x ∷ filter q xs) (filter q xs))
   one_reversed q x xs true = sym (reverse_onto (filter q xs) x [])
-  one_reversed q x xs false = Rattle.std.proofs.Common.append-nil (reverse (filter q xs))
+  one_reversed q x xs false = append-nil (reverse (filter q xs))
 
   pub filter_reversed : (q : A → Bool) (xs : List A) → filter q (reverse xs) ≡ reverse (filter q xs)
   filter_reversed q [] = refl

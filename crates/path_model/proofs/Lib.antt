@@ -12,6 +12,8 @@ pub mod AnswerLaws
 pub mod AxisLooks
 pub mod PathLaws
 pub mod StepLaws
+pub mod PartLaws
 mod Rows
 mod AxisRows
 mod ComparisonRows
+mod FunctionRows

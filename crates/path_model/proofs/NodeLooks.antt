@@ -1,8 +1,8 @@
 -- What looks at a node, at its children and at all from it down show, as filters of all positions.
-use Rattle.std.proofs.Common.{◌≡◌, Bool, true, false, cond, ◌&&◌, List, [], ◌∷◌, ◌++◌, Less, nat_cmp, is_eq, refl, sym, ap, subst, ◌∙◌, true≢false}
+use Rattle.std.proofs.Common.{◌≡◌, Bool, true, false, cond, ◌&&◌, List, [], ◌∷◌, ◌++◌, Less, nat_cmp, is_eq, refl, sym, ap, subst, ◌∙◌, true≢false, Ordering, Equal, Greater}
 use Rattle.std.specs.List.{AllByRecursion, filter}
 use Rattle.std.specs.Ordering.{ordering_reverse}
-use Rattle.std.specs.Cmp.Lexicographic.{slice_cmp, nat_list_cmp_total}
+use Rattle.std.specs.Cmp.Lexicographic.{slice_cmp}
 use Rattle.dewey_labels.specs.Labels.{Label, is_child}
 use Rattle.dewey_labels.specs.Sides.{side, is_in, under, right, same}
 use Rattle.dewey_labels.proofs.Sides.{side_itself, under_before}
@@ -25,13 +25,10 @@ use Rattle.path_model.proofs.SubtreeLaws.{filter_joined, all_labelled, subtree_i
 pub same_label_itself : (l : Label) → same_label l l ≡ true
 same_label_itself l = ap is_eq (list_itself l)
 
-pub same_label_turned : (l m : Label) → same_label l m ≡ same_label m l
-same_label_turned l m = ap is_eq (nat_list_cmp_total.antisymm l m) ∙ turned (slice_cmp nat_cmp m l)
-  where
-    turned : (o : Rattle.std.specs.declared.cmp.Ordering.Ordering) → is_eq (ordering_reverse o) ≡ is_eq o
-    turned Less = refl
-    turned Rattle.std.proofs.Common.Equal = refl
-    turned Rattle.std.proofs.Common.Greater = refl
+pub is_eq_turned : (o : Ordering) → is_eq (ordering_reverse o) ≡ is_eq o
+is_eq_turned Less = refl
+is_eq_turned Equal = refl
+is_eq_turned Greater = refl
 
 no_child_itself : (l : Label) → is_child l l ≡ false
 no_child_itself l = elim (is_child l l) as (λ b. is_child l l ≡ b → b ≡ false) [

@@ -1,9 +1,9 @@
 -- One position more among those that a test leaves.
-use Rattle.std.proofs.Common.{◌≡◌, Bool, true, false, cond, ◌&&◌, ◌||◌, List, [], ◌∷◌, ◌++◌, Less, Equal, Greater, nat_cmp, is_eq, refl, sym, ap, subst, ◌∙◌, true≢false, append-nil}
+use Rattle.std.proofs.Common.{◌≡◌, Bool, true, false, cond, ◌&&◌, ◌||◌, List, [], ◌∷◌, ◌++◌, Less, Equal, Greater, nat_cmp, is_eq, refl, sym, ap, subst, ◌∙◌, true≢false, append-nil, inl, inr}
 use Rattle.std.specs.List.{AllByRecursion, filter}
 use Rattle.std.specs.declared.cmp.Ordering.{Ordering}
 use Rattle.std.specs.Ordering.{ordering_then, ordering_reverse}
-use Rattle.std.specs.Cmp.Lexicographic.{slice_cmp}
+use Rattle.std.specs.Cmp.Lexicographic.{slice_cmp, nat_list_cmp_total}
 use Rattle.dewey_labels.specs.Labels.{Label}
 use Rattle.dewey_labels.specs.Lists.{is_empty}
 use Rattle.dewey_labels.specs.Sides.{Side, side, is_under, above, left, same, under, right}
@@ -13,22 +13,20 @@ use Rattle.tree_model.specs.Names.{Name}
 use Rattle.tree_model.specs.Orders.{by_order}
 use Rattle.tree_model.specs.Tree.{Attributes, Tree}
 use Rattle.tree_model.specs.ValidTrees.{IsValidTree, NamesRise}
+use Rattle.tree_model.proofs.Lists.{all_on}
 use Rattle.tree_model.proofs.Keys.{key_total, key_turned}
 use Rattle.path_model.specs.Axes.{is_above, lies_under, lies_above}
 use Rattle.path_model.specs.Evaluation.{put_in}
-use Rattle.path_model.specs.Positions.{Position, a_node, an_attribute, attributes_at, positions, label_of, key_of, is_node, is_same}
+use Rattle.path_model.specs.Positions.{Position, a_node, an_attribute, attributes_at, positions, label_of, key_of, is_node, is_same, name_of}
 use Rattle.path_model.specs.Sets.{Among, Precedes}
+use Rattle.path_model.proofs.NodeLooks.{is_eq_turned}
 use Rattle.path_model.proofs.OrderLaws.{put_low, put_filter, positions_rise, filter_on}
 use Rattle.path_model.proofs.Standing.{Stands, stands, node_lies}
 use Rattle.path_model.proofs.SubtreeLaws.{named_above}
 use Rattle.path_model.proofs.Ways.{Above, filter_holds}
+use Rattle.path_model.proofs.Filters.{filter_there}
 
 -- ---- order
-
-is_eq_turned : (o : Ordering) → is_eq (ordering_reverse o) ≡ is_eq o
-is_eq_turned Less = refl
-is_eq_turned Equal = refl
-is_eq_turned Greater = refl
 
 same_turned : (n m : Position) → is_same n m ≡ is_same m n
 same_turned n m = ap is_eq (key_total.antisymm (key_of n) (key_of m)) ∙ is_eq_turned (key_cmp (key_of m) (key_of n))
@@ -37,10 +35,6 @@ same_turned n m = ap is_eq (key_total.antisymm (key_of n) (key_of m)) ∙ is_eq_
 pub put_high : (x : Position) (ms : List Position) → AllByRecursion (λ m. Precedes m x) ms → put_in x ms ≡ ms ++ (x ∷ [])
 put_high x [] h = refl
 put_high x (m ∷ ms) h = ap (λ o. by_order o (x ∷ m ∷ ms) (m ∷ ms) (m ∷ put_in x ms)) (key_turned (key_of m) (key_of x) h.0) ∙ ap (λ (ns : List Position). m ∷ ns) (put_high x ms h.1)
-
-pub all_of : {A : Type 0} (P Q : A → Type 0) → ((x : A) → P x → Q x) → (xs : List A) → AllByRecursion P xs → AllByRecursion Q xs
-all_of P Q h [] w = tt
-all_of P Q h (x ∷ xs) w = (h x w.0, all_of P Q h xs w.1)
 
 -- what is under a label is behind its node, and what is above a label before what stands there
 under_is : (s : Side) → is_under s ≡ true → s ≡ under
@@ -72,7 +66,7 @@ module _ (t : Tree) (valid : IsValidTree t) where
       ∙ sym (put_filter n q (positions t) (positions_rise t valid) h)
 
   pub under_last : (l : Label) (r : _) → put_in (a_node l r) (filter (lies_under (a_node l r)) (positions t)) ≡ a_node l r ∷ filter (lies_under (a_node l r)) (positions t)
-  under_last l r = put_low (a_node l r) _ (all_of (λ m. lies_under (a_node l r) m ≡ true) (Precedes (a_node l r)) higher (filter (lies_under (a_node l r)) (positions t)) (filter_holds (lies_under (a_node l r)) (positions t)))
+  under_last l r = put_low (a_node l r) _ (all_on (λ m. lies_under (a_node l r) m ≡ true) (Precedes (a_node l r)) higher (filter (lies_under (a_node l r)) (positions t)) (filter_holds (lies_under (a_node l r)) (positions t)))
     where
       higher : (m : Position) → lies_under (a_node l r) m ≡ true → Precedes (a_node l r) m
       higher (a_node k s) e = lower_label l k [] [] (under_before l k (under_is (side l k) e))
@@ -86,12 +80,12 @@ module _ (t : Tree) (valid : IsValidTree t) where
     where
       by : (lo : Name) (ats : Attributes) → NamesRise lo ats → Among (an_attribute l n v) (attributes_at l ats) → is_empty n ≡ false
       by lo [] w i = absurd i
-      by lo (a ∷ ats) w (Rattle.std.proofs.Common.inl e) = ap (λ p. is_empty (Rattle.path_model.specs.Positions.name_of p)) e ∙ named_above lo a.0 w.0
-      by lo (a ∷ ats) w (Rattle.std.proofs.Common.inr i) = by a.0 ats w.2 i
+      by lo (a ∷ ats) w (inl e) = ap (λ p. is_empty (name_of p)) e ∙ named_above lo a.0 w.0
+      by lo (a ∷ ats) w (inr i) = by a.0 ats w.2 i
 
   -- what lies above a position stands before it
   pub above_first : (n : Position) → Among n (positions t) → put_in n (filter (lies_above n) (positions t)) ≡ filter (lies_above n) (positions t) ++ (n ∷ [])
-  above_first n h = put_high n _ (all_of (λ m. lies_above n m ≡ true) (λ m. Precedes m n) (lower n h) (filter (lies_above n) (positions t)) (filter_holds (lies_above n) (positions t)))
+  above_first n h = put_high n _ (all_on (λ m. lies_above n m ≡ true) (λ m. Precedes m n) (lower n h) (filter (lies_above n) (positions t)) (filter_holds (lies_above n) (positions t)))
     where
       named : (k : Label) (l : Label) (n : Name) → is_empty n ≡ false → (o : Ordering) → slice_cmp nat_cmp l k ≡ o → (is_eq o || is_above (side l k)) ≡ true → ordering_then (slice_cmp nat_cmp k l) (slice_cmp nat_cmp [] n) ≡ Less
       named k l [] e o q g = absurd (true≢false e)
@@ -99,7 +93,7 @@ module _ (t : Tree) (valid : IsValidTree t) where
       named k l (x ∷ n) e Equal q g = ap (λ o. ordering_then o Less) (key_less k l q)
         where
           key_less : (k l : Label) → slice_cmp nat_cmp l k ≡ Equal → slice_cmp nat_cmp k l ≡ Equal
-          key_less k l q = Rattle.std.specs.Cmp.Lexicographic.nat_list_cmp_total.antisymm k l ∙ ap ordering_reverse q
+          key_less k l q = nat_list_cmp_total.antisymm k l ∙ ap ordering_reverse q
       named k l (x ∷ n) e Greater q g = lower_label k l [] (x ∷ n) (above_lower l k g)
 
       lower : (n : Position) → Among n (positions t) → (m : Position) → lies_above n m ≡ true → Precedes m n
@@ -113,9 +107,9 @@ module _ (t : Tree) (valid : IsValidTree t) where
       → filter (lies_above (an_attribute l n v)) (positions t) ≡ filter (Above l) (positions t) ++ (a_node l r ∷ [])
   with_element l r n v h =
       let x : Position = a_node l r in
-      Rattle.path_model.proofs.Filters.filter_there t (lies_above (an_attribute l n v)) (λ m. is_same x m || Above l m) both
+      filter_there t (lies_above (an_attribute l n v)) (λ m. is_same x m || Above l m) both
       ∙ with_itself x (Above l) h
-      ∙ put_high x (filter (Above l) (positions t)) (all_of (λ m. Above l m ≡ true) (λ m. Precedes m x) lower (filter (Above l) (positions t)) (filter_holds (Above l) (positions t)))
+      ∙ put_high x (filter (Above l) (positions t)) (all_on (λ m. Above l m ≡ true) (λ m. Precedes m x) lower (filter (Above l) (positions t)) (filter_holds (Above l) (positions t)))
     where
       lower : (m : Position) → Above l m ≡ true → Precedes m (a_node l r)
       lower (a_node k s) e = lower_label k l [] [] (above_lower l k e)

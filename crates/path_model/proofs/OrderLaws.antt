@@ -16,7 +16,7 @@ use Rattle.path_model.specs.Positions.{Position, a_node, attributes_at, position
 use Rattle.path_model.specs.Meaning.{is_among, union}
 use Rattle.path_model.specs.Evaluation.{put_in, in_order}
 use Rattle.path_model.specs.Sets.{Among, Precedes, Rises}
-use Rattle.path_model.proofs.Members.{AllAmong}
+use Rattle.path_model.proofs.Members.{AllAmong, all_filtered}
 use Rattle.path_model.proofs.ProgramAnswers.{flat}
 
 -- ---- rising positions
@@ -88,10 +88,6 @@ pub put_low : (x : Position) (ms : List Position) → AllByRecursion (Precedes x
 put_low x [] h = refl
 put_low x (m ∷ ms) h = ap (λ o. by_order o (x ∷ m ∷ ms) (m ∷ ms) (m ∷ put_in x ms)) h.0
 
-higher_filtered : (x : Position) (q : Position → Bool) (ms : List Position) → AllByRecursion (Precedes x) ms → AllByRecursion (Precedes x) (filter q ms)
-higher_filtered x q [] h = tt
-higher_filtered x q (m ∷ ms) h = elim (q m) as (λ b. AllByRecursion (Precedes x) (cond b (m ∷ filter q ms) (filter q ms))) [ true ↦ (h.0, higher_filtered x q ms h.1) | false ↦ higher_filtered x q ms h.1 ]
-
 pub higher_member : (y x : Position) (ms : List Position) → AllByRecursion (Precedes y) ms → Among x ms → Precedes y x
 higher_member y x [] h i = absurd i
 higher_member y x (m ∷ ms) h (inl e) = subst (Precedes y) (sym e) h.0
@@ -103,7 +99,7 @@ module _ (x : Position) (q : Position → Bool) where
 
   put_here : (ys : List Position) → AllByRecursion (Precedes x) ys → (b : Bool) → put_in x (cond b (x ∷ filter q ys) (filter q ys)) ≡ x ∷ filter q ys
   put_here ys h true = ap (λ o. by_order o (x ∷ x ∷ filter q ys) (x ∷ filter q ys) (x ∷ put_in x (filter q ys))) (key_itself (key_of x))
-  put_here ys h false = put_low x (filter q ys) (higher_filtered x q ys h)
+  put_here ys h false = put_low x (filter q ys) (all_filtered (Precedes x) q ys h)
 
   pub put_filter : (ps : List Position) → Rises ps → Among x ps → put_in x (filter q ps) ≡ filter Or ps
   put_filter [] r i = absurd i

@@ -6,7 +6,7 @@ use Rattle.tree_model.specs.declared.record.Record.{Record}
 use Rattle.tree_model.specs.declared.refusal.Refusal.TheVariants.{Dom}
 use Rattle.tree_model.specs.declared.reply.Reply.TheVariants.{Refused}
 use Rattle.tree_model.specs.Outcomes.{is_refused, not_found_err}
-use Rattle.tree_model.specs.Tree.{Attributes, Forest, none, node, Tree, at, found}
+use Rattle.tree_model.specs.Tree.{Attributes, Forest, none, node, Tree, at, found, head_label}
 use Rattle.tree_model.specs.ValidTrees.{IsValidTree}
 use Rattle.tree_model.proofs.Found.{some_is, at_label}
 use Rattle.path_model.specs.Evaluation.{find_from, value}
@@ -57,7 +57,7 @@ path_there t b ss n h = reached_at t ss (begun t b n) (begun_at t b n h)
 
 at_is : (l m : Label) (r : Record) (ats : Attributes) (ch nx : Forest) (t : Tree) → IsValidTree t → at l t.documents ≡ node m r ats ch nx → At t (a_node m r)
 at_is l m r ats ch nx t valid e =
-    let is : m ≡ l = some_is m l (sym (ap Rattle.tree_model.specs.Tree.head_label e) ∙ at_label l t.documents (ap found e)) in
+    let is : m ≡ l = some_is m l (sym (ap head_label e) ∙ at_label l t.documents (ap found e)) in
     node_at t valid m r (record { attributes = ats; children = ch; behind = nx; is = ap (λ k. at k t.documents) is ∙ e })
 
 pub find_answers : (t : Tree) (l : Label) (p : Path) → IsValidTree t → answer t (find l p) ≡ found_at l p t

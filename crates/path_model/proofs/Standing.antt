@@ -6,7 +6,7 @@ use Rattle.dewey_labels.proofs.Sides.{side_itself}
 use Rattle.dewey_labels.proofs.Codes.{OddEnd, child_odd}
 use Rattle.tree_model.specs.declared.record.Record.{Record}
 use Rattle.tree_model.specs.declared.record.Record.TheVariants.{Document, Element, Text, Attr}
-use Rattle.tree_model.specs.Tree.{Attributes, Forest, none, node, Tree, choose, at, found, record_of}
+use Rattle.tree_model.specs.Tree.{Attributes, Forest, none, node, Tree, choose, at, found, record_of, entries_of}
 use Rattle.tree_model.specs.inside.FoundNodes.{up}
 use Rattle.tree_model.specs.ValidTrees.{IsValidTree, KeysRise, KindsAllowed, may_stand, may_have}
 use Rattle.tree_model.proofs.Edits.{over}
@@ -14,7 +14,7 @@ use Rattle.tree_model.proofs.Found.{Lies, lies, up_parent}
 use Rattle.tree_model.proofs.FoundParents.{found_right, over_is}
 use Rattle.tree_model.proofs.FoundRecords.{at_kinds}
 use Rattle.tree_model.proofs.WholeTree.{found_under}
-use Rattle.path_model.specs.Positions.{Position, a_node, an_attribute, attributes_at, positions_in, positions, label_of}
+use Rattle.path_model.specs.Positions.{Position, a_node, an_attribute, attributes_at, positions_in, positions, label_of, is_node}
 use Rattle.path_model.specs.Sets.{Among}
 
 -- ---- nodes
@@ -50,7 +50,7 @@ among_joined n (m ∷ ns) ms (inr h) = ⊎_elim (λ i. inl (inr i)) (λ i. inr i
 -- attributes are no nodes, and have their element's label
 no_node_there : (k l : Label) (r : Record) (ats : Attributes) → Among (a_node k r) (attributes_at l ats) → ⊥
 no_node_there k l r [] h = h
-no_node_there k l r (a ∷ ats) (inl e) = absurd (true≢false (ap Rattle.path_model.specs.Positions.is_node e))
+no_node_there k l r (a ∷ ats) (inl e) = absurd (true≢false (ap is_node e))
 no_node_there k l r (a ∷ ats) (inr h) = no_node_there k l r ats h
 
 label_there : (n : Position) (l : Label) (ats : Attributes) → Among n (attributes_at l ats) → label_of n ≡ l
@@ -104,7 +104,7 @@ module _ (t : Tree) (valid : IsValidTree t) where
       let s : Stands t.documents (a_node l r) = stands (a_node l r) h in
       record { attributes = s.attributes; children = s.children; behind = s.behind; is = s.is ∙ ap (λ q. node l q s.attributes s.children s.behind) s.says }
 
-  pub node_lies : (l : Label) (r : Record) (h : HasNode t.documents l r) → Lies (up l root t.documents) l r h.attributes h.children h.behind (Rattle.tree_model.specs.Tree.entries_of t.documents)
+  pub node_lies : (l : Label) (r : Record) (h : HasNode t.documents l r) → Lies (up l root t.documents) l r h.attributes h.children h.behind (entries_of t.documents)
   node_lies l r h = lies root root l l r h.attributes h.children h.behind t.documents valid.keys h.is
 
   -- ---- parents

@@ -1,5 +1,5 @@
 -- The way from a document down to a node: its ancestors among the positions, and as its label says them.
-use Rattle.std.proofs.Common.{◌≡◌, ℕ, suc, zero, ◌+◌, Bool, true, false, cond, ◌&&◌, List, [], ◌∷◌, ◌++◌, map, length, reverse, drop, Less, Equal, Greater, nat_cmp, is_eq, inr, refl, sym, ap, subst, ◌∙◌, true≢false, arith}
+use Rattle.std.proofs.Common.{◌≡◌, ℕ, suc, zero, ◌+◌, Bool, true, false, cond, ◌&&◌, List, [], ◌∷◌, ◌++◌, map, length, reverse, drop, Less, Equal, Greater, nat_cmp, is_eq, inr, refl, sym, ap, subst, ◌∙◌, true≢false, arith, append-nil, Some}
 use Rattle.std.specs.List.{AllByRecursion, filter}
 use Rattle.std.specs.Ordering.{ordering_reverse}
 use Rattle.std.specs.Cmp.Lexicographic.{slice_cmp, nat_list_cmp_total}
@@ -73,7 +73,7 @@ above_are p b l (node m r ats ch nx) w y =
           first_filtered l m r ats ch nx true (ap is_above (under_above m l s)) (over_nodes l ch) []
           (above_are m m l ch w.4 e)
           (from_behind (λ k u. right_within m k l k u (ap is_in s) (ap is_in (side_itself k))))
-          ∙ Rattle.std.proofs.Common.append-nil _
+          ∙ append-nil _
       | right ↦ λ s e.
           first_filtered l m r ats ch nx false (ap is_above (left_within m l m l s (ap is_in (side_itself m)) (ap is_in (side_itself l)))) [] (over_nodes l nx)
           (from_below left refl (λ k u. left_within m l k l s (ap is_in u) (ap is_in (side_itself l))))
@@ -163,7 +163,7 @@ module _ (t : Tree) (valid : IsValidTree t) where
   pub node_there : (l : Label) → found (at l t.documents) ≡ true → (r : Record) × HasNode t.documents l r
   node_there l y = by (at l t.documents) refl (at_label l t.documents y) y
     where
-      by : (g : Forest) → at l t.documents ≡ g → head_label (at l t.documents) ≡ Rattle.std.proofs.Common.Some l → found g ≡ true → (r : Record) × HasNode t.documents l r
+      by : (g : Forest) → at l t.documents ≡ g → head_label (at l t.documents) ≡ Some l → found g ≡ true → (r : Record) × HasNode t.documents l r
       by none e h z = absurd (true≢false (sym z))
       by (node m r ats ch nx) e h z =
           let is : m ≡ l = some_is m l (sym (ap head_label e) ∙ h) in
@@ -213,7 +213,7 @@ module _ (t : Tree) (valid : IsValidTree t) where
   document_top l y = subst (λ d. IsTop root l d t.documents) (sym (document_is l y)) (top_is root root l t.documents valid.keys y)
 
   -- of two documents the first one is that of what lies in the second where they are one
-  same_document : (d e k : Label) → is_child root d ≡ true → is_child root e ≡ true → is_in (side e k) ≡ true → same_label d e ≡ is_in (side d k)
+  pub same_document : (d e k : Label) → is_child root d ≡ true → is_child root e ≡ true → is_in (side e k) ≡ true → same_label d e ≡ is_in (side d k)
   same_document d e k c g h = elim (slice_cmp nat_cmp d e) as (λ o. slice_cmp nat_cmp d e ≡ o → is_eq o ≡ is_in (side d k)) [
     | Less ↦ λ q. sym (ap is_in (right_within d e d k (children_right root d e c g q) (ap is_in (side_itself d)) h))
     | Equal ↦ λ q. sym (ap (λ z. is_in (side z k)) (list_tied d e q) ∙ h)

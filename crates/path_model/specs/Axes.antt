@@ -89,6 +89,10 @@ relates axis.SelfNode n m = is_same n m
 relates axis.DescendantOrSelf n m = is_same n m || lies_under n m
 relates axis.AncestorOrSelf n m = is_same n m || lies_above n m
 
+-- these part the nodes of a document: each is on one of them from a node, and on no other
+abbrev pub parting : List Axis
+parting = axis.Ancestor ∷ axis.Descendant ∷ axis.Following ∷ axis.Preceding ∷ axis.SelfNode ∷ []
+
 -- these axes count backwards
 abbrev pub is_reverse : Axis → Bool
 is_reverse axis.Ancestor = true

@@ -1,5 +1,5 @@
 //! The laws of paths, each the contract of a function that does nothing.
-ghost use Rattle.std.specs.Prelude.{◌≡◌, ◌∷◌, [], ◌&&◌, Bool, false, not, List};
+ghost use Rattle.std.specs.Prelude.{◌≡◌, ◌∷◌, [], ◌&&◌, Bool, true, false, not, if◌then◌else◌, List, length};
 ghost use Rattle.std.specs.List.{filter, list_any};
 ghost use Rattle.dewey_labels.specs.Labels.{Label};
 ghost use Rattle.tree_model.specs.Outcomes.{is_refused, not_found_err};
@@ -7,7 +7,7 @@ ghost use Rattle.tree_model.specs.Tree.{Tree, at, found};
 ghost use Rattle.tree_model.specs.ValidTrees.{IsValidTree};
 ghost use Rattle.tree_model.specs.declared.refusal.Refusal.TheVariants.{Dom};
 ghost use Rattle.tree_model.specs.declared.reply.Reply.TheVariants.{Refused};
-ghost use Rattle.path_model.specs.Axes.{on_axis, relates};
+ghost use Rattle.path_model.specs.Axes.{on_axis, parting, relates, share_document};
 ghost use Rattle.path_model.specs.AxisPrograms.{along};
 ghost use Rattle.path_model.specs.Evaluation as evaluation;
 ghost use Rattle.path_model.specs.Evaluation.{find_from, start};
@@ -16,7 +16,7 @@ ghost use Rattle.path_model.specs.Functions.{Context};
 ghost use Rattle.path_model.specs.Meaning as meaning;
 ghost use Rattle.path_model.specs.Meaning.{begun, found_from, reached, value_in};
 ghost use Rattle.path_model.specs.Paths.{Expr, Path, Steps, no_more, no_steps, step};
-ghost use Rattle.path_model.specs.Positions.{Position, passes, positions};
+ghost use Rattle.path_model.specs.Positions.{Position, is_node, passes, positions};
 ghost use Rattle.path_model.specs.Programs.{answer, at_node, looked};
 ghost use Rattle.path_model.specs.Sets.{AllAt, At, Rises};
 ghost use Rattle.path_model.specs.declared.path.Axis.{Axis};
@@ -29,6 +29,13 @@ pub fn looks_show_what_axes_relate()
     ensures document { (t : Tree) (is_absolute : Bool) (n : Position) → IsValidTree t → At t n
         → answer t (start is_absolute n) ≡ begun t is_absolute n }
     ensures string_value { (t : Tree) (n : Position) → IsValidTree t → At t n → answer t (evaluation.string_value n) ≡ meaning.string_value t n }
+{}
+
+/// Ancestor, descendant, following, preceding and self part a document (XPath 1.0, section 2.2): from a node each node of its document is on exactly one of them, and a node of another document on none.
+#[tactic(auto, using(crate::proofs::PartLaws::axes_part))]
+pub fn five_axes_part_a_document()
+    ensures parts { (t : Tree) (n m : Position) → IsValidTree t → At t n → At t m → is_node n ≡ true → is_node m ≡ true
+        → length (filter (λ axis. relates axis n m) parting) ≡ (if share_document n m then 1 else 0) }
 {}
 
 /// A step without predicates leads to each position that its axis relates to one of a set and its node test passes, whatever way the axis counts.

@@ -9,7 +9,7 @@ mod path;
 
 pub use laws::{
     expressions_are_evaluated_to_their_values, find_answers_a_set_or_not_found,
-    looks_show_what_axes_relate, paths_find_the_sets_that_they_mean,
+    five_axes_part_a_document, looks_show_what_axes_relate, paths_find_the_sets_that_they_mean,
     steps_lead_to_what_their_axes_relate,
 };
 pub use path::{Axis, CompareOp, Expr, NodeTest, Op, Step, XPath};
