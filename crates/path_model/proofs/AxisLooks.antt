@@ -1,12 +1,12 @@
 -- The looks of the axes, of the document and of string-values show on every valid tree what these mean.
-use Rattle.std.proofs.Common.{◌≡◌, Bool, true, false, cond, not, ◌&&◌, ◌||◌, List, [], ◌∷◌, ◌++◌, reverse, drop, is_eq, nat_cmp, Option, None, Some, if◌then◌else◌, inr, refl, sym, ap, subst, ◌∙◌, true≢false, append-nil, Ordering, Less, Equal, Greater}
+use Rattle.std.proofs.Common.{◌≡◌, Bool, true, false, cond, not, ◌&&◌, ◌||◌, List, [], ◌∷◌, ◌++◌, reverse, drop, is_eq, nat_cmp, None, Some, if◌then◌else◌, inr, refl, sym, ap, subst, ◌∙◌, true≢false, append-nil, Ordering, Less, Equal, Greater}
 use Rattle.std.specs.List.{AllByRecursion, filter}
 use Rattle.std.specs.Str.{bytes_eq}
 use Rattle.std.specs.Cmp.Lexicographic.{slice_cmp}
 use Rattle.std.proofs.lemmas.List.{reverse-append}
 use Rattle.std.proofs.lemmas.Map.Text.{is_eq-slice_cmp}
 use Rattle.dewey_labels.specs.Labels.{Label, root, is_child, parent}
-use Rattle.dewey_labels.specs.Sides.{side, is_in, is_under, is_right, under, Side}
+use Rattle.dewey_labels.specs.Sides.{side, is_in, under, Side}
 use Rattle.dewey_labels.proofs.Codes.{parent_is}
 use Rattle.dewey_labels.proofs.Sides.{side_itself, under_before}
 use Rattle.tree_model.specs.declared.record.Record.{Record}

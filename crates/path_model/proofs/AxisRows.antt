@@ -1,5 +1,5 @@
 -- Worked rows: each axis from an element, an attribute, a text and a document of one tree, by hand after XPath 1.0, section 2.2.
-use Rattle.std.proofs.Common.{◌≡◌, Bool, true, false, List, [], ◌∷◌, refl, map}
+use Rattle.std.proofs.Common.{◌≡◌, false, List, [], ◌∷◌, refl, map}
 use Rattle.std.specs.Prelude.{codes, pos, ℕ}
 use Rattle.dewey_labels.specs.Labels.{Label}
 use Rattle.tree_model.specs.declared.record.Record.TheVariants.{Document, Element, Text}

@@ -1,6 +1,6 @@
 -- Worked rows: comparisons of node sets, which hold where they do of some node or pair and not of the first alone (XPath 1.0, section 3.4), and values in predicates.
-use Rattle.std.proofs.Common.{◌≡◌, Bool, true, false, List, [], ◌∷◌, refl, map, Some}
-use Rattle.std.specs.Prelude.{codes, pos, ℕ}
+use Rattle.std.proofs.Common.{◌≡◌, true, false, List, [], ◌∷◌, refl, Some}
+use Rattle.std.specs.Prelude.{codes, pos}
 use Rattle.dewey_labels.specs.Labels.{Label}
 use Rattle.tree_model.specs.declared.record.Record.TheVariants.{Document, Element}
 use Rattle.tree_model.specs.Tree.{none, node, Tree}
@@ -13,7 +13,7 @@ use Rattle.path_model.specs.Meaning.{value_in}
 use Rattle.path_model.specs.Paths.{Expr, path, literal, apply, no_more, then_expr, no_steps, step, binary}
 use Rattle.path_model.specs.Paths as paths
 use Rattle.path_model.specs.Positions.{Position, a_node}
-use Rattle.path_model.specs.Programs.{Look, at_node, at_row, at_attribute, answer, looked}
+use Rattle.path_model.specs.Programs.{Look, at_row, at_attribute, looked}
 use Rattle.path_model.specs.Functions.{Value}
 use Rattle.path_model.specs.Values.{flag, text}
 use Rattle.path_model.specs.Values as values

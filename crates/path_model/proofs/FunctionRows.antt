@@ -1,5 +1,5 @@
 -- Worked rows: operators and functions on strings, numbers and booleans (XPath 1.0, sections 3.4, 3.5 and 4; docs/PROFILE.md, "Paths"). The strings are examples of the standard where it has one.
-use Rattle.std.proofs.Common.{◌≡◌, Bool, true, false, List, [], ◌∷◌, refl, None, Some}
+use Rattle.std.proofs.Common.{◌≡◌, true, false, [], ◌∷◌, refl, None, Some}
 use Rattle.std.specs.Prelude.{codes, pos, negsuc, ℕ, ℤ}
 use Rattle.tree_model.specs.declared.record.Record.TheVariants.{Document, Element, Text}
 use Rattle.tree_model.specs.Tree.{none, node, Tree}

@@ -1,8 +1,7 @@
 -- What looks at a node, at its children and at all from it down show, as filters of all positions.
-use Rattle.std.proofs.Common.{◌≡◌, Bool, true, false, cond, ◌&&◌, List, [], ◌∷◌, ◌++◌, Less, nat_cmp, is_eq, refl, sym, ap, subst, ◌∙◌, true≢false, Ordering, Equal, Greater}
-use Rattle.std.specs.List.{AllByRecursion, filter}
+use Rattle.std.proofs.Common.{◌≡◌, Bool, true, false, cond, ◌&&◌, List, [], ◌∷◌, ◌++◌, Less, is_eq, refl, sym, ap, subst, ◌∙◌, true≢false, Ordering, Equal, Greater}
+use Rattle.std.specs.List.{filter}
 use Rattle.std.specs.Ordering.{ordering_reverse}
-use Rattle.std.specs.Cmp.Lexicographic.{slice_cmp}
 use Rattle.dewey_labels.specs.Labels.{Label, is_child}
 use Rattle.dewey_labels.specs.Sides.{side, is_in, under, right, same}
 use Rattle.dewey_labels.proofs.Sides.{side_itself, under_before}

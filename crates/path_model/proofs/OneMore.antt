@@ -1,5 +1,5 @@
 -- One position more among those that a test leaves.
-use Rattle.std.proofs.Common.{◌≡◌, Bool, true, false, cond, ◌&&◌, ◌||◌, List, [], ◌∷◌, ◌++◌, Less, Equal, Greater, nat_cmp, is_eq, refl, sym, ap, subst, ◌∙◌, true≢false, append-nil, inl, inr}
+use Rattle.std.proofs.Common.{◌≡◌, Bool, true, false, ◌||◌, List, [], ◌∷◌, ◌++◌, Less, Equal, Greater, nat_cmp, is_eq, refl, sym, ap, subst, ◌∙◌, true≢false, append-nil, inl, inr}
 use Rattle.std.specs.List.{AllByRecursion, filter}
 use Rattle.std.specs.declared.cmp.Ordering.{Ordering}
 use Rattle.std.specs.Ordering.{ordering_then, ordering_reverse}
@@ -17,7 +17,7 @@ use Rattle.tree_model.proofs.Lists.{all_on}
 use Rattle.tree_model.proofs.Keys.{key_total, key_turned}
 use Rattle.path_model.specs.Axes.{is_above, lies_under, lies_above}
 use Rattle.path_model.specs.Evaluation.{put_in}
-use Rattle.path_model.specs.Positions.{Position, a_node, an_attribute, attributes_at, positions, label_of, key_of, is_node, is_same, name_of}
+use Rattle.path_model.specs.Positions.{Position, a_node, an_attribute, attributes_at, positions, key_of, is_same, name_of}
 use Rattle.path_model.specs.Sets.{Among, Precedes}
 use Rattle.path_model.proofs.NodeLooks.{is_eq_turned}
 use Rattle.path_model.proofs.OrderLaws.{put_low, put_filter, positions_rise, filter_on}

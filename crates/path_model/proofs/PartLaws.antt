@@ -1,5 +1,5 @@
 -- Five axes part the nodes of a document (XPath 1.0, section 2.2).
-use Rattle.std.proofs.Common.{◌≡◌, ℕ, Bool, true, false, cond, if◌then◌else◌, ◌&&◌, List, [], ◌∷◌, ◌++◌, length, Ordering, Less, Equal, Greater, nat_cmp, is_eq, refl, sym, ap, subst, ◌∙◌, true≢false, append-nil}
+use Rattle.std.proofs.Common.{◌≡◌, Bool, true, false, cond, if◌then◌else◌, ◌&&◌, List, [], ◌∷◌, length, Less, Equal, Greater, nat_cmp, is_eq, refl, sym, ap, subst, ◌∙◌, true≢false, append-nil}
 use Rattle.std.specs.List.{filter}
 use Rattle.std.specs.Ordering.{ordering_then, ordering_reverse}
 use Rattle.std.specs.Cmp.{nat_cmp_total}
@@ -15,10 +15,10 @@ use Rattle.tree_model.proofs.WholeTree.{in_then_under}
 use Rattle.path_model.specs.declared.path.Axis.{Axis}
 use Rattle.path_model.specs.declared.path.Axis.TheVariants as axis
 use Rattle.path_model.specs.Axes.{document_of, is_above, is_left, relates, share_document, parting}
-use Rattle.path_model.specs.Positions.{Position, a_node, an_attribute, label_of, is_node, is_same}
+use Rattle.path_model.specs.Positions.{Position, a_node, an_attribute, is_node}
 use Rattle.path_model.specs.Sets.{At}
 use Rattle.path_model.proofs.NodeLooks.{same_label_itself}
-use Rattle.path_model.proofs.Standing.{Stands, stands}
+use Rattle.path_model.proofs.Standing.{stands}
 use Rattle.path_model.proofs.Ways.{IsTop, document_top, same_document}
 
 -- ---- labels

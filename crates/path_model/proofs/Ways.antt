@@ -1,5 +1,5 @@
 -- The way from a document down to a node: its ancestors among the positions, and as its label says them.
-use Rattle.std.proofs.Common.{◌≡◌, ℕ, suc, zero, ◌+◌, Bool, true, false, cond, ◌&&◌, List, [], ◌∷◌, ◌++◌, map, length, reverse, drop, Less, Equal, Greater, nat_cmp, is_eq, inr, refl, sym, ap, subst, ◌∙◌, true≢false, arith, append-nil, Some}
+use Rattle.std.proofs.Common.{◌≡◌, suc, ◌+◌, Bool, true, false, cond, ◌&&◌, List, [], ◌∷◌, ◌++◌, map, length, reverse, drop, Less, Equal, Greater, nat_cmp, is_eq, inr, refl, sym, ap, subst, ◌∙◌, true≢false, arith, append-nil, Some}
 use Rattle.std.specs.List.{AllByRecursion, filter}
 use Rattle.std.specs.Ordering.{ordering_reverse}
 use Rattle.std.specs.Cmp.Lexicographic.{slice_cmp, nat_list_cmp_total}

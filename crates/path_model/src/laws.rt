@@ -31,7 +31,8 @@ pub fn looks_show_what_axes_relate()
     ensures string_value { (t : Tree) (n : Position) → IsValidTree t → At t n → answer t (evaluation.string_value n) ≡ meaning.string_value t n }
 {}
 
-/// Ancestor, descendant, following, preceding and self part a document (XPath 1.0, section 2.2): from a node each node of its document is on exactly one of them, and a node of another document on none.
+/// Ancestor, descendant, following, preceding and self part a document (XPath 1.0, section 2.2): from a node each node of its document
+/// is on exactly one of them, and a node of another document on none.
 #[tactic(auto, using(crate::proofs::PartLaws::axes_part))]
 pub fn five_axes_part_a_document()
     ensures parts { (t : Tree) (n m : Position) → IsValidTree t → At t n → At t m → is_node n ≡ true → is_node m ≡ true
