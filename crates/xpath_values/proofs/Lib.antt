@@ -1,0 +1,3 @@
+mod Cuts
+mod CharacterCuts
+mod Substrings

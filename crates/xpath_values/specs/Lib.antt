@@ -1,2 +1,3 @@
 -- Values
 pub mod PlainValues
+pub mod Places

@@ -1,6 +1,7 @@
 //! Whole numbers of at most 18 digits, or not-a-number, and texts as numbers.
 ghost use Rattle.std.specs.Prelude.{◌≡◌, ◌≤ℤ◌, reverse, pos, Some, None, IfOk, IfSome, if◌then◌else◌};
 ghost use Rattle.path_model.specs.Numbers as spec;
+ghost use Rattle.path_model.specs.Functions.{added_up, zero_number};
 
 use dewey_labels::{NoMemory, Text};
 use std::alloc::Global;
@@ -51,6 +52,17 @@ pub fn times(a: Option<i64>, b: Option<i64>) -> Option<i64>
         (Some(a), Some(b)) => in_range(a.checked_mul(b)?),
         _ => None,
     }
+}
+
+/// The sum of the numbers that texts are, in their order; not-a-number where one of them is, or out of range on the way.
+pub fn sum(texts: &[Text]) -> Option<i64>
+    ensures { result ≡ added_up zero_number texts.now }
+{
+    let mut total = Some(0);
+    for text in texts {
+        total = plus(total, number_of_text(text.as_str()));
+    }
+    total
 }
 
 /// How the number is written: in decimal, or `NaN`.
