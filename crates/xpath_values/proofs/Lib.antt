@@ -1,3 +1,4 @@
 mod Cuts
 mod CharacterCuts
 mod Substrings
+mod SpaceRuns

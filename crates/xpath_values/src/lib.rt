@@ -5,6 +5,7 @@
 mod characters;
 mod comparisons;
 mod numbers;
+mod spaces;
 mod strings;
 mod values;
 
@@ -12,5 +13,6 @@ pub use characters::{string_length, substring_from, substring_within};
 pub use comparisons::compare;
 pub use numbers::{is_space, minus, number_of_text, plus, sum, text_of_number, times};
 pub use path_model::CompareOp;
+pub use spaces::normalize_space;
 pub use strings::{concat, contains, starts_with, substring_after, substring_before};
 pub use values::XStrings;
