@@ -9,7 +9,7 @@ use crate::numbers::number_of_text;
 use dewey_labels::Text;
 use path_model::CompareOp;
 
-/// Whether the values compare. It takes as many steps as the strings have bytes, but for the equality of two node sets, where each string may be set beside each.
+/// Whether the values compare. Two node sets take at most as many steps as their pairs of string-values have bytes, all else as many as its strings have.
 pub fn compare(op: CompareOp, left: &XStrings, right: &XStrings) -> bool
     ensures { result ≡ spec.compare op (plain left.now) (plain right.now) }
 {

@@ -1,4 +1,4 @@
-use Rattle.std.proofs.Common.{◌≡◌, ◌≤◌, ◌<◌, ◌^◌, length, pos, sym, ap, subst, ◌∙◌, to_z, w64, arith, rules}
+use Rattle.std.proofs.Common.{◌≤◌, ◌<◌, ◌^◌, length, pos, ap, subst, ◌∙◌, w64, arith, rules}
 use Rattle.std.proofs.lemmas.Str.{length-le-encodes, encodes-chars}
 use Rattle.std.proofs.lemmas.Int.{to_z_pos}
 use Rattle.std.specs.Str.{chars}
