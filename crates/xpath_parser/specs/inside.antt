@@ -1,0 +1,3 @@
+-- Words of the proofs alone.
+pub mod Cursor
+pub mod Nests
