@@ -1,0 +1,36 @@
+// Why a text is no path.
+ghost use Rattle.std.specs.Prelude.{◌≡◌};
+
+use dewey_labels::{NoMemory, Text};
+use std::alloc::AllocError;
+
+/// Why a text is no path. `place` is the first byte of the first token that no path goes on with, or the text's length at its end.
+#[derive(Debug, Drop)]
+pub enum PathError {
+    Syntax { place: u64 },
+    /// The token would go on with an expression of XPath 1.0; `what` says with which part.
+    Unsupported { place: u64, what: Text },
+    /// The token opens the 51st of nested predicates, parentheses, calls and unary minuses.
+    Deep { place: u64 },
+    NoMemory,
+}
+
+impl From<NoMemory> for PathError {
+    ghost use Rattle.xpath_parser.specs.declared.path_error.PathError.TheVariants.{NoMemory};
+
+    ghost from_gives = { λ _ error. error ≡ NoMemory };
+
+    fn from(_error: NoMemory) -> PathError {
+        PathError::NoMemory
+    }
+}
+
+impl From<AllocError> for PathError {
+    ghost use Rattle.xpath_parser.specs.declared.path_error.PathError.TheVariants.{NoMemory};
+
+    ghost from_gives = { λ _ error. error ≡ NoMemory };
+
+    fn from(_error: AllocError) -> PathError {
+        PathError::NoMemory
+    }
+}
