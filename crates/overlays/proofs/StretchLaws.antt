@@ -17,14 +17,14 @@ use Rattle.overlays.specs.Directions.{cmp_toward, Ahead}
 use Rattle.overlays.specs.inside.Nearest.{IsNearest}
 use Rattle.tree_model.specs.declared.change.Change.{Change}
 use Rattle.tree_model.specs.Changes.{Rising, now_at, laid, seen}
-use Rattle.tree_model.specs.Entries.{Sorted, changed}
+use Rattle.tree_model.specs.Entries.{Sorted, set, changed}
 use Rattle.tree_model.proofs.ChangeLists.{get_changed_twice, get_changed}
 use Rattle.overlays.specs.inside.Nearest.{as_pair, comes_before, LiesAhead}
 use Rattle.overlays.specs.Steps.{end_toward, open_ahead, ends_ahead, most_steps}
 use Rattle.overlays.specs.inside.Passing.{Skips, meets, with_piece, gone_key, first_gone, entry_put, first_seen, Spans, IsEndOf}
 use Rattle.overlays.proofs.Directions.{toward_trans, toward_itself}
 use Rattle.overlays.proofs.SeenLaws.{only_base, base_first, put_first, put_validly, left_from, left_falls}
-use Rattle.tree_model.proofs.Entries.{sorted_changed}
+use Rattle.tree_model.proofs.Entries.{get_set, get_set_other, sorted_changed, sorted_set}
 use Rattle.tree_model.proofs.SameEntries.{value_is}
 use Rattle.std.specs.Option.{option_or}
 use Rattle.std.proofs.Common.{Bor, option_copied, inl, inr}
@@ -448,16 +448,25 @@ pub own_kept : (new old : List Stretch) (cs : List Change) (es : Entries) → Ri
 own_kept new old cs es r s f h e j c =
     is_none_of (get j (changed cs es)) (get_changed j cs es r s ∙ still_none_at new j cs (now_at j cs) (get j es) h c refl (none_is_none (get j es) (e j (f j c))))
 
-under_kept : (ss : List Stretch) (j : Key) (cs : List Change) (u : Option (Option Record)) (b : Option Record) → AllByRecursion (IsOut ss) cs → is_covered ss j ≡ true → seen u b ≡ None → seen u (seen (now_at j cs) b) ≡ None
-under_kept ss j cs None b h c n = still_none_at ss j cs (now_at j cs) b h c refl n
-under_kept ss j cs (Some v) b h c n = n
+-- where a map has nothing at a key as another has nothing there, so it is after changes of both
+still_none_on : (own : List Change) (j : Key) (x y : Entries) → Sorted x → Sorted y → (get j x ≡ None → get j y ≡ None) → get j (changed own x) ≡ None → get j (changed own y) ≡ None
+still_none_on [] j x y s t f n = f n
+still_none_on (c ∷ cs) j x y s t f n = still_none_on cs j (set c.key c.now x) (set c.key c.now y) (sorted_set c.key c.now x s) (sorted_set c.key c.now y t) one n
+  where
+    one : get j (set c.key c.now x) ≡ None → get j (set c.key c.now y) ≡ None
+    one n = tested (get j (set c.key c.now y) ≡ None) (is_eq (key_cmp j c.key))
+        (λ here.
+        let same : j ≡ c.key = key_tied j c.key (eq_is _ here) in
+        ap (λ k. get k (set c.key c.now y)) same ∙ get_set c.key c.now y t ∙ sym (ap (λ k. get k (set c.key c.now x)) same ∙ get_set c.key c.now x s) ∙ n)
+        (λ apart. get_set_other j c.key c.now y apart ∙ f (sym (get_set_other j c.key c.now x apart) ∙ n))
 
-pub commit_kept : (new old : List Stretch) (own cs : List Change) (es : Entries) → Rising own → Rising cs → Sorted es → AreWithin new old → AllByRecursion (IsOut new) cs
+pub commit_kept : (new old : List Stretch) (own cs : List Change) (es : Entries) → Rising cs → Sorted es → AreWithin new old → AllByRecursion (IsOut new) cs
     → AreEmpty old (changed own es) → AreEmpty new (changed own (changed cs es))
-commit_kept new old own cs es r t s f h e j c =
+commit_kept new old own cs es r s f h e j c =
     is_none_of (get j (changed own (changed cs es)))
-    (get_changed j own (changed cs es) r (sorted_changed cs es s) ∙ ap (seen (now_at j own)) (get_changed j cs es t s)
-    ∙ under_kept new j cs (now_at j own) (get j es) h c (sym (get_changed j own es r s) ∙ none_is_none (get j (changed own es)) (e j (f j c))))
+    (still_none_on own j es (changed cs es) s (sorted_changed cs es s)
+    (λ n. get_changed j cs es r s ∙ still_none_at new j cs (now_at j cs) (get j es) h c refl n)
+    (none_is_none (get j (changed own es)) (e j (f j c))))
 
 -- ---- how many steps a walk makes
 

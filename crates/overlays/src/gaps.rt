@@ -1,5 +1,5 @@
 // Stretches of keys at which a transaction sees nothing: what its reads have passed over, kept so that the next ones needn't.
-ghost use Rattle.std.specs.Prelude.{◌≡◌, ◌<◌, ◌≤◌, [], ◌∷◌, ◌↔◌, List, Some, None, false, true, IfOk, IfSome, OnOk, OnErr, length, vec_capacity, option_copied};
+ghost use Rattle.std.specs.Prelude.{◌≡◌, ◌<◌, ◌≤◌, ◌==◌, [], ◌∷◌, ◌↔◌, List, Some, None, false, true, IfOk, IfSome, OnOk, OnErr, length, vec_capacity, option_copied};
 ghost use Rattle.std.specs.List.{AllByRecursion};
 ghost use Rattle.tree_model.specs.Entries.{Entries, Sorted, changed};
 ghost use Rattle.tree_model.specs.Changes.{Rising};
@@ -13,8 +13,10 @@ ghost use Rattle.overlays.specs.declared.direction.Direction as declared_directi
 ghost use Rattle.std.specs.declared.cmp.Ordering.TheVariants.{Less};
 ghost use Rattle.tree_model.specs.Keys.{key_cmp};
 ghost use Rattle.tree_model.specs.Orders.{by_order};
+ghost use Rattle.node_seq.specs.ChangeLists.{IsChangeList};
 
 use crate::direction::Direction;
+use crate::run::Run;
 use crate::{Layers, Overlay};
 use dewey_labels::NoMemory;
 use std::alloc::Global;
@@ -262,6 +264,13 @@ impl Gaps {
         }
     }
 
+    /// Whether there are no stretches.
+    pub fn is_empty(&self) -> bool
+        ensures { result ≡ (length self.now == 0) }
+    {
+        self.stretches.is_empty()
+    }
+
     /// The last key ahead that lies in the same stretch; the key itself where it lies in none.
     pub(crate) fn skip<'g>(&'g self, toward: Direction, key: &'g Key) -> &'g Key
         ensures skips { Skips toward key.now self.now result.now }
@@ -360,13 +369,23 @@ impl Gaps {
         self.forget(&change.key);
     }
 
-    /// Takes out what the changes of another's commit put. It takes no memory.
-    pub fn forget_puts(&mut self, changes: &Changes)
+    fn forget_run(&mut self, run: &Run)
         ensures within { AreWithin self.new self.old }
-        ensures out { AllByRecursion (IsOut self.new) changes.now }
+        ensures out { AllByRecursion (IsOut self.new) run.now }
     {
-        for change in changes.as_slice() {
+        for change in run.changes() {
             self.forget_put(change);
+        }
+    }
+
+    /// Takes out what another's commit of this overlay puts. It takes no memory.
+    pub fn forget_puts(&mut self, overlay: &Overlay)
+        ensures within { AreWithin self.new self.old }
+        ensures out { AllByRecursion (IsOut self.new) overlay.now }
+        ensures list { IsChangeList overlay.now }
+    {
+        for run in overlay.runs() {
+            self.forget_run(run);
         }
     }
 }
@@ -392,6 +411,6 @@ pub fn own_changes_keep_stretches_empty()
 
 /// So it is after another's commit, which lies under the transaction's own changes.
 pub fn commits_keep_stretches_empty()
-    ensures { (new old : List Stretch) (own cs : List Change) (es : Entries) → Rising own → Rising cs → Sorted es → AreWithin new old → AllByRecursion (IsOut new) cs
+    ensures { (new old : List Stretch) (own cs : List Change) (es : Entries) → Rising cs → Sorted es → AreWithin new old → AllByRecursion (IsOut new) cs
         → AreEmpty old (changed own es) → AreEmpty new (changed own (changed cs es)) }
 {}
