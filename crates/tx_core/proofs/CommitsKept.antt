@@ -47,7 +47,7 @@ prepared_kept p q s (Err y) kept places is ready spare err = same_prepared p q e
 -- ---- the book and the state
 
 module _ {C B : Type 0} (is_valid : C → Type 0) (m : CallMeaning C) (told : B → Option Entries) where
-  pub core_rebased : (count : B → ℕ) (opening : B) (number limit : ℕ) (p q : Parts C B) (base : B) → q ≡ record p { base = base; layers = q.layers }
+  pub core_rebased : (count : B → ℕ) (opening : B) (number limit : ℕ) (p q : Parts C B) (base : B) → q ≡ record p { base = base; layers = q.layers; passed = q.passed }
       → ((st : State C) → Stands is_valid m told p st → told base ≡ Some (map_of st.tree) → Stands is_valid m told q st)
       → ((t : Tree) → StandsFor (told opening) t → told base ≡ Some (map_of (last m (start t number limit) p.book.items).tree))
       → IsSeated q → count p.base ≤ count q.base → IsCore is_valid m told count opening number limit p → IsCore is_valid m told count opening number limit q

@@ -240,7 +240,7 @@ module _ {C B : Type 0} (is_valid : C → Type 0) (m : CallMeaning C) (told : B 
       so b prepared base = record { opening = opening; number = number; limit = limit; base = base; committed = contents_after q.layers.changes (told q.base); book = b; prepared = prepared }
 
   -- over another base and other layers
-  pub shown_rebased : (opening : B) (number limit : ℕ) (p q : Parts C B) (base : B) (v : CoreView C B) → shown told opening number limit p ≡ v → q ≡ record p { base = base; layers = q.layers }
+  pub shown_rebased : (opening : B) (number limit : ℕ) (p q : Parts C B) (base : B) (v : CoreView C B) → shown told opening number limit p ≡ v → q ≡ record p { base = base; layers = q.layers; passed = q.passed }
       → shown told opening number limit q ≡ with_committed (over v base) (contents_after q.layers.changes (told q.base))
   shown_rebased opening number limit p q base v old same =
       ap (λ (x : Parts C B). so x (contents_after q.layers.changes (told q.base))) same ∙ ap (λ (x : CoreView C B). with_committed (over x base) (contents_after q.layers.changes (told q.base))) old

@@ -23,7 +23,7 @@ module _ {C B : Type 0} (is_valid : C → Type 0) (m : CallMeaning C) (told : B 
   each_seen seen c (Some answer) valid all = (valid, all)
 
   -- a reply that came with the requests is known, also over the base as it is after the reads
-  pub known_then : (p q : Parts C B) (s : ℕ) (seat : Seat) (c : C) (o : Option Reply) → q ≡ record p { base = q.base } → told q.base ≡ told p.base
+  pub known_then : (p q : Parts C B) (s : ℕ) (seat : Seat) (c : C) (o : Option Reply) → q ≡ record p { base = q.base; passed = q.passed } → told q.base ≡ told p.base
       → seat_in (get nat_cmp p.places s) ≡ Some seat → is_valid c
       → ((t : Tree) → StandsFor (contents_after seat.own (contents_after p.layers.changes (told p.base))) t → IfSome o (OnlyAnswers m c t))
       → IsKnown is_valid m (seen_by told q s) c o

@@ -14,6 +14,7 @@ pub mod KeptAgain
 pub mod Known
 pub mod Merged
 pub mod Moves
+pub mod PassedOn
 pub mod Reached
 pub mod Repeated
 pub mod Rested

@@ -472,10 +472,10 @@ module _ {C B : Type 0} where
       ap refused_call told.1 ∙ ap (λ (b : Bool). cond b (Some IsWaiting) None) (told_waits p.book.items w told.0.waits told.2)
 
   -- a base that was read
-  pub based_seated : (p q : Parts C B) → IsSeated p → q ≡ record p { base = q.base } → IsSeatedAs p q
+  pub based_seated : (p q : Parts C B) → IsSeated p → q ≡ record p { base = q.base; passed = q.passed } → IsSeatedAs p q
   based_seated p q is same = seated_same p q is (based q same) (subst (λ (x : Parts C B). HasRoom 0 x) (sym same) is.room)
     where
-      based : (q : Parts C B) → q ≡ record p { base = q.base } → SameSeats p q
+      based : (q : Parts C B) → q ≡ record p { base = q.base; passed = q.passed } → SameSeats p q
       based q same = record {
         seats = λ o. ap (λ (x : Parts C B). wait_in (get nat_cmp x.places o)) same;
         ordinals = λ o. ap (λ (x : Parts C B). ordinal_in (get nat_cmp x.places o)) same;
@@ -598,16 +598,32 @@ module _ {C B : Type 0} where
         limit = refl;
       }
 
-  pub rebased_seated : (p q : Parts C B) (base : B) → IsSeated p → q ≡ record p { base = base; layers = q.layers } → 1 ≤ q.layers.spare → IsSeated q
-  rebased_seated p q base is same spare = (layered_seated p q base q.layers p.prepared is same kept).seated
+  pub rebased_seated : (p q : Parts C B) (base : B) → IsSeated p → q ≡ record p { base = base; layers = q.layers; passed = q.passed } → 1 ≤ q.layers.spare → IsSeated q
+  rebased_seated p q base is same spare = subst (λ (x : Parts C B). KeepsPrepared x → IsSeated x) (sym same) one kept
     where
+      one : KeepsPrepared (record p { base = base; layers = q.layers; passed = q.passed }) → IsSeated (record p { base = base; layers = q.layers; passed = q.passed })
+      one kept = record {
+        seats = is.seats;
+        ordinals = is.ordinals;
+        queue = is.queue;
+        waits = is.waits;
+        begun = is.begun;
+        number = is.number;
+        live = is.live;
+        limited = is.limited;
+        fits = is.fits;
+        numbered = is.numbered;
+        room = is.room;
+        prepared = kept;
+      }
+
       kept : KeepsPrepared q
       kept s some =
           let was = is.prepared s (sym (ap (λ (x : Parts C B). x.prepared) same) ∙ some) in
           (subst (λ (x : Parts C B). IsReady (seat_in (get nat_cmp x.places s))) (sym same) was.0, spare)
 
   -- a seat moved, and what is told of it is as it was
-  pub moved_seated : (p q : Parts C B) → IsSeated p → q ≡ record p { places = q.places; graph = q.graph } → ((o : ℕ) → wait_in (get nat_cmp q.places o) ≡ wait_in (get nat_cmp p.places o))
+  pub moved_seated : (p q : Parts C B) → IsSeated p → q ≡ record p { places = q.places; passed = q.passed; graph = q.graph } → ((o : ℕ) → wait_in (get nat_cmp q.places o) ≡ wait_in (get nat_cmp p.places o))
       → ((o : ℕ) → ordinal_in (get nat_cmp q.places o) ≡ ordinal_in (get nat_cmp p.places o)) → IsSeatedAs p q
   moved_seated p q is same seats ordinals = seated_same p q is one
       (omega (arith, is.room, ap (λ (x : Parts C B). length x.book.items) same, ap (λ (x : Parts C B). x.live) same, ap (λ (x : Parts C B). length x.waiting.items) same, ap (λ (x : Parts C B). vec_capacity x.book) same))

@@ -4,6 +4,7 @@ pub mod Committing
 pub mod Goes
 pub mod Kept
 pub mod Known
+pub mod Passed
 pub mod Retrying
 pub mod Standing
 pub mod Sessions

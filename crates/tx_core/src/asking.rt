@@ -9,6 +9,7 @@ ghost use Rattle.overlays.specs.Views.{contents_after};
 ghost use Rattle.call_contract.specs.Calls.{OnlyAnswers, changes_of};
 ghost use Rattle.lock_table.specs.Tables.{Table, Answers, IsSame};
 ghost use Rattle.tx_core.specs.inside.Asking.{AreGranted, IsGot, IsCovered};
+ghost use Rattle.tx_core.specs.inside.Passed.{AreEmptyIn};
 
 use crate::modes::has;
 use call_contract::TreeCall;
@@ -120,29 +121,31 @@ pub struct Wanted {
     pub reply: Option<Reply>,
 }
 
-/// What a call asks for on what a transaction sees.
+/// What a call asks for on what a transaction sees. What its reads pass is noted.
 pub fn asked<'v, C: TreeCall, B: NodeRead>(
     alloc: Global,
     base: &'v mut B,
     layers: &'v Layers,
     own: &'v Overlay,
+    gaps: &'v mut Gaps,
     call: &C,
 ) -> Result<Wanted, SeqError>
+    requires empty { AreEmptyIn gaps.old (contents_after own.now (contents_after layers.now.changes (B.contents base.old))) }
     ensures value { OnTree (contents_after own.now (contents_after layers.now.changes (B.contents base.old))) result (λ t wanted.
         wanted.requests ≡ C.meaning.requests call.now t) }
     ensures known { OnTree (contents_after own.now (contents_after layers.now.changes (B.contents base.old))) result (λ t wanted.
         IfSome wanted.reply (OnlyAnswers C.meaning call.now t)) }
     ensures valid { C.is_valid call.now }
+    ensures empty { AreEmptyIn gaps.new (contents_after own.now (contents_after layers.now.changes (B.contents base.new))) }
     ensures unchanged { B.unchanged base.old base.new }
     ensures cause { HasCause DiskFault (B.count base.old) (B.count base.new) result }
 {
     let mut requests = List::new(alloc);
-    let mut gaps = Gaps::new(alloc);
     let mut view = View {
         base,
         layers,
         own,
-        gaps: &mut gaps,
+        gaps,
     };
     let reply = call.requests(alloc, &mut view, &mut requests)?;
     Ok(Wanted { requests, reply })
@@ -155,30 +158,32 @@ pub struct Outcome {
     pub changes: Changes,
 }
 
-/// What a call answers on what a transaction sees, and what it changes there.
+/// What a call answers on what a transaction sees, and what it changes there. What its reads pass is noted.
 pub fn made<'v, C: TreeCall, B: NodeRead>(
     alloc: Global,
     base: &'v mut B,
     layers: &'v Layers,
     own: &'v Overlay,
+    gaps: &'v mut Gaps,
     call: &C,
 ) -> Result<Outcome, SeqError>
+    requires empty { AreEmptyIn gaps.old (contents_after own.now (contents_after layers.now.changes (B.contents base.old))) }
     ensures reply { OnTree (contents_after own.now (contents_after layers.now.changes (B.contents base.old))) result (λ t made.
         made.reply ≡ C.meaning.reply call.now t) }
     ensures changes { OnTree (contents_after own.now (contents_after layers.now.changes (B.contents base.old))) result (λ t made.
         made.changes ≡ changes_of C.meaning call.now t) }
     ensures rise { IfOk result (λ made. IsChangeList made.changes) }
     ensures valid { C.is_valid call.now }
+    ensures empty { AreEmptyIn gaps.new (contents_after own.now (contents_after layers.now.changes (B.contents base.new))) }
     ensures unchanged { B.unchanged base.old base.new }
     ensures cause { HasCause DiskFault (B.count base.old) (B.count base.new) result }
 {
     let mut changes = List::new(alloc);
-    let mut gaps = Gaps::new(alloc);
     let mut view = View {
         base,
         layers,
         own,
-        gaps: &mut gaps,
+        gaps,
     };
     let reply = call.apply(alloc, &mut view, &mut changes)?;
     Ok(Outcome { reply, changes })

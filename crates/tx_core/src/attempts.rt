@@ -10,6 +10,7 @@ ghost use Rattle.call_contract.specs.Waits.{cycle_through};
 ghost use Rattle.tx_core.specs.inside.Committing.{commit_refused};
 ghost use Rattle.tx_core.specs.inside.Asking.{granted_in, IsInside};
 ghost use Rattle.tx_core.specs.inside.Known.{IsKnown, seen_by};
+ghost use Rattle.tx_core.specs.inside.Passed.{ArePassed};
 ghost use Rattle.outside_traits.specs.Faults.{HasCause};
 ghost use Rattle.node_seq.specs.declared.node_read.SeqError.TheVariants.{DiskFault};
 ghost use Rattle.call_contract.specs.Sessions.{live_in};
@@ -23,6 +24,7 @@ use crate::asking::{Got, Outcome, Wanted, ask_all, asked, made};
 use crate::ends::{make_room, note, stop_waiting};
 use crate::errors::{CallError, SessionError};
 use crate::parts::{Parts, Places, Seat};
+use crate::passed::{end_passed, keep_passed, lay_own, take_passed};
 use crate::places::{seat_again, seat_at, unseat};
 use call_contract::{Answer, Event, EventAnswer, Noted, TreeCall};
 use dewey_labels::{List, NoMemory};
@@ -39,17 +41,25 @@ pub fn requests_of<C: TreeCall + Drop, B: NodeRead>(
     call: &C,
 ) -> Result<Wanted, SeqError>
     requires ready { wait_in (get nat_cmp parts.old.places session) ≡ Some None }
+    requires passed { ArePassed B.contents parts.old }
     ensures value { IfOk result (λ wanted. (st : State C) → Stands C.is_valid C.meaning B.contents parts.old st
         → IsAsked C.meaning st session call.now wanted.requests) }
     ensures known { IfOk result (λ wanted. IsKnown C.is_valid C.meaning (seen_by B.contents parts.new session) call.now wanted.reply) }
     ensures valid { C.is_valid call.now }
     ensures stays { Stays C.is_valid C.meaning B.contents parts.old parts.new }
-    ensures same { parts.new ≡ record parts.old { base = parts.new.base } }
+    ensures passed { ArePassed B.contents parts.new }
+    ensures same { parts.new ≡ record parts.old { base = parts.new.base; passed = parts.new.passed } }
     ensures unchanged { B.unchanged parts.old.base parts.new.base }
     ensures cause { HasCause DiskFault (B.count parts.old.base) (B.count parts.new.base) result }
 {
     match seat_at(&parts.places, session) {
-        Some(seat) => asked(alloc, &mut parts.base, &parts.layers, &seat.own, call),
+        Some(seat) => {
+            let mut gaps = take_passed(alloc, &mut parts.passed, session);
+            let base = &mut parts.base;
+            let wanted = asked(alloc, base, &parts.layers, &seat.own, &mut gaps, call);
+            keep_passed(&mut parts.passed, session, gaps);
+            wanted
+        }
         None => unreachable!(),
     }
 }
@@ -64,12 +74,14 @@ pub fn outcome_of<C: TreeCall + Drop, B: NodeRead>(
 ) -> Result<Outcome, SeqError>
     requires seated { IsSome (seat_in (get nat_cmp parts.old.places session)) }
     requires known { IsKnown C.is_valid C.meaning (seen_by B.contents parts.old session) call.now known }
+    requires passed { ArePassed B.contents parts.old }
     ensures value { IfOk result (λ outcome. (st : State C) → Stands C.is_valid C.meaning B.contents parts.old st
         → IsMade C.meaning st session call.now outcome) }
     ensures rise { IfOk result (λ outcome. IsChangeList outcome.changes) }
     ensures valid { C.is_valid call.now }
     ensures stays { Stays C.is_valid C.meaning B.contents parts.old parts.new }
-    ensures same { parts.new ≡ record parts.old { base = parts.new.base } }
+    ensures passed { ArePassed B.contents parts.new }
+    ensures same { parts.new ≡ record parts.old { base = parts.new.base; passed = parts.new.passed } }
     ensures unchanged { B.unchanged parts.old.base parts.new.base }
     ensures cause { HasCause DiskFault (B.count parts.old.base) (B.count parts.new.base) result }
 {
@@ -78,7 +90,13 @@ pub fn outcome_of<C: TreeCall + Drop, B: NodeRead>(
         return Ok(Outcome { reply, changes });
     }
     match seat_at(&parts.places, session) {
-        Some(seat) => made(alloc, &mut parts.base, &parts.layers, &seat.own, call),
+        Some(seat) => {
+            let mut gaps = take_passed(alloc, &mut parts.passed, session);
+            let base = &mut parts.base;
+            let outcome = made(alloc, base, &parts.layers, &seat.own, &mut gaps, call);
+            keep_passed(&mut parts.passed, session, gaps);
+            outcome
+        }
         None => unreachable!(),
     }
 }
@@ -117,13 +135,17 @@ pub fn accept<C: TreeCall + Drop, B: NodeRead>(
         ≡ cond (session == o) (Some None) (wait_in (get nat_cmp parts.old.places o))) }
     ensures still { OnErr result ((o : ℕ) → wait_in (get nat_cmp parts.new.places o) ≡ wait_in (get nat_cmp parts.old.places o)) }
     ensures ordinals { (o : ℕ) → ordinal_in (get nat_cmp parts.new.places o) ≡ ordinal_in (get nat_cmp parts.old.places o) }
-    ensures same { parts.new ≡ record parts.old { places = parts.new.places; graph = parts.new.graph } }
+    ensures passed { ArePassed B.contents parts.old → ArePassed B.contents parts.new }
+    ensures same { parts.new ≡ record parts.old { places = parts.new.places; passed = parts.new.passed; graph = parts.new.graph } }
 {
+    // The count tells that a known base's map is in the order of its keys.
+    let _faults = parts.base.faults();
     let Outcome { reply, changes } = outcome;
     match unseat(&mut parts.places, session) {
         Some(seat) => {
             let Seat { mut own, waiting } = seat;
-            match own.add(alloc, changes) {
+            let passed = &mut parts.passed;
+            match lay_own(alloc, &parts.layers, &mut own, passed, session, changes) {
                 Ok(()) => {
                     seat_again(&mut parts.places, session, Seat { own, waiting: None });
                     parts.graph.stop(session);
@@ -154,6 +176,7 @@ pub fn fail<C: TreeCall + Drop, B: NodeRead>(
     ensures failed { IsFailed C.is_valid C.meaning B.contents parts.old session call grants faults parts.new }
     ensures seated { IsSeatedAs parts.old parts.new }
     ensures base { parts.new.base ≡ parts.old.base }
+    ensures passed { ArePassed B.contents parts.old → ArePassed B.contents parts.new }
 {
     stop_waiting(&mut parts.waiting, session);
     parts.prepared = None;
@@ -183,6 +206,7 @@ pub fn answer<C: TreeCall + Drop, B: NodeRead>(
     requires ready { wait_in (get nat_cmp parts.old.places session) ≡ Some None }
     requires room { HasRoom 2 parts.old }
     requires known { IsKnown C.is_valid C.meaning (seen_by B.contents parts.old session) call known }
+    requires passed { ArePassed B.contents parts.old }
     ensures ok { IfOk result (λ a. IsAnswered C.is_valid C.meaning B.contents parts.old session call a parts.new) }
     ensures err { OnErr result (Stays C.is_valid C.meaning B.contents parts.old parts.new) }
     ensures call { IfErr result (λ e. e.1 ≡ call) }
@@ -190,6 +214,7 @@ pub fn answer<C: TreeCall + Drop, B: NodeRead>(
     ensures still { OnErr result (HasRoom 2 parts.new × (wait_in (get nat_cmp parts.new.places session) ≡ Some None)) }
     ensures unchanged { B.unchanged parts.old.base parts.new.base }
     ensures cause { HasCause (DiskFault, call) (B.count parts.old.base) (B.count parts.new.base) result }
+    ensures passed { ArePassed B.contents parts.new }
 {
     let outcome = match outcome_of(alloc, parts, session, &call, known) {
         Ok(outcome) => outcome,
@@ -258,6 +283,7 @@ fn set_waiting<C: TreeCall + Drop, B: NodeRead>(
     ensures prepared { parts.new.prepared ≡ None }
     ensures seated { IsSeatedAs parts.old parts.new }
     ensures base { parts.new.base ≡ parts.old.base }
+    ensures passed { ArePassed B.contents parts.old → ArePassed B.contents parts.new }
 {
     let entry = parts.book.len();
     match unseat(&mut parts.places, session) {
@@ -349,6 +375,7 @@ fn wait_for<C: TreeCall + Drop, B: NodeRead>(
     ensures seated { IsSeatedAs parts.old parts.new }
     ensures still { OnErr result (HasRoom 2 parts.new × (wait_in (get nat_cmp parts.new.places session) ≡ Some None)) }
     ensures base { parts.new.base ≡ parts.old.base }
+    ensures passed { ArePassed B.contents parts.old → ArePassed B.contents parts.new }
 {
     let Ok(copies) = copies_of(alloc, request, &holders) else {
         return Err(call);
@@ -381,6 +408,7 @@ pub fn wait<C: TreeCall + Drop, B: NodeRead>(
     ensures seated { IsSeatedAs parts.old parts.new }
     ensures still { OnErr result (HasRoom 2 parts.new × (wait_in (get nat_cmp parts.new.places session) ≡ Some None)) }
     ensures base { parts.new.base ≡ parts.old.base }
+    ensures passed { ArePassed B.contents parts.old → ArePassed B.contents parts.new }
 {
     let Ok(closed) = cycle_of(alloc, parts, session, request) else {
         return Err(call);
@@ -411,6 +439,7 @@ fn end_by_cycle<C: TreeCall + Drop, B: NodeRead>(
     ensures seated { IsSeatedAs parts.old parts.new }
     ensures still { OnErr result (HasRoom 2 parts.new × (wait_in (get nat_cmp parts.new.places session) ≡ Some None)) }
     ensures base { parts.new.base ≡ parts.old.base }
+    ensures passed { ArePassed B.contents parts.old → ArePassed B.contents parts.new }
 {
     // The conditions alone speak of the request.
     let _request = request;
@@ -418,6 +447,7 @@ fn end_by_cycle<C: TreeCall + Drop, B: NodeRead>(
         return Err(call);
     };
     let _seat = unseat(&mut parts.places, session);
+    end_passed(&mut parts.passed, session);
     parts.table.release_all(session);
     parts.graph.stop(session);
     stop_waiting(&mut parts.waiting, session);
@@ -453,6 +483,7 @@ fn give_up<C: TreeCall + Drop, B: NodeRead>(
     ensures error { result ≡ call_error_of error }
     ensures seated { IsSeatedAs parts.old parts.new }
     ensures base { parts.new.base ≡ parts.old.base }
+    ensures passed { ArePassed B.contents parts.old → ArePassed B.contents parts.new }
 {
     match error {
         SeqError::DiskFault => {
@@ -486,12 +517,14 @@ fn settle<C: TreeCall + Drop, B: NodeRead>(
     requires known { IsKnown C.is_valid C.meaning (seen_by B.contents parts.old session) call known }
     requires inside { IsInside requests.now got }
     requires fits { granted_in requests.now got ≤ 4_294_967_295 }
+    requires passed { ArePassed B.contents parts.old }
     ensures ok { IfOk result (λ a. IsSettled C.is_valid C.meaning B.contents parts.old session call requests.now got a parts.new) }
     ensures err { IfErr result (λ e. IsLeft C.is_valid C.meaning B.contents B.count parts.old session call (granted_in requests.now got) e parts.new) }
     ensures refused { shown_call_refusal result ≡ None }
     ensures seated { IsSeatedAs parts.old parts.new }
     ensures unchanged { B.unchanged parts.old.base parts.new.base }
     ensures cause { HasCause call_error.DiskFault (B.count parts.old.base) (B.count parts.new.base) result }
+    ensures passed { ArePassed B.contents parts.new }
 {
     match got {
         Got::All => match answer(alloc, parts, session, call, known) {
@@ -520,12 +553,14 @@ fn attempt_in_room<C: TreeCall + Drop, B: NodeRead>(
     requires seated { IsSeated parts.old }
     requires ready { wait_in (get nat_cmp parts.old.places session) ≡ Some None }
     requires room { HasRoom 2 parts.old }
+    requires passed { ArePassed B.contents parts.old }
     ensures ok { IfOk result (λ a. Goes C.is_valid C.meaning B.contents parts.old (call_entry session call a) parts.new) }
     ensures err { IfErr result (λ e. IsUnanswered C.is_valid C.meaning B.contents B.count parts.old session call e parts.new) }
     ensures refused { shown_call_refusal result ≡ None }
     ensures seated { IsSeatedAs parts.old parts.new }
     ensures unchanged { B.unchanged parts.old.base parts.new.base }
     ensures cause { HasCause call_error.DiskFault (B.count parts.old.base) (B.count parts.new.base) result }
+    ensures passed { ArePassed B.contents parts.new }
 {
     let Wanted { requests, reply } = match requests_of(alloc, parts, session, &call) {
         Ok(wanted) => wanted,
@@ -561,13 +596,15 @@ pub fn attempt<C: TreeCall + Drop, B: NodeRead>(
     session: u32,
     call: C,
 ) -> Result<Answer, CallError>
-    requires { IsSeated parts.old }
+    requires seated { IsSeated parts.old }
+    requires passed { ArePassed B.contents parts.old }
     ensures ok { IfOk result (λ a. Goes C.is_valid C.meaning B.contents parts.old (call_entry session call a) parts.new) }
     ensures err { IfErr result (λ e. IsUnanswered C.is_valid C.meaning B.contents B.count parts.old session call e parts.new) }
     ensures refused { shown_call_refusal result ≡ refused_call (live_in parts.old.book.items session) }
     ensures seated { IsSeatedAs parts.old parts.new }
     ensures unchanged { B.unchanged parts.old.base parts.new.base }
     ensures cause { HasCause call_error.DiskFault (B.count parts.old.base) (B.count parts.new.base) result }
+    ensures passed { ArePassed B.contents parts.new }
 {
     if let Some(why) = refusal_at(&parts.places, session) {
         return Err(CallError::Session(why));

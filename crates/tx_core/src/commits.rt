@@ -15,12 +15,14 @@ ghost use Rattle.tx_core.specs.declared.errors.SessionError.TheVariants as error
 ghost use Rattle.tx_core.specs.Commits.{body_limit, HasChangesOf, IsPastLimitIn};
 ghost use Rattle.tx_core.specs.Refusals.{shown_prepare_refusal};
 ghost use Rattle.tx_core.specs.inside.Committing.{IsReady, HasChanges, commit_refused, IsCommit, GoesOn};
+ghost use Rattle.tx_core.specs.inside.Passed.{ArePassed};
 ghost use Rattle.tx_core.specs.inside.Sessions.{IsSeated, IsSeatedFor};
 ghost use Rattle.tx_core.specs.inside.Standing.{Stands, seat_in, ordinal_in};
 
 use crate::SessionError;
 use crate::ends::{note, stop_waiting};
 use crate::parts::{Parts, Places, Seat};
+use crate::passed::{end_passed, forget_puts};
 use crate::places::{seat_at, unseat};
 use call_contract::{Event, EventAnswer, Noted, TreeCall};
 use dewey_labels::List;
@@ -132,12 +134,15 @@ pub fn commit<C: TreeCall + Drop, B: NodeRead>(
     ensures seated { IsSeatedFor parts.old parts.new }
     ensures base { parts.new.base ≡ parts.old.base }
     ensures none_prepared { parts.new.prepared ≡ None }
+    ensures passed { ArePassed B.contents parts.old → ArePassed B.contents parts.new }
 {
     // The count tells that a known base's map is in the order of its keys.
     let _faults = parts.base.faults();
     match unseat(&mut parts.places, session) {
         Some(seat) => {
             let Seat { own, waiting: _ } = seat;
+            end_passed(&mut parts.passed, session);
+            forget_puts(&mut parts.passed, &own);
             parts.layers.push_layer(own);
         }
         None => unreachable!(),
@@ -173,13 +178,16 @@ pub fn merge<C: TreeCall + Drop>(alloc: Global, parts: &mut Parts<C, SortedSeq>)
 }
 
 /// Goes on over another base that stands for the committed tree, with no layers, and answers the old one.
+/// What was passed isn't kept: nothing tells it of a base whose map isn't known.
 pub fn rebase<C: TreeCall + Drop, B: NodeRead>(alloc: Global, parts: &mut Parts<C, B>, base: B) -> B
     ensures old { result ≡ parts.old.base }
     ensures layers { parts.new.layers ≡ record { changes = []; deletions = 0; spare = 1 } }
-    ensures same { parts.new ≡ record parts.old { base = base; layers = parts.new.layers } }
+    ensures passed { ArePassed B.contents parts.new }
+    ensures same { parts.new ≡ record parts.old { base = base; layers = parts.new.layers; passed = parts.new.passed } }
     ensures state { (st : State C) → Stands C.is_valid C.meaning B.contents parts.old st → B.contents base ≡ Some (map_of st.tree)
         → Stands C.is_valid C.meaning B.contents parts.new st }
 {
     parts.layers = Layers::new(alloc);
+    parts.passed = Vec::new(alloc);
     mem::replace(&mut parts.base, base)
 }

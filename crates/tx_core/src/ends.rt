@@ -9,10 +9,12 @@ ghost use Rattle.call_contract.specs.declared.events.EventAnswer.TheVariants as 
 ghost use Rattle.tx_core.specs.declared.errors.SessionError.TheVariants as error;
 ghost use Rattle.tx_core.specs.Refusals.{shown_refusal, refused_begin, refused_abort};
 ghost use Rattle.tx_core.specs.inside.Goes.{Stays, Goes};
+ghost use Rattle.tx_core.specs.inside.Passed.{ArePassed};
 ghost use Rattle.tx_core.specs.inside.Sessions.{HasRoom, IsSeated, IsSeatedAs};
 
 use crate::SessionError;
 use crate::parts::{Parts, Seat};
+use crate::passed::end_passed;
 use crate::places::{ordinal_at, seat_at, seat_new, unseat};
 use call_contract::{Event, EventAnswer, Noted, TreeCall};
 use dewey_labels::NoMemory;
@@ -65,6 +67,7 @@ pub fn begin<C: TreeCall + Drop, B: NodeRead>(
         (live_in parts.old.book.items session) }
     ensures seated { IsSeatedAs parts.old parts.new }
     ensures base { parts.new.base ≡ parts.old.base }
+    ensures passed { ArePassed B.contents parts.old → ArePassed B.contents parts.new }
 {
     if let Some(seat) = seat_at(&parts.places, session) {
         return Err(refusal_of(seat));
@@ -116,11 +119,13 @@ pub fn abort<C: TreeCall + Drop, B: NodeRead>(
     ensures memory { result ≢ Err error.NoMemory }
     ensures seated { IsSeatedAs parts.old parts.new }
     ensures base { parts.new.base ≡ parts.old.base }
+    ensures passed { ArePassed B.contents parts.old → ArePassed B.contents parts.new }
 {
     let Some(_seat) = seat_at(&parts.places, session) else {
         return Err(SessionError::NoTransaction);
     };
     unseat(&mut parts.places, session);
+    end_passed(&mut parts.passed, session);
     parts.table.release_all(session);
     parts.graph.stop(session);
     stop_waiting(&mut parts.waiting, session);

@@ -48,7 +48,7 @@ pub struct Core<C: TreeCall + Drop, B: NodeRead + Drop> {
 
 impl<C: TreeCall + Drop, B: NodeRead + Drop> Model for Core<C, B> {
     ghost use Rattle.tx_core.specs.Cores.{CoreView};
-    ghost use Rattle.tx_core.specs.inside.Kept.{IsCore};
+    ghost use Rattle.tx_core.specs.inside.Kept.{IsKept};
     ghost use Rattle.overlays.specs.Views.{contents_after};
     ghost use Rattle.tree_model.specs.contracts.fragment.Fragment as fragment;
     ghost use Rattle.std.specs.Coded.{codes};
@@ -67,7 +67,7 @@ impl<C: TreeCall + Drop, B: NodeRead + Drop> Model for Core<C, B> {
       prepared = h.parts.prepared;
     } };
 
-    ghost invariant = { λ h. IsCore C.is_valid C.meaning B.contents B.count h.opening.value h.number h.limit h.parts };
+    ghost invariant = { λ h. IsKept C.is_valid C.meaning B.contents B.count h.opening.value h.number h.limit h.parts };
 }
 
 /// Want of memory for a core, with the base that it was to be opened over.
@@ -109,6 +109,7 @@ impl<C: TreeCall + Drop, B: NodeRead + Drop> Core<C, B> {
                 begun: 0,
                 live: 0,
                 places: BTreeMap::new(alloc),
+                passed: Vec::new(alloc),
                 table,
                 graph,
                 waiting: Vec::new(alloc),

@@ -15,6 +15,7 @@ mod errors;
 pub mod laws;
 mod modes;
 mod parts;
+mod passed;
 mod places;
 mod retries;
 

@@ -2,7 +2,7 @@
 
 use call_contract::Noted;
 use lock_table::LockTable;
-use overlays::{Layers, Overlay};
+use overlays::{Gaps, Layers, Overlay};
 use std::collections::BTreeMap;
 use wait_graph::WaitGraph;
 
@@ -18,6 +18,13 @@ pub struct Seat {
 pub struct Place {
     pub ordinal: u32,
     pub seat: Option<Seat>,
+}
+
+/// Where the live transaction of a session has found nothing.
+#[derive(Drop)]
+pub struct Passed {
+    pub session: u32,
+    pub gaps: Gaps,
 }
 
 /// The sessions by their numbers.
@@ -39,6 +46,8 @@ pub struct Parts<C, B> {
     /// How many of them are live.
     pub live: usize,
     pub places: Places,
+    /// Of the live transactions that have passed deletions.
+    pub passed: Vec<Passed>,
     pub table: LockTable,
     pub graph: WaitGraph,
     /// The waiting sessions, in the order in which they began to wait.

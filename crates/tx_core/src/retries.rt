@@ -18,6 +18,7 @@ ghost use Rattle.tx_core.specs.inside.Asking.{granted_in, IsInside};
 ghost use Rattle.tx_core.specs.inside.Sessions.{HasRoom, IsSeated, IsSeatedAs, wait_in, call_error_of};
 ghost use Rattle.tx_core.specs.inside.Standing.{Stands, seat_in, ordinal_in};
 ghost use Rattle.tx_core.specs.inside.Goes.{Stays, Reaches, IsMade, unqueued, with_wait};
+ghost use Rattle.tx_core.specs.inside.Passed.{ArePassed};
 ghost use Rattle.tx_core.specs.inside.Retrying.{call_at, call_in, waiting_call, first_at, retry_entry, failed_retry, at_rest, waits_for_it, GoesAgain, IsAgain, IsAnsweredAgain, IsPutAgain, WaitsAgain, IsClosedAgain, IsStoppedAgain, IsFailedAgain, IsSettledAgain, AreAsked};
 
 use crate::asking::{Got, Outcome, Wanted, ask_all, asked, made};
@@ -26,6 +27,7 @@ use crate::ends::{make_room, note, stop_waiting};
 use crate::errors::CallError;
 use crate::modes::has;
 use crate::parts::{Parts, Places, Seat};
+use crate::passed::{end_passed, keep_passed, take_passed};
 use crate::places::{seat_again, seat_at, unseat};
 use call_contract::{Answer, Event, EventAnswer, Noted, TreeCall};
 use dewey_labels::{List, NoMemory};
@@ -68,16 +70,24 @@ fn requests_again<C: TreeCall + Drop, B: NodeRead>(
     session: u32,
 ) -> Result<Wanted, SeqError>
     requires waits { IsSome (waiting_call parts.old session) }
+    requires passed { ArePassed B.contents parts.old }
     ensures value { IfOk result (λ wanted. (c : C) → waiting_call parts.old session ≡ Some c → (st : State C) (t : Live C)
         → Stands C.is_valid C.meaning B.contents parts.old st → of_session session st.live ≡ Some t → wanted.requests ≡ asked_of C.meaning st t c) }
     ensures stays { Stays C.is_valid C.meaning B.contents parts.old parts.new }
-    ensures same { parts.new ≡ record parts.old { base = parts.new.base } }
+    ensures passed { ArePassed B.contents parts.new }
+    ensures same { parts.new ≡ record parts.old { base = parts.new.base; passed = parts.new.passed } }
     ensures unchanged { B.unchanged parts.old.base parts.new.base }
     ensures cause { HasCause seq_error.DiskFault (B.count parts.old.base) (B.count parts.new.base) result }
 {
     match seat_at(&parts.places, session) {
         Some(seat) => match call_of(&parts.places, parts.book.as_slice(), session) {
-            Some(call) => asked(alloc, &mut parts.base, &parts.layers, &seat.own, call),
+            Some(call) => {
+                let mut gaps = take_passed(alloc, &mut parts.passed, session);
+                let base = &mut parts.base;
+                let wanted = asked(alloc, base, &parts.layers, &seat.own, &mut gaps, call);
+                keep_passed(&mut parts.passed, session, gaps);
+                wanted
+            }
             None => unreachable!(),
         },
         None => unreachable!(),
@@ -91,18 +101,26 @@ fn outcome_again<C: TreeCall + Drop, B: NodeRead>(
     session: u32,
 ) -> Result<Outcome, SeqError>
     requires waits { IsSome (waiting_call parts.old session) }
+    requires passed { ArePassed B.contents parts.old }
     ensures value { IfOk result (λ outcome. (c : C) → waiting_call parts.old session ≡ Some c → (st : State C)
         → Stands C.is_valid C.meaning B.contents parts.old st → IsMade C.meaning st session c outcome) }
     ensures rise { IfOk result (λ outcome. IsChangeList outcome.changes) }
     ensures valid { (c : C) → waiting_call parts.old session ≡ Some c → C.is_valid c }
     ensures stays { Stays C.is_valid C.meaning B.contents parts.old parts.new }
-    ensures same { parts.new ≡ record parts.old { base = parts.new.base } }
+    ensures passed { ArePassed B.contents parts.new }
+    ensures same { parts.new ≡ record parts.old { base = parts.new.base; passed = parts.new.passed } }
     ensures unchanged { B.unchanged parts.old.base parts.new.base }
     ensures cause { HasCause seq_error.DiskFault (B.count parts.old.base) (B.count parts.new.base) result }
 {
     match seat_at(&parts.places, session) {
         Some(seat) => match call_of(&parts.places, parts.book.as_slice(), session) {
-            Some(call) => made(alloc, &mut parts.base, &parts.layers, &seat.own, call),
+            Some(call) => {
+                let mut gaps = take_passed(alloc, &mut parts.passed, session);
+                let base = &mut parts.base;
+                let outcome = made(alloc, base, &parts.layers, &seat.own, &mut gaps, call);
+                keep_passed(&mut parts.passed, session, gaps);
+                outcome
+            }
             None => unreachable!(),
         },
         None => unreachable!(),
@@ -191,6 +209,7 @@ fn answer_again<C: TreeCall + Drop, B: NodeRead>(
 ) -> Result<Answer, SeqError>
     requires seated { IsSeated parts.old }
     requires waits { IsSome (waiting_call parts.old session) }
+    requires passed { ArePassed B.contents parts.old }
     ensures ok { IfOk result (λ a. (c : C) → waiting_call parts.old session ≡ Some c
         → IsAnsweredAgain C.is_valid C.meaning B.contents parts.old session c a parts.new) }
     ensures err { OnErr result (Stays C.is_valid C.meaning B.contents parts.old parts.new) }
@@ -198,6 +217,7 @@ fn answer_again<C: TreeCall + Drop, B: NodeRead>(
     ensures still { OnErr result (IsSome (waiting_call parts.new session)) }
     ensures unchanged { B.unchanged parts.old.base parts.new.base }
     ensures cause { HasCause seq_error.DiskFault (B.count parts.old.base) (B.count parts.new.base) result }
+    ensures passed { ArePassed B.contents parts.new }
 {
     let outcome = outcome_again(alloc, parts, session)?;
     let copy = outcome.reply.copy(alloc)?;
@@ -244,6 +264,7 @@ fn wait_on<C: TreeCall + Drop, B: NodeRead>(
     ensures err { OnErr result (parts.new ≡ parts.old) }
     ensures seated { IsSeatedAs parts.old parts.new }
     ensures base { parts.new.base ≡ parts.old.base }
+    ensures passed { ArePassed B.contents parts.old → ArePassed B.contents parts.new }
 {
     if !more && waits_for(&parts.graph, session, request) {
         let shown = request.copy(alloc)?;
@@ -276,11 +297,13 @@ fn end_again<C: TreeCall + Drop, B: NodeRead>(
     ensures err { OnErr result (parts.new ≡ parts.old) }
     ensures seated { IsSeatedAs parts.old parts.new }
     ensures base { parts.new.base ≡ parts.old.base }
+    ensures passed { ArePassed B.contents parts.old → ArePassed B.contents parts.new }
 {
     // The conditions alone speak of the request.
     let _request = request;
     let copy = cycle.copy(alloc)?;
     let _seat = unseat(&mut parts.places, session);
+    end_passed(&mut parts.passed, session);
     parts.table.release_all(session);
     parts.graph.stop(session);
     stop_waiting(&mut parts.waiting, session);
@@ -306,6 +329,7 @@ fn wait_again<C: TreeCall + Drop, B: NodeRead>(
     ensures seated { IsSeatedAs parts.old parts.new }
     ensures still { OnErr result (IsSome (waiting_call parts.new session)) }
     ensures base { parts.new.base ≡ parts.old.base }
+    ensures passed { ArePassed B.contents parts.old → ArePassed B.contents parts.new }
 {
     let closed = cycle_of(alloc, parts, session, request)?;
     match closed {
@@ -323,6 +347,7 @@ fn cease<C: TreeCall + Drop, B: NodeRead>(parts: &mut Parts<C, B>, session: u32)
     ensures ordinals { (o : ℕ) → ordinal_in (get nat_cmp parts.new.places o) ≡ ordinal_in (get nat_cmp parts.old.places o) }
     ensures queue { parts.new.waiting.items ≡ without session parts.old.waiting.items }
     ensures same { parts.new ≡ record parts.old { places = parts.new.places; graph = parts.new.graph; waiting = parts.new.waiting } }
+    ensures passed { ArePassed B.contents parts.old → ArePassed B.contents parts.new }
 {
     match unseat(&mut parts.places, session) {
         Some(seat) => {
@@ -368,6 +393,7 @@ fn fail_again<C: TreeCall + Drop, B: NodeRead>(
     ensures seated { IsSeatedAs parts.old parts.new }
     ensures base { parts.new.base ≡ parts.old.base }
     ensures error { result ≡ call_error_of error }
+    ensures passed { ArePassed B.contents parts.old → ArePassed B.contents parts.new }
 {
     let faults = fault_now(parts, error);
     cease(parts, session);
@@ -403,6 +429,7 @@ fn settle_again<C: TreeCall + Drop, B: NodeRead>(
     requires inside { IsInside requests.now got }
     requires fits { length requests.now ≤ 4_294_967_295 }
     requires within { granted_in requests.now got ≤ length requests.now }
+    requires passed { ArePassed B.contents parts.old }
     ensures ok { IfOk result (λ a. (c : C) → waiting_call parts.old session ≡ Some c
         → IsSettledAgain C.is_valid C.meaning B.contents parts.old session c requests.now got more a parts.new) }
     ensures err { IfErr result (λ e. IsFailedAgain C.is_valid C.meaning B.contents parts.old session (granted_in requests.now got)
@@ -411,6 +438,7 @@ fn settle_again<C: TreeCall + Drop, B: NodeRead>(
     ensures seated { IsSeatedAs parts.old parts.new }
     ensures unchanged { B.unchanged parts.old.base parts.new.base }
     ensures cause { HasCause CallError.DiskFault (B.count parts.old.base) (B.count parts.new.base) result }
+    ensures passed { ArePassed B.contents parts.new }
 {
     match got {
         Got::All => match answer_again(alloc, parts, session) {
@@ -441,6 +469,7 @@ fn retry_in_room<C: TreeCall + Drop, B: NodeRead>(
     requires seated { IsSeated parts.old }
     requires waits { IsSome (waiting_call parts.old session) }
     requires room { HasRoom 1 parts.old }
+    requires passed { ArePassed B.contents parts.old }
     ensures ok { IfOk result (λ a. (c : C) → waiting_call parts.old session ≡ Some c
         → IsAgain C.is_valid C.meaning B.contents parts.old session c a parts.new) }
     ensures err { IfErr result (λ e. (c : C) → waiting_call parts.old session ≡ Some c → (k : ℕ)
@@ -449,6 +478,7 @@ fn retry_in_room<C: TreeCall + Drop, B: NodeRead>(
     ensures seated { IsSeatedAs parts.old parts.new }
     ensures unchanged { B.unchanged parts.old.base parts.new.base }
     ensures cause { HasCause CallError.DiskFault (B.count parts.old.base) (B.count parts.new.base) result }
+    ensures passed { ArePassed B.contents parts.new }
 {
     let Wanted { requests, .. } = match requests_again(alloc, parts, session) {
         Ok(wanted) => wanted,
@@ -470,6 +500,7 @@ pub fn retry<C: TreeCall + Drop, B: NodeRead>(
 ) -> Result<Answer, CallError>
     requires seated { IsSeated parts.old }
     requires waits { IsSome (waiting_call parts.old session) }
+    requires passed { ArePassed B.contents parts.old }
     ensures ok { IfOk result (λ a. (c : C) → waiting_call parts.old session ≡ Some c
         → IsAgain C.is_valid C.meaning B.contents parts.old session c a parts.new) }
     ensures err { IfErr result (λ e. (c : C) → waiting_call parts.old session ≡ Some c → (k : ℕ)
@@ -478,6 +509,7 @@ pub fn retry<C: TreeCall + Drop, B: NodeRead>(
     ensures seated { IsSeatedAs parts.old parts.new }
     ensures unchanged { B.unchanged parts.old.base parts.new.base }
     ensures cause { HasCause CallError.DiskFault (B.count parts.old.base) (B.count parts.new.base) result }
+    ensures passed { ArePassed B.contents parts.new }
 {
     match make_room(parts) {
         Ok(()) => retry_in_room(alloc, parts, session),

@@ -7,6 +7,7 @@ use Rattle.call_contract.specs.Calls.{CallMeaning}
 use Rattle.call_contract.specs.States.{start}
 use Rattle.call_contract.specs.Books.{last, IsRun, FaultsRise, last_fault, IsAtMost, HasValidCalls}
 use Rattle.tx_core.specs.declared.parts.Parts.{Parts}
+use Rattle.tx_core.specs.inside.Passed.{ArePassed}
 use Rattle.tx_core.specs.inside.Sessions.{IsSeated}
 use Rattle.tx_core.specs.inside.Standing.{Stands}
 
@@ -30,3 +31,8 @@ module _ {C B : Type 0} (is_valid : C → Type 0) (m : CallMeaning C) (told : B 
     pub opened : p.opened ≡ number
     pub limited : p.limit ≡ limit
     pub run : (t : Tree) → StandsFor (told opening) t → IsRunFrom t number limit p
+
+  -- and what transactions have passed is empty in the maps that they see
+  pub record IsKept (count : B → ℕ) (opening : B) (number limit : ℕ) (p : Parts C B) : Type 0 where
+    pub core : IsCore count opening number limit p
+    pub passed : ArePassed told p

@@ -59,3 +59,9 @@ returns-in_default-accept-clause-seated g c =
     let p1 = c.outcome_of.new.parts in
     let one = based_seated p p1 c.requires.seated c.outcome_of.ensures.same in
     seated_on p p1 c.accept.new.parts one (moved_seated p1 c.accept.new.parts one.seated c.accept.ensures.same c.in_default-accept.ensures.still c.accept.ensures.ordinals)
+
+pub returns-clause-passed : goal.returns-clause-passed
+returns-clause-passed g c = c.accept.ensures.passed c.outcome_of.ensures.passed
+
+pub returns-in_default-accept-clause-passed : goal.returns-in_default-accept-clause-passed
+returns-in_default-accept-clause-passed g c = c.accept.ensures.passed c.outcome_of.ensures.passed

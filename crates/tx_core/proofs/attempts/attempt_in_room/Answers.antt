@@ -1,3 +1,4 @@
+use Rattle.tx_core.specs.inside.Passed.{ArePassed}
 use Rattle.std.proofs.Common.{sym, ap, ◌∙◌, subst, List, Option}
 use Rattle.std.proofs.lemmas.Result.{IfErr-weaker, IfOk-weaker}
 use Rattle.lock_resources.specs.declared.request.Request.{Request}
@@ -119,3 +120,9 @@ returns-in-Err-clause-err g c =
     let q = c.give_up.new.parts in
     left_at_once v m told count p q c.args.session c.args.call c.give_up.result c.requests_of.ensures.valid c.requires.ready
     (left_after v m told count p c.requests_of.new.parts q c.args.session c.args.call 0 c.give_up.result c.requests_of.ensures.stays c.give_up.ensures.left)
+
+pub settle-requires-clause-passed : goal.settle-requires-clause-passed
+settle-requires-clause-passed g c = subst (λ (x : Parts _ _). ArePassed g.B.NodeRead.contents x) (sym c.ask_in_turn-got.ensures.same) c.requests_of.ensures.passed
+
+pub returns-in-Err-clause-passed : goal.returns-in-Err-clause-passed
+returns-in-Err-clause-passed g c = c.give_up.ensures.passed c.requests_of.ensures.passed

@@ -1,3 +1,4 @@
+use Rattle.tx_core.proofs.PassedOn.{ended_passed}
 use Rattle.std.proofs.Common.{refl, arith, ap, ◌∙◌, ◌++◌, ◌∷◌, [], List, ℕ}
 use Rattle.call_contract.specs.declared.events.Answer.TheVariants.{Deadlock}
 use Rattle.tx_core.specs.inside.Goes.{call_entry}
@@ -29,3 +30,6 @@ returns-clause-seated g c =
     seated_closes p _ s c.args.call _ _ c.requires.seated c.requires.ready (record { ordinals = c.unseat-seat.ensures.ordinals; opened = refl; limit = refl; begun = refl; prepared = refl })
     (wait_out s (λ o. seat_in (tree.get nat_cmp p.places o)) (λ o. seat_in (tree.get nat_cmp c.unseat-seat.new.places o)) c.unseat-seat.ensures.seats) c.stop_waiting.ensures refl
     (omega (arith, live_one p s _ c.requires.seated c.requires.ready)) c.note.ensures.book c.note.ensures.capacity refl
+
+pub returns-clause-passed : goal.returns-clause-passed
+returns-clause-passed g c = ended_passed g.B.NodeRead.contents c.args.parts.now (record c.args.parts.now { places = c.unseat-seat.new.places; passed = c.end_passed.new.passed }) c.args.session c.unseat-seat.ensures.seats refl refl c.end_passed.ensures.fewer c.end_passed.ensures.out

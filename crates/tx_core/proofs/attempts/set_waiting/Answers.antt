@@ -1,3 +1,4 @@
+use Rattle.tx_core.proofs.PassedOn.{passed_on, seen_same, own_again}
 use Rattle.std.proofs.Common.{refl, sym, ap, arith, ◌∙◌, ◌++◌, ◌∷◌, [], length, ◌+◌, ◌≤◌, vec_capacity, Some, cond, ◌==◌, ℕ, Option}
 use Rattle.std.specs.Ordering.{nat_cmp}
 use Rattle.std.specs.BTreeMap as tree
@@ -32,3 +33,11 @@ returns-clause-seated g c =
     seated_waits p _ s c.args.call c.args.request c.requires.noted.0 c.requires.seated c.requires.ready (record { ordinals = λ o. c.seat_again.ensures.ordinals o ∙ c.unseat.ensures.ordinals o; opened = refl; limit = refl; begun = refl; prepared = refl })
     (λ o. wait_put s seat (λ o. seat_in (tree.get nat_cmp p.places o)) (λ o. seat_in (tree.get nat_cmp c.seat_again.new.places o)) seats o ∙ ap (λ (k : ℕ). cond {A = Option (Option ℕ)} (s == o) (Some (Some k)) (wait_in (tree.get nat_cmp p.places o))) at)
     c.enqueue.ensures refl refl (c.note.ensures.book ∙ ap (λ a. p.book.items ++ call_entry s c.args.call a ∷ []) c.requires.noted.1) room refl
+
+pub returns-clause-passed : goal.returns-clause-passed
+returns-clause-passed g c =
+    let p = c.args.parts.now in
+    let s = c.args.session in
+    passed_on g.B.NodeRead.contents p (record p { places = c.seat_again.new.places }) (seen_same g.B.NodeRead.contents p (record p { places = c.seat_again.new.places })
+    (own_again s c.in-Some.seat (record { own = c.in-Some.seat.own; waiting = Some c.len-entry.result }) (λ o. seat_in (tree.get nat_cmp p.places o)) (λ o. seat_in (tree.get nat_cmp c.seat_again.new.places o)) (sym c.in-Some.ensures.seat)
+    (taken_again s (record { own = c.in-Some.seat.own; waiting = Some c.len-entry.result }) (λ o. seat_in (tree.get nat_cmp p.places o)) (λ o. seat_in (tree.get nat_cmp c.unseat.new.places o)) (λ o. seat_in (tree.get nat_cmp c.seat_again.new.places o)) c.unseat.ensures.seats c.seat_again.ensures.seats) refl) refl) (λ o j h. h)

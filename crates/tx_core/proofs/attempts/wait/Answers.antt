@@ -1,4 +1,5 @@
-use Rattle.std.proofs.Common.{◌∙◌, ap, subst}
+use Rattle.tx_core.specs.inside.Passed.{ArePassed}
+use Rattle.std.proofs.Common.{◌∙◌, ap, subst, sym}
 use Rattle.std.specs.Ordering.{nat_cmp}
 use Rattle.std.specs.BTreeMap as tree
 use Rattle.tx_core.specs.declared.parts.Parts.{Parts}
@@ -78,3 +79,12 @@ returns-in-None-clause-base g c = c.wait_for.ensures.base ∙ ap (λ (x : Parts 
 
 pub returns-in_default-clause-seated : goal.returns-in_default-clause-seated
 returns-in_default-clause-seated g c = queued_seated c.args.parts.now c.cycle_of.new.parts c.requires.seated c.cycle_of.ensures.same c.cycle_of.ensures.queue
+
+pub returns-in-Some-clause-passed : goal.returns-in-Some-clause-passed
+returns-in-Some-clause-passed g c = λ old. c.end_by_cycle.ensures.passed (subst (λ (x : Parts _ _). ArePassed g.B.NodeRead.contents x) (sym c.cycle_of.ensures.same) old)
+
+pub returns-in-None-clause-passed : goal.returns-in-None-clause-passed
+returns-in-None-clause-passed g c = λ old. c.wait_for.ensures.passed (subst (λ (x : Parts _ _). ArePassed g.B.NodeRead.contents x) (sym c.cycle_of.ensures.same) old)
+
+pub returns-in_default-clause-passed : goal.returns-in_default-clause-passed
+returns-in_default-clause-passed g c = λ old. subst (λ (x : Parts _ _). ArePassed g.B.NodeRead.contents x) (sym c.cycle_of.ensures.same) old

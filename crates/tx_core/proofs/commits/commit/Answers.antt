@@ -1,3 +1,4 @@
+use Rattle.tx_core.proofs.PassedOn.{committed_passed}
 use Rattle.std.proofs.Common.{refl, sym, subst, arith}
 use Rattle.std.specs.Ordering.{nat_cmp}
 use Rattle.std.specs.BTreeMap as tree
@@ -29,3 +30,8 @@ note-requires g c =
     let p = c.args.parts.now in
     let s = c.args.session in
     omega (arith, c.requires.seated.room, live_one p s _ c.requires.seated (ready_waits (seat_in (tree.get nat_cmp p.places s)) c.requires.ready))
+
+pub returns-clause-passed : goal.returns-clause-passed
+returns-clause-passed g c =
+    committed_passed g.B.NodeRead.contents c.args.parts.now (record c.args.parts.now { places = c.unseat.new.places; layers = c.push_layer.new.self; passed = c.forget_puts.new.passed }) c.args.session c.in-Some.seat c.end_passed.new.passed.items c.unseat.ensures.seats refl c.faults-faults.ensures.in_order c.push_layer.ensures.effect
+    c.forget_puts.ensures.list c.end_passed.ensures.fewer c.end_passed.ensures.out c.forget_puts.ensures.fewer c.forget_puts.ensures.out

@@ -1,3 +1,4 @@
+use Rattle.tx_core.proofs.PassedOn.{ended_passed}
 use Rattle.std.proofs.Common.{refl, sym, ap, arith}
 use Rattle.std.specs.Ordering.{nat_cmp}
 use Rattle.std.specs.BTreeMap as tree
@@ -30,3 +31,6 @@ returns-clause-seated g c =
 
 pub note-requires : goal.note-requires
 note-requires g c = omega (arith, c.requires.room, live_one c.args.parts.now c.args.session _ c.requires (ap wait_of (sym c.in-Some.ensures)))
+
+pub returns-clause-passed : goal.returns-clause-passed
+returns-clause-passed g c = ended_passed g.B.NodeRead.contents c.args.parts.now (record c.args.parts.now { places = c.unseat.new.places; passed = c.end_passed.new.passed }) c.args.session c.unseat.ensures.seats refl refl c.end_passed.ensures.fewer c.end_passed.ensures.out

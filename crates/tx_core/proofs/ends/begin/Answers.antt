@@ -1,3 +1,5 @@
+use Rattle.tx_core.proofs.PassedOn.{passed_on, seen_same, own_begun}
+use Rattle.tx_core.specs.inside.Passed.{ArePassed, own_in}
 use Rattle.std.proofs.Common.{refl, sym, ap, ap₂, ◌∙◌, ◌+◌, ℕ, ◌≡◌, ◌≤◌, length, subst, arith, vec_capacity}
 use Rattle.std.proofs.lemmas.Result.{err_from_is_err_and}
 use Rattle.std.specs.Ordering.{nat_cmp}
@@ -90,3 +92,20 @@ pub returns-clause-refused : goal.returns-clause-refused
 returns-clause-refused g c =
     let below : (c.args.parts.now.opened + c.args.parts.now.begun ≡ c.args.parts.now.limit) → ⊥ = λ is. c.if-from.false (ap₂ (λ (x y : ℕ). x + y) c.from.ensures c.from-2.ensures ∙ is ∙ sym c.from-3.ensures) in
     may_begin c.args.parts.now c.args.session c.requires (ap wait_of (sym c.in_default.ensures)) below
+
+pub returns-clause-passed : goal.returns-clause-passed
+returns-clause-passed g c =
+    let s = c.args.session in
+    let p1 = c.make_room.new.parts in
+    let e = c.in_ok-make_room.ensures.same in
+    λ old. passed_on g.B.NodeRead.contents p1 (record p1 { places = c.seat_new.new.places }) (seen_same g.B.NodeRead.contents p1 (record p1 { places = c.seat_new.new.places })
+    (own_begun s _ (λ o. seat_in (tree.get nat_cmp p1.places o)) (λ o. seat_in (tree.get nat_cmp c.seat_new.new.places o)) (ap (λ (x : Parts _ _). seat_in (tree.get nat_cmp x.places s)) e ∙ sym c.in_default.ensures) c.in_ok-seat_new.ensures.seats c.new.ensures) refl)
+    (λ o j h. h) (subst (λ (x : Parts _ _). ArePassed g.B.NodeRead.contents x) (sym e) old)
+
+pub returns-in_err-make_room-clause-passed : goal.returns-in_err-make_room-clause-passed
+returns-in_err-make_room-clause-passed g c = λ old. subst (λ (x : Parts _ _). ArePassed g.B.NodeRead.contents x) (sym c.make_room.ensures.same) old
+
+pub returns-in_err-seat_new-clause-passed : goal.returns-in_err-seat_new-clause-passed
+returns-in_err-seat_new-clause-passed g c =
+    let p1 = c.make_room.new.parts in
+    λ old. passed_on g.B.NodeRead.contents p1 (record p1 { places = c.seat_new.new.places }) (seen_same g.B.NodeRead.contents p1 (record p1 { places = c.seat_new.new.places }) (λ o. ap (λ es. own_in (seat_in (lookup (tree.is_at (nat_cmp o)) es))) c.in_err-seat_new.ensures.err) refl) (λ o j h. h) (subst (λ (x : Parts _ _). ArePassed g.B.NodeRead.contents x) (sym c.in_ok-make_room.ensures.same) old)

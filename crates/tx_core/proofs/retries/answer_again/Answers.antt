@@ -1,3 +1,4 @@
+use Rattle.tx_core.specs.inside.Passed.{ArePassed}
 use Rattle.std.proofs.Common.{refl, sym, ap, subst, ◌∙◌, ◌++◌, ◌∷◌, [], length, vec_capacity, arith}
 use Rattle.std.specs.Ordering.{nat_cmp}
 use Rattle.std.specs.BTreeMap as tree
@@ -118,3 +119,9 @@ returns-in_err-reply-clause-seated g c =
     let p1 = c.outcome_again.new.parts in
     let one = based_seated c.args.parts.now p1 c.requires.seated c.outcome_again.ensures.same in
     seated_on c.args.parts.now p1 _ one (moved_seated p1 c.accept.new.parts one.seated c.accept.ensures.same c.in_err-reply.ensures.still c.accept.ensures.ordinals)
+
+pub returns-clause-passed : goal.returns-clause-passed
+returns-clause-passed g c = subst (λ (x : Parts _ _). ArePassed g.B.NodeRead.contents x) (sym c.note_again.ensures.same) (c.accept.ensures.passed c.outcome_again.ensures.passed)
+
+pub returns-in_err-reply-clause-passed : goal.returns-in_err-reply-clause-passed
+returns-in_err-reply-clause-passed g c = c.accept.ensures.passed c.outcome_again.ensures.passed

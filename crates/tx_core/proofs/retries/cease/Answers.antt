@@ -1,3 +1,4 @@
+use Rattle.tx_core.proofs.PassedOn.{passed_on, seen_same, own_again}
 use Rattle.std.proofs.Common.{refl, sym, ◌∙◌, None}
 use Rattle.std.specs.Ordering.{nat_cmp}
 use Rattle.std.specs.BTreeMap as tree
@@ -28,3 +29,11 @@ returns-clause-waits g c =
 
 pub returns-clause-ordinals : goal.returns-clause-ordinals
 returns-clause-ordinals g c = λ o. c.seat_again.ensures.ordinals o ∙ c.unseat.ensures.ordinals o
+
+pub returns-clause-passed : goal.returns-clause-passed
+returns-clause-passed g c =
+    let p = c.args.parts.now in
+    let s = c.args.session in
+    passed_on g.B.NodeRead.contents p (record p { places = c.seat_again.new.places }) (seen_same g.B.NodeRead.contents p (record p { places = c.seat_again.new.places })
+    (own_again s c.in-Some.seat (record { own = c.in-Some.seat.own; waiting = None }) (λ o. seat_in (tree.get nat_cmp p.places o)) (λ o. seat_in (tree.get nat_cmp c.seat_again.new.places o)) (sym c.in-Some.ensures.seat)
+    (taken_again s (record { own = c.in-Some.seat.own; waiting = None }) (λ o. seat_in (tree.get nat_cmp p.places o)) (λ o. seat_in (tree.get nat_cmp c.unseat.new.places o)) (λ o. seat_in (tree.get nat_cmp c.seat_again.new.places o)) c.unseat.ensures.seats c.seat_again.ensures.seats) refl) refl) (λ o j h. h)

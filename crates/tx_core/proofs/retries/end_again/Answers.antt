@@ -1,3 +1,6 @@
+use Rattle.overlays.specs.Stretches.{is_covered}
+use Rattle.tx_core.specs.inside.Passed.{stretches_of}
+use Rattle.tx_core.proofs.PassedOn.{ended_passed}
 use Rattle.std.proofs.Common.{refl, sym, ap, subst, ◌∙◌, ◌++◌, ◌∷◌, [], List, ℕ, arith}
 use Rattle.std.specs.Ordering.{nat_cmp}
 use Rattle.std.specs.BTreeMap as tree
@@ -56,3 +59,11 @@ returns-clause-seated g c =
 
 pub returns-in_err-copy-clause-seated : goal.returns-in_err-copy-clause-seated
 returns-in_err-copy-clause-seated g c = seated_itself c.args.parts.now c.requires.seated
+
+pub returns-clause-passed : goal.returns-clause-passed
+returns-clause-passed g c =
+    let s = c.args.session in
+    let e = c.note_again.ensures.same in
+    ended_passed g.B.NodeRead.contents c.args.parts.now c.note_again.new.parts s (λ o. ap (λ (x : Parts _ _). seat_in (tree.get nat_cmp x.places o)) e ∙ c.unseat-seat.ensures.seats o) (ap (λ (x : Parts _ _). x.layers) e) (ap (λ (x : Parts _ _). x.base) e)
+    (λ o j h. c.end_passed.ensures.fewer o j (ap (λ (x : Parts _ _). is_covered (stretches_of x.passed.items o) j) (sym e) ∙ h))
+    (λ j. ap (λ (x : Parts _ _). is_covered (stretches_of x.passed.items s) j) e ∙ c.end_passed.ensures.out j)

@@ -1,4 +1,5 @@
-use Rattle.std.proofs.Common.{ap, ◌∙◌, arith}
+use Rattle.tx_core.specs.inside.Passed.{ArePassed}
+use Rattle.std.proofs.Common.{ap, ◌∙◌, arith, subst, sym}
 use Rattle.std.proofs.lemmas.Result.{IfErr-weaker, IfOk-weaker}
 use Rattle.std.specs.Ordering.{nat_cmp}
 use Rattle.std.specs.BTreeMap as tree
@@ -63,3 +64,9 @@ returns-in-Err-clause-err g c =
           (failed_after g.C.TreeCall.is_valid g.C.TreeCall.meaning g.B.NodeRead.contents c.args.parts.now c.make_room.new.parts q c.args.session 0 f
           (roomy_stays g.C.TreeCall.is_valid g.C.TreeCall.meaning g.B.NodeRead.contents c.args.parts.now c.make_room.new.parts c.make_room.ensures.same c.make_room.ensures.book) c.fail_again.ensures.failed),
     )
+
+pub retry_in_room-requires-clause-passed : goal.retry_in_room-requires-clause-passed
+retry_in_room-requires-clause-passed g c = subst (λ (x : Parts _ _). ArePassed g.B.NodeRead.contents x) (sym c.make_room.ensures.same) c.requires.passed
+
+pub returns-in-Err-clause-passed : goal.returns-in-Err-clause-passed
+returns-in-Err-clause-passed g c = c.fail_again.ensures.passed (subst (λ (x : Parts _ _). ArePassed g.B.NodeRead.contents x) (sym c.make_room.ensures.same) c.requires.passed)

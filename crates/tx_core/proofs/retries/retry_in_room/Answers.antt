@@ -1,3 +1,4 @@
+use Rattle.tx_core.specs.inside.Passed.{ArePassed}
 use Rattle.std.proofs.Common.{sym, ap, ◌∙◌, subst, List}
 use Rattle.std.specs.Ordering.{nat_cmp}
 use Rattle.std.specs.BTreeMap as tree
@@ -117,3 +118,9 @@ pub returns-clause-seated : goal.returns-clause-seated
 returns-clause-seated g c =
     let one = based_seated c.args.parts.now c.requests_again.new.parts c.requires.seated c.requests_again.ensures.same in
     seated_on c.args.parts.now c.requests_again.new.parts _ one (seated_on c.requests_again.new.parts c.ask_again-got.new.parts _ (asked_seated c.requests_again.new.parts c.ask_again-got.new.parts one.seated c.ask_again-got.ensures.same) c.settle_again.ensures.seated)
+
+pub settle_again-requires-clause-passed : goal.settle_again-requires-clause-passed
+settle_again-requires-clause-passed g c = subst (λ (x : Parts _ _). ArePassed g.B.NodeRead.contents x) (sym c.ask_again-got.ensures.same) c.requests_again.ensures.passed
+
+pub returns-in-Err-clause-passed : goal.returns-in-Err-clause-passed
+returns-in-Err-clause-passed g c = c.fail_again.ensures.passed c.requests_again.ensures.passed

@@ -1,3 +1,4 @@
+use Rattle.tx_core.specs.inside.Passed.{ArePassed}
 use Rattle.std.proofs.Common.{◌∙◌, ap, sym, subst, IsSome}
 use Rattle.std.specs.Ordering.{nat_cmp}
 use Rattle.std.specs.BTreeMap as tree
@@ -86,3 +87,12 @@ returns-in_err-closed-clause-seated g c = queued_seated c.args.parts.now c.cycle
 
 pub returns-in_err-closed-clause-still : goal.returns-in_err-closed-clause-still
 returns-in_err-closed-clause-still g c = on_err c.from_residual.result (waits_still c.args.parts.now c.cycle_of.new.parts c.args.session (ap (λ (x : Parts _ _). wait_in (tree.get nat_cmp x.places c.args.session)) c.cycle_of.ensures.same) (ap (λ (x : Parts _ _). x.book.items) c.cycle_of.ensures.same) c.requires.waits)
+
+pub returns-in-Some-clause-passed : goal.returns-in-Some-clause-passed
+returns-in-Some-clause-passed g c = λ old. c.end_again.ensures.passed (subst (λ (x : Parts _ _). ArePassed g.B.NodeRead.contents x) (sym c.cycle_of.ensures.same) old)
+
+pub returns-in-None-clause-passed : goal.returns-in-None-clause-passed
+returns-in-None-clause-passed g c = λ old. c.wait_on.ensures.passed (subst (λ (x : Parts _ _). ArePassed g.B.NodeRead.contents x) (sym c.cycle_of.ensures.same) old)
+
+pub returns-in_err-closed-clause-passed : goal.returns-in_err-closed-clause-passed
+returns-in_err-closed-clause-passed g c = λ old. subst (λ (x : Parts _ _). ArePassed g.B.NodeRead.contents x) (sym c.cycle_of.ensures.same) old

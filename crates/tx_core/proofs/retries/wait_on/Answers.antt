@@ -1,3 +1,4 @@
+use Rattle.tx_core.specs.inside.Passed.{ArePassed}
 use Rattle.std.proofs.Common.{◌≡◌, refl, sym, ap, subst, ◌∙◌, ◌||◌, not, true, ◌++◌, ◌∷◌, [], length, vec_capacity, arith, ◌+◌, ◌≤◌}
 use Rattle.std.specs.Ordering.{nat_cmp}
 use Rattle.std.specs.BTreeMap as tree
@@ -58,3 +59,6 @@ returns-clause-seated g c =
       prepared = ap (λ (x : Parts _ _). x.prepared) e;
     })
     (ap (λ (x : Parts _ _). x.places) e) (ap (λ (x : Parts _ _). x.waiting.items) e) (ap (λ (x : Parts _ _). x.number) e) (ap (λ (x : Parts _ _). x.live) e) adds room (ap (λ (x : Parts _ _). x.layers) e)
+
+pub returns-clause-passed : goal.returns-clause-passed
+returns-clause-passed g c = λ old. subst (λ (x : Parts _ _). ArePassed g.B.NodeRead.contents x) (sym c.note_again.ensures.same) old

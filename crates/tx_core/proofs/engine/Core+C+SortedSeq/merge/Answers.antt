@@ -1,12 +1,18 @@
 use Rattle.std.proofs.Common.{Some, ap, arith}
 use Rattle.tx_core.proofs.Kept.{shown_merged}
+use Rattle.tx_core.specs.declared.parts.Parts.{Parts}
 use Rattle.tx_core.proofs.Merged.{core_merged}
+use Rattle.tx_core.proofs.PassedOn.{kept_passed}
 use Rattle.tx_core.proofs.engine.Core+C+SortedSeq.merge.Goals as goal
 
 pub invariant_of-self : goal.invariant_of-self
 invariant_of-self g c =
-    core_merged g.C.TreeCall.is_valid g.C.TreeCall.meaning Some (λ _. 0) c.self.inside.opening.value c.self.inside.number c.self.inside.limit
-    c.self.inside.parts c.merge.new.parts c.merge.ensures.same c.merge.ensures.spare (ap Some c.merge.ensures.contents) (omega (arith)) c.self.invariant
+    record {
+      core =
+          core_merged g.C.TreeCall.is_valid g.C.TreeCall.meaning Some (λ _. 0) c.self.inside.opening.value c.self.inside.number c.self.inside.limit
+          c.self.inside.parts c.merge.new.parts c.merge.ensures.same c.merge.ensures.spare (ap Some c.merge.ensures.contents) (omega (arith)) c.self.invariant.core;
+      passed = kept_passed Some c.self.inside.parts c.merge.new.parts (ap (λ (x : Parts _ _). x.places) c.merge.ensures.same) (ap (λ (x : Parts _ _). x.passed) c.merge.ensures.same) (ap Some c.merge.ensures.contents) c.self.invariant.passed;
+    }
 
 pub returns : goal.returns
 returns g c =

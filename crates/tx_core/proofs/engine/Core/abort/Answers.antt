@@ -19,9 +19,10 @@ invariant_of-self g c =
     let m = g.C.TreeCall.meaning in
     let told = g.B.NodeRead.contents in
     let h = c.self.inside in
-    of_both c.abort.result c.abort.ensures.ok c.abort.ensures.err
-    (λ x is. core_goes v m told g.B.NodeRead.count h.opening.value h.number h.limit h.parts _ c.abort.new.parts c.self.invariant is c.abort.ensures.seated (same_count g.B.NodeRead.count h.opening.value h.parts c.abort.new.parts c.abort.ensures.base))
-    (λ is. subst (λ x. IsCore v m told g.B.NodeRead.count h.opening.value h.number h.limit x) (sym is) c.self.invariant)
+    let core = of_both c.abort.result c.abort.ensures.ok c.abort.ensures.err
+    (λ x is. core_goes v m told g.B.NodeRead.count h.opening.value h.number h.limit h.parts _ c.abort.new.parts c.self.invariant.core is c.abort.ensures.seated (same_count g.B.NodeRead.count h.opening.value h.parts c.abort.new.parts c.abort.ensures.base))
+    (λ is. subst (λ x. IsCore v m told g.B.NodeRead.count h.opening.value h.number h.limit x) (sym is) c.self.invariant.core) in
+    record { core = core; passed = c.abort.ensures.passed c.self.invariant.passed }
 
 pub returns-clause-ok : goal.returns-clause-ok
 returns-clause-ok g c =
@@ -36,4 +37,4 @@ returns-clause-others g c =
     let told = g.B.NodeRead.contents in
     IfOk-weaker c.abort.result _ _
     (λ x is. subst (λ (v : CoreView _ _). (t : Tree) → StandsFor (told v.opening) t → LeavesAllElse (state_from m t v) (last m (start t h.number h.limit) c.abort.new.parts.book.items) c.args.session) c.self.view_is
-    (core_aborts g.C.TreeCall.is_valid m told g.B.NodeRead.count h.opening.value h.number h.limit h.parts c.args.session c.abort.new.parts c.self.invariant is)) c.abort.ensures.ok
+    (core_aborts g.C.TreeCall.is_valid m told g.B.NodeRead.count h.opening.value h.number h.limit h.parts c.args.session c.abort.new.parts c.self.invariant.core is)) c.abort.ensures.ok

@@ -18,16 +18,20 @@ use Rattle.tx_core.proofs.engine.Core.attempt.Goals as goal
 
 pub invariant_of-self : goal.invariant_of-self
 invariant_of-self g c =
-    let v = g.C.TreeCall.is_valid in
-    let m = g.C.TreeCall.meaning in
-    let told = g.B.NodeRead.contents in
-    let count = g.B.NodeRead.count in
-    let h = c.self.inside in
-    let q = c.attempt.new.parts in
-    let cause = c.attempt.ensures.cause in
-    of_each c.attempt.result c.attempt.ensures.ok c.attempt.ensures.err
-    (λ a is. core_goes v m told count h.opening.value h.number h.limit h.parts (call_entry c.args.session c.args.call a) q c.self.invariant is c.attempt.ensures.seated cause.later)
-    (λ e at is. core_unanswered v m told count h.opening.value h.number h.limit h.parts c.args.session c.args.call e q c.self.invariant is c.attempt.ensures.seated cause.later (λ fault. cause.failed (at ∙ ap Err fault)))
+    record {
+      core =
+          let v = g.C.TreeCall.is_valid in
+          let m = g.C.TreeCall.meaning in
+          let told = g.B.NodeRead.contents in
+          let count = g.B.NodeRead.count in
+          let h = c.self.inside in
+          let q = c.attempt.new.parts in
+          let cause = c.attempt.ensures.cause in
+          of_each c.attempt.result c.attempt.ensures.ok c.attempt.ensures.err
+          (λ a is. core_goes v m told count h.opening.value h.number h.limit h.parts (call_entry c.args.session c.args.call a) q c.self.invariant.core is c.attempt.ensures.seated cause.later)
+          (λ e at is. core_unanswered v m told count h.opening.value h.number h.limit h.parts c.args.session c.args.call e q c.self.invariant.core is c.attempt.ensures.seated cause.later (λ fault. cause.failed (at ∙ ap Err fault)));
+      passed = c.attempt.ensures.passed;
+    }
 
 pub returns-clause-err : goal.returns-clause-err
 returns-clause-err g c =
@@ -50,4 +54,4 @@ returns-clause-deadlock g c =
     let m = g.C.TreeCall.meaning in
     let told = g.B.NodeRead.contents in
     subst (λ (v : CoreView _ _). (t : Tree) → StandsFor (told v.opening) t → ShowsCycle m (state_from m t v) (last m (start t h.number h.limit) c.attempt.new.parts.book.items) c.args.session (event.Call c.args.call) c.attempt.result) c.self.view_is
-    (core_closes g.C.TreeCall.is_valid m told g.B.NodeRead.count h.opening.value h.number h.limit h.parts c.args.session c.args.call c.attempt.new.parts c.attempt.result c.self.invariant c.attempt.ensures.ok)
+    (core_closes g.C.TreeCall.is_valid m told g.B.NodeRead.count h.opening.value h.number h.limit h.parts c.args.session c.args.call c.attempt.new.parts c.attempt.result c.self.invariant.core c.attempt.ensures.ok)

@@ -7,13 +7,17 @@ use Rattle.tx_core.proofs.engine.Core.begin.Goals as goal
 
 pub invariant_of-self : goal.invariant_of-self
 invariant_of-self g c =
-    let v = g.C.TreeCall.is_valid in
-    let m = g.C.TreeCall.meaning in
-    let told = g.B.NodeRead.contents in
-    let h = c.self.inside in
-    of_both c.begin.result c.begin.ensures.ok c.begin.ensures.err
-    (λ x is. core_goes v m told g.B.NodeRead.count h.opening.value h.number h.limit h.parts _ c.begin.new.parts c.self.invariant is c.begin.ensures.seated (same_count g.B.NodeRead.count h.opening.value h.parts c.begin.new.parts c.begin.ensures.base))
-    (λ is. core_stays v m told g.B.NodeRead.count h.opening.value h.number h.limit h.parts c.begin.new.parts c.self.invariant is c.begin.ensures.seated (same_count g.B.NodeRead.count h.opening.value h.parts c.begin.new.parts c.begin.ensures.base))
+    record {
+      core =
+          let v = g.C.TreeCall.is_valid in
+          let m = g.C.TreeCall.meaning in
+          let told = g.B.NodeRead.contents in
+          let h = c.self.inside in
+          of_both c.begin.result c.begin.ensures.ok c.begin.ensures.err
+          (λ x is. core_goes v m told g.B.NodeRead.count h.opening.value h.number h.limit h.parts _ c.begin.new.parts c.self.invariant.core is c.begin.ensures.seated (same_count g.B.NodeRead.count h.opening.value h.parts c.begin.new.parts c.begin.ensures.base))
+          (λ is. core_stays v m told g.B.NodeRead.count h.opening.value h.number h.limit h.parts c.begin.new.parts c.self.invariant.core is c.begin.ensures.seated (same_count g.B.NodeRead.count h.opening.value h.parts c.begin.new.parts c.begin.ensures.base));
+      passed = c.begin.ensures.passed c.self.invariant.passed;
+    }
 
 pub returns-clause-ok : goal.returns-clause-ok
 returns-clause-ok g c =

@@ -7,4 +7,4 @@ pub returns-clause-serial : goal.returns-clause-serial
 returns-clause-serial g c =
     let h = c.self.inside in
     λ t opens. serial_book g.C.TreeCall.is_valid g.C.TreeCall.meaning g.met.C.TreeCall.laws t c.args.self.now.number c.args.self.now.limit c.args.self.now.book
-    (core_legal g.C.TreeCall.is_valid g.C.TreeCall.meaning g.B.NodeRead.contents g.B.NodeRead.count h.opening.value h.number h.limit h.parts c.args.self.now (sym c.self.view_is) c.self.invariant t opens)
+    (core_legal g.C.TreeCall.is_valid g.C.TreeCall.meaning g.B.NodeRead.contents g.B.NodeRead.count h.opening.value h.number h.limit h.parts c.args.self.now (sym c.self.view_is) c.self.invariant.core t opens)

@@ -13,30 +13,34 @@ use Rattle.tx_core.proofs.Truths.{core_apart}
 use Rattle.tx_core.proofs.engine.Core.commit.Goals as goal
 
 pub commit-requires-clause-seated : goal.commit-requires-clause-seated
-commit-requires-clause-seated g c = c.self.invariant.seated
+commit-requires-clause-seated g c = c.self.invariant.core.seated
 
 pub commit-requires-clause-ready : goal.commit-requires-clause-ready
-commit-requires-clause-ready g c = (c.self.invariant.seated.prepared c.args.session (ap (λ (v : CoreView _ _). v.prepared) c.self.view_is ∙ c.requires.prepared)).0
+commit-requires-clause-ready g c = (c.self.invariant.core.seated.prepared c.args.session (ap (λ (v : CoreView _ _). v.prepared) c.self.view_is ∙ c.requires.prepared)).0
 
 pub commit-requires-clause-spare : goal.commit-requires-clause-spare
-commit-requires-clause-spare g c = (c.self.invariant.seated.prepared c.args.session (ap (λ (v : CoreView _ _). v.prepared) c.self.view_is ∙ c.requires.prepared)).1
+commit-requires-clause-spare g c = (c.self.invariant.core.seated.prepared c.args.session (ap (λ (v : CoreView _ _). v.prepared) c.self.view_is ∙ c.requires.prepared)).1
 
 pub commit-requires-clause-number : goal.commit-requires-clause-number
 commit-requires-clause-number g c =
     c.requires.commit.number ∙ sym (ap (λ (v : CoreView _ _). next_number v) c.self.view_is)
-    ∙ ap (λ (k : ℕ). k + 1) (ap (λ (k : ℕ). k + commits_in c.self.inside.parts.book.items) (sym c.self.invariant.opened) ∙ sym c.self.invariant.seated.number)
+    ∙ ap (λ (k : ℕ). k + 1) (ap (λ (k : ℕ). k + commits_in c.self.inside.parts.book.items) (sym c.self.invariant.core.opened) ∙ sym c.self.invariant.core.seated.number)
 
 pub invariant_of-self : goal.invariant_of-self
 invariant_of-self g c =
-    core_commits g.C.TreeCall.is_valid g.C.TreeCall.meaning g.B.NodeRead.contents g.B.NodeRead.count c.self.inside.opening.value c.self.inside.number c.self.inside.limit
-    c.self.inside.parts _ c.commit.new.parts c.self.invariant c.commit.ensures.goes c.commit.ensures.seated
-    (same_count g.B.NodeRead.count c.self.inside.opening.value c.self.inside.parts c.commit.new.parts c.commit.ensures.base)
+    record {
+      core =
+          core_commits g.C.TreeCall.is_valid g.C.TreeCall.meaning g.B.NodeRead.contents g.B.NodeRead.count c.self.inside.opening.value c.self.inside.number c.self.inside.limit
+          c.self.inside.parts _ c.commit.new.parts c.self.invariant.core c.commit.ensures.goes c.commit.ensures.seated
+          (same_count g.B.NodeRead.count c.self.inside.opening.value c.self.inside.parts c.commit.new.parts c.commit.ensures.base);
+      passed = c.commit.ensures.passed c.self.invariant.passed;
+    }
 
 pub returns-clause-others : goal.returns-clause-others
 returns-clause-others g c =
     subst (λ (v : CoreView _ _). (t : Tree) → StandsFor (g.B.NodeRead.contents v.opening) t → ReplaysOthers g.C.TreeCall.meaning (state_from g.C.TreeCall.meaning t v) c.args.session) c.self.view_is
     (λ t opens. core_replays g.C.TreeCall.is_valid g.C.TreeCall.meaning g.B.NodeRead.contents g.met.C.TreeCall.laws g.B.NodeRead.count c.self.inside.opening.value c.self.inside.number c.self.inside.limit
-    c.self.inside.parts c.self.invariant t opens c.args.session)
+    c.self.inside.parts c.self.invariant.core t opens c.args.session)
 
 pub returns-clause-committed : goal.returns-clause-committed
 returns-clause-committed g c =
@@ -47,4 +51,4 @@ pub returns-clause-apart : goal.returns-clause-apart
 returns-clause-apart g c =
     let h = c.self.inside in
     subst (λ (v : CoreView _ _). (t : Tree) → StandsFor (g.B.NodeRead.contents v.opening) t → NoCellIsShared (state_from g.C.TreeCall.meaning t v)) c.self.view_is
-    (core_apart g.C.TreeCall.is_valid g.C.TreeCall.meaning g.B.NodeRead.contents g.met.C.TreeCall.laws g.B.NodeRead.count h.opening.value h.number h.limit h.parts c.self.invariant)
+    (core_apart g.C.TreeCall.is_valid g.C.TreeCall.meaning g.B.NodeRead.contents g.met.C.TreeCall.laws g.B.NodeRead.count h.opening.value h.number h.limit h.parts c.self.invariant.core)

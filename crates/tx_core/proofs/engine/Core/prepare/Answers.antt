@@ -6,6 +6,7 @@ use Rattle.tx_core.specs.declared.parts.Parts.{Parts}
 use Rattle.tx_core.proofs.Counted.{same_count}
 use Rattle.tx_core.proofs.Kept.{core_still}
 use Rattle.tx_core.proofs.CommitsKept.{prepared_kept}
+use Rattle.tx_core.proofs.PassedOn.{kept_passed}
 use Rattle.tx_core.proofs.Told.{layered_seated, number_fits, seat_refused}
 use Rattle.std.proofs.Common.{Some, ap₂}
 use Rattle.std.proofs.lemmas.Result.{on_err_weaker}
@@ -14,21 +15,25 @@ use Rattle.tx_core.proofs.Kept.{as_ok, shown_kept, shown_prepared}
 use Rattle.tx_core.proofs.engine.Core.prepare.Goals as goal
 
 pub prepare-requires : goal.prepare-requires
-prepare-requires g c = λ ready. number_fits c.self.inside.parts c.args.session c.self.invariant.seated ready
+prepare-requires g c = λ ready. number_fits c.self.inside.parts c.args.session c.self.invariant.core.seated ready
 
 pub invariant_of-self : goal.invariant_of-self
 invariant_of-self g c =
-    let p = c.self.inside.parts in
-    let q = c.prepare.new.parts in
-    let same = c.prepare.ensures.same in
-    core_still g.C.TreeCall.is_valid g.C.TreeCall.meaning g.B.NodeRead.contents g.B.NodeRead.count c.self.inside.opening.value c.self.inside.number c.self.inside.limit p q c.self.invariant
-    (ap (λ (x : Parts _ _). x.book.items) same) (same_count g.B.NodeRead.count c.self.inside.opening.value p q (ap (λ (x : Parts _ _). x.base) same)) c.prepare.ensures.state
-    (layered_seated p q p.base q.layers q.prepared c.self.invariant.seated same
-    (prepared_kept p q c.args.session c.prepare.result c.self.invariant.seated.prepared (ap (λ (x : Parts _ _). x.places) same) c.prepare.ensures.prepared c.prepare.ensures.ready c.prepare.ensures.spare c.prepare.ensures.err))
+    record {
+      core =
+          let p = c.self.inside.parts in
+          let q = c.prepare.new.parts in
+          let same = c.prepare.ensures.same in
+          core_still g.C.TreeCall.is_valid g.C.TreeCall.meaning g.B.NodeRead.contents g.B.NodeRead.count c.self.inside.opening.value c.self.inside.number c.self.inside.limit p q c.self.invariant.core
+          (ap (λ (x : Parts _ _). x.book.items) same) (same_count g.B.NodeRead.count c.self.inside.opening.value p q (ap (λ (x : Parts _ _). x.base) same)) c.prepare.ensures.state
+          (layered_seated p q p.base q.layers q.prepared c.self.invariant.core.seated same
+          (prepared_kept p q c.args.session c.prepare.result c.self.invariant.core.seated.prepared (ap (λ (x : Parts _ _). x.places) same) c.prepare.ensures.prepared c.prepare.ensures.ready c.prepare.ensures.spare c.prepare.ensures.err));
+      passed = kept_passed g.B.NodeRead.contents c.self.inside.parts c.prepare.new.parts (ap (λ (x : Parts _ _). x.places) c.prepare.ensures.same) (ap (λ (x : Parts _ _). x.passed) c.prepare.ensures.same) (ap₂ contents_after c.prepare.ensures.layers (ap g.B.NodeRead.contents (ap (λ (x : Parts _ _). x.base) c.prepare.ensures.same))) c.self.invariant.passed;
+    }
 
 pub returns-clause-refused : goal.returns-clause-refused
 returns-clause-refused g c =
-    c.prepare.ensures.refused ∙ seat_refused c.self.inside.parts c.args.session c.self.invariant.seated ∙ ap (λ (v : CoreView _ _). refused_call (live_in v.book c.args.session)) c.self.view_is
+    c.prepare.ensures.refused ∙ seat_refused c.self.inside.parts c.args.session c.self.invariant.core.seated ∙ ap (λ (v : CoreView _ _). refused_call (live_in v.book c.args.session)) c.self.view_is
 
 pub returns-clause-ok : goal.returns-clause-ok
 returns-clause-ok g c =

@@ -11,16 +11,20 @@ use Rattle.tx_core.proofs.engine.Core.rebase.Goals as goal
 
 pub invariant_of-self : goal.invariant_of-self
 invariant_of-self g c =
-    let m = g.C.TreeCall.meaning in
-    let told = g.B.NodeRead.contents in
-    let p = c.self.inside.parts in
-    let q = c.rebase.new.parts in
-    let spare : 1 ≤ q.layers.spare = omega (arith, ap (λ (l : Layered). l.spare) c.rebase.ensures.layers) in
-    let later : g.B.NodeRead.count p.base ≤ g.B.NodeRead.count q.base =
-    omega (arith, ap (λ (v : CoreView _ _). g.B.NodeRead.count v.base) c.self.view_is, ap (λ (x : Parts _ _). g.B.NodeRead.count x.base) c.rebase.ensures.same, c.requires.later) in
-    core_rebased g.C.TreeCall.is_valid m told g.B.NodeRead.count c.self.inside.opening.value c.self.inside.number c.self.inside.limit p q c.args.base c.rebase.ensures.same c.rebase.ensures.state
-    (subst (λ (v : CoreView _ _). (t : Tree) → StandsFor (told v.opening) t → told c.args.base ≡ Some (map_of (state_from m t v).tree)) (sym c.self.view_is) c.requires.committed)
-    (rebased_seated p q c.args.base c.self.invariant.seated c.rebase.ensures.same spare) later c.self.invariant
+    record {
+      core =
+          let m = g.C.TreeCall.meaning in
+          let told = g.B.NodeRead.contents in
+          let p = c.self.inside.parts in
+          let q = c.rebase.new.parts in
+          let spare : 1 ≤ q.layers.spare = omega (arith, ap (λ (l : Layered). l.spare) c.rebase.ensures.layers) in
+          let later : g.B.NodeRead.count p.base ≤ g.B.NodeRead.count q.base =
+          omega (arith, ap (λ (v : CoreView _ _). g.B.NodeRead.count v.base) c.self.view_is, ap (λ (x : Parts _ _). g.B.NodeRead.count x.base) c.rebase.ensures.same, c.requires.later) in
+          core_rebased g.C.TreeCall.is_valid m told g.B.NodeRead.count c.self.inside.opening.value c.self.inside.number c.self.inside.limit p q c.args.base c.rebase.ensures.same c.rebase.ensures.state
+          (subst (λ (v : CoreView _ _). (t : Tree) → StandsFor (told v.opening) t → told c.args.base ≡ Some (map_of (state_from m t v).tree)) (sym c.self.view_is) c.requires.committed)
+          (rebased_seated p q c.args.base c.self.invariant.core.seated c.rebase.ensures.same spare) later c.self.invariant.core;
+      passed = c.rebase.ensures.passed;
+    }
 
 pub returns-clause-same : goal.returns-clause-same
 returns-clause-same g c =

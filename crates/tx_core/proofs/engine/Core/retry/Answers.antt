@@ -18,36 +18,43 @@ use Rattle.tx_core.proofs.Truths.{core_closes_again}
 use Rattle.tx_core.proofs.engine.Core.retry.Goals as goal
 
 pub retry-requires-clause-seated : goal.retry-requires-clause-seated
-retry-requires-clause-seated g c = c.self.invariant.seated
+retry-requires-clause-seated g c = c.self.invariant.core.seated
+
+pub retry-requires-clause-passed : goal.retry-requires-clause-passed
+retry-requires-clause-passed g c = c.self.invariant.passed
 
 pub retry-requires-clause-waits : goal.retry-requires-clause-waits
 retry-requires-clause-waits g c =
     let h = c.self.inside in
-    let at = core_waits g.C.TreeCall.is_valid g.C.TreeCall.meaning g.B.NodeRead.contents g.B.NodeRead.count h.opening.value h.number h.limit h.parts c.args.session c.self.invariant (ap (λ (x : CoreView _ _). waits_in (live_in x.book c.args.session)) c.self.view_is ∙ c.requires) in
+    let at = core_waits g.C.TreeCall.is_valid g.C.TreeCall.meaning g.B.NodeRead.contents g.B.NodeRead.count h.opening.value h.number h.limit h.parts c.args.session c.self.invariant.core (ap (λ (x : CoreView _ _). waits_in (live_in x.book c.args.session)) c.self.view_is ∙ c.requires) in
     subst (λ (o : Option _). IsSome o) (sym at.1) refl
 
 pub invariant_of-self : goal.invariant_of-self
 invariant_of-self g c =
-    let h = c.self.inside in
-    let at = core_waits g.C.TreeCall.is_valid g.C.TreeCall.meaning g.B.NodeRead.contents g.B.NodeRead.count h.opening.value h.number h.limit h.parts c.args.session c.self.invariant (ap (λ (x : CoreView _ _). waits_in (live_in x.book c.args.session)) c.self.view_is ∙ c.requires) in
-    let cause = c.retry.ensures.cause in
-    of_each c.retry.result c.retry.ensures.ok c.retry.ensures.err
-    (λ a is. core_retries g.C.TreeCall.is_valid g.C.TreeCall.meaning g.B.NodeRead.contents g.B.NodeRead.count h.opening.value h.number h.limit h.parts c.args.session at.0 a c.retry.new.parts c.self.invariant at.2 (is at.0 at.1) c.retry.ensures.seated cause.later)
-    (λ e met is. core_retry_fails g.C.TreeCall.is_valid g.C.TreeCall.meaning g.B.NodeRead.contents g.B.NodeRead.count h.opening.value h.number h.limit h.parts c.args.session at.0 (is at.0 at.1).0 e c.retry.new.parts c.self.invariant at.2 (is at.0 at.1).1 c.retry.ensures.seated cause.later (λ fault. cause.failed (met ∙ ap Err fault)))
+    record {
+      core =
+          let h = c.self.inside in
+          let at = core_waits g.C.TreeCall.is_valid g.C.TreeCall.meaning g.B.NodeRead.contents g.B.NodeRead.count h.opening.value h.number h.limit h.parts c.args.session c.self.invariant.core (ap (λ (x : CoreView _ _). waits_in (live_in x.book c.args.session)) c.self.view_is ∙ c.requires) in
+          let cause = c.retry.ensures.cause in
+          of_each c.retry.result c.retry.ensures.ok c.retry.ensures.err
+          (λ a is. core_retries g.C.TreeCall.is_valid g.C.TreeCall.meaning g.B.NodeRead.contents g.B.NodeRead.count h.opening.value h.number h.limit h.parts c.args.session at.0 a c.retry.new.parts c.self.invariant.core at.2 (is at.0 at.1) c.retry.ensures.seated cause.later)
+          (λ e met is. core_retry_fails g.C.TreeCall.is_valid g.C.TreeCall.meaning g.B.NodeRead.contents g.B.NodeRead.count h.opening.value h.number h.limit h.parts c.args.session at.0 (is at.0 at.1).0 e c.retry.new.parts c.self.invariant.core at.2 (is at.0 at.1).1 c.retry.ensures.seated cause.later (λ fault. cause.failed (met ∙ ap Err fault)));
+      passed = c.retry.ensures.passed;
+    }
 
 pub returns-clause-ok : goal.returns-clause-ok
 returns-clause-ok g c =
     let h = c.self.inside in
-    let at = core_waits g.C.TreeCall.is_valid g.C.TreeCall.meaning g.B.NodeRead.contents g.B.NodeRead.count h.opening.value h.number h.limit h.parts c.args.session c.self.invariant (ap (λ (x : CoreView _ _). waits_in (live_in x.book c.args.session)) c.self.view_is ∙ c.requires) in
+    let at = core_waits g.C.TreeCall.is_valid g.C.TreeCall.meaning g.B.NodeRead.contents g.B.NodeRead.count h.opening.value h.number h.limit h.parts c.args.session c.self.invariant.core (ap (λ (x : CoreView _ _). waits_in (live_in x.book c.args.session)) c.self.view_is ∙ c.requires) in
     IfOk-weaker c.retry.result _ _
     (λ a is. has_retried g.C.TreeCall.is_valid g.C.TreeCall.meaning g.B.NodeRead.contents g.B.NodeRead.count h.opening.value h.number h.limit h.parts c.args.session at.0 a c.retry.new.parts _ _ (sym c.self.view_is) refl
-    (same_committed g.C.TreeCall.is_valid g.C.TreeCall.meaning g.B.NodeRead.contents h.parts c.retry.new.parts c.retry.ensures.seated.layers (g.met.B.NodeRead.unchanged_contents _ _ c.retry.ensures.unchanged)) c.self.invariant at.2 (is at.0 at.1)) c.retry.ensures.ok
+    (same_committed g.C.TreeCall.is_valid g.C.TreeCall.meaning g.B.NodeRead.contents h.parts c.retry.new.parts c.retry.ensures.seated.layers (g.met.B.NodeRead.unchanged_contents _ _ c.retry.ensures.unchanged)) c.self.invariant.core at.2 (is at.0 at.1)) c.retry.ensures.ok
 
 pub returns-clause-err : goal.returns-clause-err
 returns-clause-err g c =
     let h = c.self.inside in
     let q = c.retry.new.parts in
-    let at = core_waits g.C.TreeCall.is_valid g.C.TreeCall.meaning g.B.NodeRead.contents g.B.NodeRead.count h.opening.value h.number h.limit h.parts c.args.session c.self.invariant (ap (λ (x : CoreView _ _). waits_in (live_in x.book c.args.session)) c.self.view_is ∙ c.requires) in
+    let at = core_waits g.C.TreeCall.is_valid g.C.TreeCall.meaning g.B.NodeRead.contents g.B.NodeRead.count h.opening.value h.number h.limit h.parts c.args.session c.self.invariant.core (ap (λ (x : CoreView _ _). waits_in (live_in x.book c.args.session)) c.self.view_is ∙ c.requires) in
     IfErr-weaker c.retry.result _ _
     (λ e is.
     let failed = is at.0 at.1 in (
@@ -62,7 +69,7 @@ returns-clause-deadlock g c =
     let h = c.self.inside in
     let m = g.C.TreeCall.meaning in
     let told = g.B.NodeRead.contents in
-    let at = core_waits g.C.TreeCall.is_valid g.C.TreeCall.meaning g.B.NodeRead.contents g.B.NodeRead.count h.opening.value h.number h.limit h.parts c.args.session c.self.invariant (ap (λ (x : CoreView _ _). waits_in (live_in x.book c.args.session)) c.self.view_is ∙ c.requires) in
+    let at = core_waits g.C.TreeCall.is_valid g.C.TreeCall.meaning g.B.NodeRead.contents g.B.NodeRead.count h.opening.value h.number h.limit h.parts c.args.session c.self.invariant.core (ap (λ (x : CoreView _ _). waits_in (live_in x.book c.args.session)) c.self.view_is ∙ c.requires) in
     subst (λ (v : CoreView _ _). (t : Tree) → StandsFor (told v.opening) t → ShowsCycle m (state_from m t v) (last m (start t h.number h.limit) c.retry.new.parts.book.items) c.args.session event.Retry c.retry.result) c.self.view_is
-    (core_closes_again g.C.TreeCall.is_valid m told g.B.NodeRead.count h.opening.value h.number h.limit h.parts c.args.session at.0 c.retry.new.parts c.retry.result c.self.invariant at.2
+    (core_closes_again g.C.TreeCall.is_valid m told g.B.NodeRead.count h.opening.value h.number h.limit h.parts c.args.session at.0 c.retry.new.parts c.retry.result c.self.invariant.core at.2
     (IfOk-weaker c.retry.result _ _ (λ a is. is at.0 at.1) c.retry.ensures.ok))
