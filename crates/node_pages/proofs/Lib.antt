@@ -1,4 +1,7 @@
+pub mod CountLaws
 pub mod FillLaws
 pub mod RuleLaws
 pub mod ReadLaws
 pub mod ItemLaws
+pub mod ScanLaws
+mod ScanRows

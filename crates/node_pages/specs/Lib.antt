@@ -1,5 +1,11 @@
 pub mod Filling
 pub mod Reading
 pub mod EntryForm
+pub mod Chunks
 pub mod PageStarts
+pub mod PageZero
+pub mod Scanning
+pub mod DirectoryPages
+pub mod PagesIn
+pub mod ScanFaults
 pub mod Lengths

@@ -10,7 +10,7 @@ use std::alloc::Global;
 use std::marker::Model;
 
 /// How many bytes of a page are for its items.
-const ROOM: usize = 8_190;
+pub(crate) const ROOM: usize = 8_190;
 
 /// How many pages may be full, so that a number of four bytes counts the open one, too. Beyond it memory is wanting.
 const MOST_FULL: u32 = u32::MAX - 1;

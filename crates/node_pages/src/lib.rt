@@ -3,14 +3,24 @@
 //! Which maps the entries of a file stand for is left to the crates above.
 #![tactic(auto)]
 
+mod directory_scan;
 mod entry_form;
 mod filler;
+mod header;
+mod laws;
 mod page_form;
 mod page_start;
 mod reader;
+mod scan;
+mod scan_fault;
 
+pub use directory_scan::DirectoryScan;
 pub use entry_form::WholeEntries;
 pub use filler::Filler;
+pub use header::{Header, read_header};
+pub use laws::pages_behind_the_count_are_not_read;
 pub use page_form::{PAGE_BYTES, PageRead, PageWrite};
 pub use page_start::{PageStart, Starts};
 pub use reader::read_items;
+pub use scan::Scan;
+pub use scan_fault::ScanFault;

@@ -30,6 +30,16 @@ impl PageStart {
             page,
         })
     }
+
+    pub fn copy(&self, alloc: Global) -> Result<PageStart, NoMemory>
+        ensures { IfOk result (λ start. start ≡ self.now) }
+    {
+        Ok(PageStart {
+            key: self.key.copy(alloc)?,
+            chunk: self.chunk,
+            page: self.page,
+        })
+    }
 }
 
 /// The starts of data pages, each whole.

@@ -68,7 +68,7 @@ fn keep<T: Drop>(items: &mut List<T>, item: Option<T>) -> Result<(), NoMemory>
 }
 
 /// Whether all of these bytes are zeros.
-fn are_zeros(bytes: &[u8]) -> bool
+pub(crate) fn are_zeros(bytes: &[u8]) -> bool
     ensures { result ≡ are_zeros bytes.now }
 {
     for byte in bytes {
