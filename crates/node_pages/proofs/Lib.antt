@@ -1,4 +1,6 @@
 pub mod CountLaws
+pub mod CutRuns
+pub mod CutScan
 pub mod FillLaws
 pub mod RuleLaws
 pub mod ReadLaws

@@ -4,6 +4,8 @@ pub mod EntryForm
 pub mod Chunks
 pub mod PageStarts
 pub mod PageZero
+pub mod Cuts
+pub mod CutReads
 pub mod Scanning
 pub mod DirectoryPages
 pub mod PagesIn

@@ -3,6 +3,7 @@
 //! Which maps the entries of a file stand for is left to the crates above.
 #![tactic(auto)]
 
+mod cut;
 mod directory_scan;
 mod entry_form;
 mod filler;
@@ -14,11 +15,12 @@ mod reader;
 mod scan;
 mod scan_fault;
 
+pub use cut::{Cut, Page};
 pub use directory_scan::DirectoryScan;
 pub use entry_form::WholeEntries;
 pub use filler::Filler;
 pub use header::{Header, read_header};
-pub use laws::pages_behind_the_count_are_not_read;
+pub use laws::{pages_behind_the_count_are_not_read, pages_of_a_cut_are_read_again};
 pub use page_form::{PAGE_BYTES, PageRead, PageWrite};
 pub use page_start::{PageStart, Starts};
 pub use reader::read_items;
