@@ -1,6 +1,7 @@
 pub mod CountLaws
 pub mod CutRuns
 pub mod CutScan
+pub mod CuttableLaws
 pub mod FillLaws
 pub mod RuleLaws
 pub mod ReadLaws
