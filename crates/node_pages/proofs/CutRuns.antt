@@ -1,10 +1,10 @@
 -- The entries of a map follow one another as the rules of entries want it, and hold the map.
-use Rattle.std.proofs.Common.{◌≡◌, ◌≤◌, ◌<◌, ◌==◌, ℕ, zero, suc, ◌+◌, ◌*◌, ◌-◌, Bool, true, false, ◌&&◌, cond, ltb, nat_le, eqb, List, [], ◌∷◌, ◌++◌, length, take, drop, Option, Some, None, refl, sym, ap, subst, ◌∙◌, arith, append_assoc, length-append, length-take, length-drop}
-use Rattle.std.proofs.lemmas.Bool.{eq-eqb, leb-true, leb-false, lt-ltb, le-leb, eqb-true, and_from}
+use Rattle.std.proofs.Common.{◌≡◌, ◌≤◌, ◌<◌, ◌==◌, ℕ, zero, suc, ◌+◌, ◌*◌, Bool, true, false, ◌&&◌, cond, ltb, nat_le, List, [], ◌∷◌, ◌++◌, length, take, drop, Option, Some, None, refl, sym, ap, subst, ◌∙◌, arith, append_assoc, length-append, length-take, length-drop}
+use Rattle.std.proofs.lemmas.Bool.{eq-eqb, leb-true, leb-false, lt-ltb, and_from}
 use Rattle.std.proofs.lemmas.List.{take-append-drop}
-use Rattle.std.specs.List.{AllByRecursion, flat_map}
+use Rattle.std.specs.List.{AllByRecursion}
 use Rattle.std.specs.Ordering.{is_lt, is_eq}
-use Rattle.std.specs.Prelude.{if◌then◌else◌, Result, Ok, Err, is_some}
+use Rattle.std.specs.Prelude.{if◌then◌else◌, Result, Ok, is_some}
 use Rattle.tree_model.specs.declared.key.Key.{Key}
 use Rattle.tree_model.specs.declared.record.Record.{Record}
 use Rattle.tree_model.specs.declared.record.Record.TheVariants.{Document, Element, Text, Attr}
@@ -16,7 +16,6 @@ use Rattle.node_records.specs.Keys.{key_bytes, IsWritable}
 use Rattle.node_records.specs.Records.{record_bytes, record_of}
 use Rattle.node_records.specs.declared.entries.Entry.{Entry}
 use Rattle.node_records.proofs.RecordLaws.{record_again}
-use Rattle.node_records.proofs.ReadLaws.{both}
 use Rattle.node_pages.specs.Chunks.{chunks_from, chunks_of, all_chunks, one_more, records_behind, records_in}
 use Rattle.node_pages.specs.CutReads.{IsCuttable}
 use Rattle.node_pages.specs.Filling.{room}

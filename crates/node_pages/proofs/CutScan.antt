@@ -15,20 +15,20 @@ use Rattle.node_records.proofs.EntryLaws.{entry_again}
 use Rattle.node_pages.specs.Chunks.{all_chunks, records_in}
 use Rattle.node_pages.specs.CutReads.{IsCuttable, page_among}
 use Rattle.node_pages.specs.Cuts.{most_pages, data_of, directory_of, header_for, file_of, cut_of}
-use Rattle.node_pages.specs.DirectoryPages.{Compared, directory_pages, none_compared, at_end, compared_with, after_directory_page, at_directory_end}
+use Rattle.node_pages.specs.DirectoryPages.{Compared, none_compared, at_end, after_directory_page, at_directory_end}
 use Rattle.node_pages.specs.EntryForm.{entry_behind, entry_read}
-use Rattle.node_pages.specs.Filling.{room, last_behind, written, filled, joined, page_bytes, NextIsTooLong, AreFilled}
+use Rattle.node_pages.specs.Filling.{room, last_behind, written, joined, page_bytes, NextIsTooLong, AreFilled}
 use Rattle.node_pages.specs.Lengths.{some_entry}
 use Rattle.node_pages.specs.PageStarts.{start_of, start_behind, starts_from}
 use Rattle.node_pages.specs.PagesIn.{items_or_none, scanned, compared, starts_in, entries_from, read_with, read_behind, pages_in}
 use Rattle.node_pages.specs.PageZero.{Header, count_of, header_in, header_of, is_page_zero, page_magic, page_zero}
 use Rattle.node_pages.specs.Reading.{are_zeros, page_in}
-use Rattle.node_pages.specs.Scanning.{Scanned, no_pages, unless, fault_at_end, has_room, roomy_before, with_start, with_end, after_entries, after_items, after_page, and_then}
+use Rattle.node_pages.specs.Scanning.{Scanned, no_pages, unless, fault_at_end, has_room, roomy_before, with_start, with_end, after_items, after_page, and_then}
 use Rattle.node_pages.specs.declared.cut.Cut.{Cut}
 use Rattle.node_pages.specs.declared.cut.Cut.TheVariants.{Pages, TooMany}
 use Rattle.node_pages.specs.declared.page_start.PageStart.{PageStart}
 use Rattle.node_pages.specs.declared.scan.Part.{Part}
-use Rattle.node_pages.proofs.CutRuns.{IsPlaced, Runs, Ran, hand_of, entries_run, map_held, map_placed, map_runs_first}
+use Rattle.node_pages.proofs.CutRuns.{IsPlaced, Runs, hand_of, entries_run, map_held, map_placed, map_runs_first}
 use Rattle.node_pages.proofs.ReadLaws.{ReadBack, page_read}
 use Rattle.node_pages.proofs.RuleLaws.{filled_keep, joined_filled}
 

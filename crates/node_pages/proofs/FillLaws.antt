@@ -1,9 +1,9 @@
 -- Filling a page after another gives the pages of all items.
-use Rattle.std.proofs.Common.{◌≡◌, ◌≤◌, ◌<◌, ℕ, zero, suc, ◌+◌, ◌-◌, Bool, true, false, nat_le, cond, List, [], ◌∷◌, ◌++◌, length, take, replicate, map, Option, Some, None, IsTrue, refl, sym, ap, subst, ◌∙◌, arith, append_assoc, append-nil, length-append, zero-add}
+use Rattle.std.proofs.Common.{◌≡◌, ◌≤◌, ◌<◌, ℕ, suc, ◌+◌, ◌-◌, Bool, true, false, cond, List, [], ◌∷◌, ◌++◌, length, take, replicate, map, Option, Some, None, refl, sym, ap, subst, ◌∙◌, arith, append_assoc, append-nil, length-append, zero-add}
 use Rattle.std.proofs.lemmas.Bool.{le-leb, lt-ltb}
 use Rattle.std.proofs.lemmas.List.{take_all}
 use Rattle.std.specs.List.{AllByRecursion}
-use Rattle.node_pages.specs.Filling.{room, page_with, on_first, written, fits, filled_behind, filled, page_bytes, Fill, no_items, closed, kept, all_pages, page_count, with_item, with_items}
+use Rattle.node_pages.specs.Filling.{room, page_with, on_first, written, fits, filled_behind, filled, page_bytes, Fill, no_items, closed, kept, all_pages, page_count, with_items}
 
 -- the bytes of a page that is filled up with zeros
 pub resized : (head items : List ℕ) → length head ≡ 2 → length items ≤ 8_190

@@ -1,3 +1,8 @@
+pub mod ChunkLaws
+pub mod CutLaws
+pub mod CutSteps
+pub mod StoredLaws
+pub mod ZeroLaws
 pub mod CountLaws
 pub mod CutRuns
 pub mod CutScan

@@ -1,6 +1,5 @@
 -- A map cut into pages (docs/FILE_FORMAT.md, "The page file").
-use Rattle.std.specs.Prelude.{ℕ, ◌+◌, nat_le, Bool, if◌then◌else◌, List, [], ◌∷◌, ◌++◌, length, map, filter, Option}
-use Rattle.tree_model.specs.declared.key.Key.{Key}
+use Rattle.std.specs.Prelude.{ℕ, nat_le, if◌then◌else◌, List, ◌∷◌, ◌++◌, length, map}
 use Rattle.tree_model.specs.Entries.{Entries}
 use Rattle.node_records.specs.declared.entries.Entry.{Entry}
 use Rattle.node_pages.specs.Chunks.{all_chunks}

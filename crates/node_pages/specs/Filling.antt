@@ -1,5 +1,5 @@
 -- How items fill pages: each page has as many as fit, and their count before them (docs/FILE_FORMAT.md, "Filling").
-use Rattle.std.specs.Prelude.{◌≡◌, ℕ, zero, suc, ◌+◌, ◌-◌, ◌^◌, ◌<◌, ◌≤◌, Bool, false, nat_le, nat_lt, if◌then◌else◌, List, [], ◌∷◌, ◌++◌, length, replicate, Option, Some, None}
+use Rattle.std.specs.Prelude.{◌≡◌, ℕ, ◌+◌, ◌-◌, ◌^◌, ◌<◌, ◌≤◌, Bool, false, nat_le, nat_lt, if◌then◌else◌, List, [], ◌∷◌, ◌++◌, length, replicate, Option, Some, None}
 use Rattle.byteorder.specs.Endian.{big_bytes}
 
 -- how many bytes of items a page takes, behind the two of its count

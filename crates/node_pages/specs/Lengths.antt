@@ -1,5 +1,5 @@
 -- Each item of a page has a byte at least.
-use Rattle.std.proofs.Common.{◌≡◌, ◌≤◌, ℕ, ◌+◌, List, [], ◌∷◌, ◌++◌, length, arith, length-append}
+use Rattle.std.proofs.Common.{◌≤◌, ◌++◌, length, arith, length-append}
 use Rattle.byteorder.specs.Endian.{big_bytes}
 use Rattle.node_records.specs.Keys.{key_bytes}
 use Rattle.node_records.specs.Entries.{chunk_head, entry_bytes}

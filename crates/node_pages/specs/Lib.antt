@@ -5,6 +5,7 @@ pub mod Chunks
 pub mod PageStarts
 pub mod PageZero
 pub mod Cuts
+pub mod Cutting
 pub mod CutReads
 pub mod Scanning
 pub mod DirectoryPages

@@ -5,12 +5,10 @@ ghost use Rattle.byteorder.specs.Endian.{big_number};
 ghost use Rattle.node_pages.specs.PageZero.{count_of, header_in, header_of, is_page_zero, page_magic};
 
 use crate::page_form::PAGE_BYTES;
+use crate::page_zero::MAGIC;
 use crate::reader::are_zeros;
 use byteorder::{BigEndian, ByteOrder};
 use std::marker::Model;
-
-/// The bytes that a file of pages begins with.
-const MAGIC: [u8; 8] = *b"XTCPAGE1";
 
 /// What page 0 says of a file of pages: the number of the last commit that they hold, and how many data pages and directory pages there are.
 #[derive(Debug, Drop)]

@@ -1,6 +1,6 @@
-use Rattle.std.proofs.Common.{rules, arith, ◌≡◌, ◌-◌, ◌+◌, ◌++◌, [], ◌∷◌, ℕ, List, suc, Option, Some, None, drop, sym, ap, subst, ◌∙◌}
+use Rattle.std.proofs.Common.{arith, ◌≡◌, ◌-◌, ◌+◌, ◌++◌, suc, Some, sym, ◌∙◌}
 use Rattle.node_pages.specs.Reading.{items_in, ahead, one_of}
-use Rattle.node_pages.proofs.ItemLaws.{one_read, none_read}
+use Rattle.node_pages.proofs.ItemLaws.{one_read}
 use Rattle.node_pages.proofs.reader.items_of.Goals as goal
 
 pub loop-preserved : goal.loop-preserved

@@ -1,4 +1,4 @@
-use Rattle.std.proofs.Common.{◌≡◌, ◌-◌, ◌++◌, Option, None}
+use Rattle.std.proofs.Common.{◌≡◌, ◌-◌, ◌++◌, None}
 use Rattle.node_pages.specs.Reading.{items_in, ahead, one_of}
 use Rattle.node_pages.proofs.reader.items_of.Given as goal
 
