@@ -27,10 +27,14 @@ fn letters(alloc: Global, count: usize) -> Result<Text, Fail> {
 fn document(alloc: Global) -> Result<SortedSeq, Fail> {
     let mut seq = SortedSeq::new(alloc);
     let label = Text::of(alloc, "1.1001")?;
-    seq.put(key(alloc, &[1], "x")?, Record::Attr(label))?;
-    seq.put(key(alloc, &[1, 1001], "")?, Record::Document)?;
+    seq.put(alloc, key(alloc, &[1], "x")?, Record::Attr(label))?;
+    seq.put(alloc, key(alloc, &[1, 1001], "")?, Record::Document)?;
     let name = Text::of(alloc, "a")?;
-    seq.put(key(alloc, &[1, 1001, 1001], "")?, Record::Element(name))?;
+    seq.put(
+        alloc,
+        key(alloc, &[1, 1001, 1001], "")?,
+        Record::Element(name),
+    )?;
     Ok(seq)
 }
 
@@ -73,6 +77,7 @@ fn counts(alloc: Global, lengths: &[usize]) -> Result<List<u8>, Fail> {
     let mut last = 1001;
     for length in lengths {
         seq.put(
+            alloc,
             key(alloc, &[1, last], "")?,
             Record::Text(letters(alloc, *length)?),
         )?;
