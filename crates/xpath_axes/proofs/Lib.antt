@@ -1,0 +1,8 @@
+mod AttributeWalks
+mod FoundLabels
+mod RowWalks
+mod TreeWalks
+mod NodeWalks
+mod SingleLooks
+mod ReadCounts
+mod TreeLooks

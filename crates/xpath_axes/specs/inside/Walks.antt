@@ -1,0 +1,49 @@
+-- Walks over the nodes below a node, and over the attributes of one: what is found, and from where the next one is sought.
+use Rattle.std.specs.Prelude.{◌&&◌, cond, ℕ, List, if◌then◌else◌, Option, Some, None}
+use Rattle.dewey_labels.specs.Labels.{Label}
+use Rattle.dewey_labels.specs.Lists.{is_empty}
+use Rattle.dewey_labels.specs.Sides.{side, is_under}
+use Rattle.tree_model.specs.declared.key.Key.{Key}
+use Rattle.tree_model.specs.declared.record.Record.{Record}
+use Rattle.tree_model.specs.declared.record.Record.TheVariants.{Attr}
+use Rattle.tree_model.specs.inside.Seeks.{behind_attributes, behind_tree}
+use Rattle.tree_model.specs.Tree.{Forest, below}
+use Rattle.tree_model.specs.ValidTrees.{same_label}
+use Rattle.path_model.specs.Positions.{Position}
+use Rattle.path_model.specs.Programs.{row_seen, all_seen}
+use Rattle.xpath_axes.specs.declared.nodes.Reach.{Reach}
+use Rattle.xpath_axes.specs.declared.nodes.Reach.TheVariants.{Children, Descendants}
+
+-- ---- nodes
+
+-- the nodes below a node
+abbrev pub nodes_below : Reach → Forest → List Position
+nodes_below Children f = row_seen (below f)
+nodes_below Descendants f = all_seen (below f)
+
+-- from where the next of them is sought
+abbrev pub behind_key : Reach → Label → Key
+behind_key Children l = behind_tree l
+behind_key Descendants l = behind_attributes l
+
+-- what was found, if it is a node's own entry and lies under the label
+abbrev pub node_under : Label → Option (Key × Record) → Option (Label × Record)
+node_under l None = None
+node_under l (Some e) = cond (is_under (side l e.0.label) && is_empty e.0.name) (Some (e.0.label, e.1)) None
+
+-- ---- attributes
+
+-- the value of an attribute's record
+abbrev pub value_of : Option Record → Option (List ℕ)
+value_of (Some (Attr v)) = Some v
+value_of o = None
+
+-- the key and the value of an attribute's entry
+abbrev pub keyed_value : Key → Record → Option (Key × List ℕ)
+keyed_value k (Attr v) = Some (k, v)
+keyed_value k r = None
+
+-- those of what was found, if it is an attribute of the node with label l
+abbrev pub attribute_of : Label → Option (Key × Record) → Option (Key × List ℕ)
+attribute_of l None = None
+attribute_of l (Some e) = if same_label l e.0.label then keyed_value e.0 e.1 else None

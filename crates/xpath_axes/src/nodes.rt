@@ -1,0 +1,145 @@
+//! The looks at nodes: one, its children, and all from it down.
+ghost use Rattle.std.specs.Prelude.{◌≡◌, ◌≤◌, ◌+◌, ◌++◌, false, length, IfOk, None};
+ghost use Rattle.tree_model.specs.Entries.{first_above};
+ghost use Rattle.tree_model.specs.inside.Seeks.{behind_attributes};
+ghost use Rattle.tree_model.specs.Places.{is_root};
+ghost use Rattle.tree_model.specs.Tree.{Tree, at as node_at};
+ghost use Rattle.node_seq.specs.Trees.{OnTree, StandsFor};
+ghost use Rattle.outside_traits.specs.Faults.{HasCause};
+ghost use Rattle.path_model.specs.Programs as look;
+ghost use Rattle.xpath_axes.specs.Positions.{all_plain};
+ghost use Rattle.xpath_axes.specs.LookReads.{ReadsOfLook};
+ghost use Rattle.xpath_axes.specs.inside.Walks.{behind_key, node_under, nodes_below};
+
+use crate::Position;
+use crate::position::only;
+use dewey_labels::{Label, List, NoMemory};
+use node_seq::{NodeRead, SeqError};
+use std::alloc::Global;
+use tree_model::{Key, Record};
+
+/// The node with a label, if there is one. One read.
+pub fn at_node<S: NodeRead>(
+    alloc: Global,
+    at: &Label,
+    seq: &mut S,
+) -> Result<List<Position>, SeqError>
+    ensures seen { OnTree (S.contents seq.old) result (λ t found. all_plain found ≡ look.seen t (look.at_node at.now)) }
+    ensures unchanged { S.unchanged seq.old seq.new }
+    ensures reads { S.reads seq.new ≤ S.reads seq.old + 1 }
+    ensures cause { HasCause SeqError.DiskFault (S.count seq.old) (S.count seq.new) result }
+{
+    let key = Key::of_node(alloc, at)?;
+    let Some(record) = seq.get(alloc, &key)? else {
+        return Ok(List::new(alloc));
+    };
+    let Key { label, .. } = key;
+    Ok(only(alloc, Position::Node(label, record))?)
+}
+
+/// The children of a node; none where there is no such node. One read a child and one more, whatever lies below the children.
+pub fn at_row<S: NodeRead>(
+    alloc: Global,
+    at: &Label,
+    seq: &mut S,
+) -> Result<List<Position>, SeqError>
+    ensures seen { OnTree (S.contents seq.old) result (λ t found. all_plain found ≡ look.seen t (look.at_row at.now)) }
+    ensures unchanged { S.unchanged seq.old seq.new }
+    ensures reads { IfOk result (λ found. S.reads seq.new ≤ S.reads seq.old + (length found + 1)) }
+    ensures reads_of_tree { ReadsOfLook (S.contents seq.old) (look.at_row at.now) (S.reads seq.old) (S.reads seq.new) }
+    ensures cause { HasCause SeqError.DiskFault (S.count seq.old) (S.count seq.new) result }
+{
+    let children = List::new(alloc);
+    // The root is no node: below it lie the documents.
+    if is_root(at) {
+        return Ok(children);
+    }
+    below(alloc, at, Reach::Children, children, seq)
+}
+
+/// A node and all that lie under it, in document order; none where there is no such node. One read a node and one more, whatever attributes they have.
+pub fn at_tree<S: NodeRead>(
+    alloc: Global,
+    at: &Label,
+    seq: &mut S,
+) -> Result<List<Position>, SeqError>
+    ensures seen { OnTree (S.contents seq.old) result (λ t found. all_plain found ≡ look.seen t (look.at_tree at.now)) }
+    ensures unchanged { S.unchanged seq.old seq.new }
+    ensures reads { IfOk result (λ found. S.reads seq.new ≤ S.reads seq.old + (length found + 1)) }
+    ensures reads_of_tree { ReadsOfLook (S.contents seq.old) (look.at_tree at.now) (S.reads seq.old) (S.reads seq.new) }
+    ensures cause { HasCause SeqError.DiskFault (S.count seq.old) (S.count seq.new) result }
+{
+    let key = Key::of_node(alloc, at)?;
+    let Some(record) = seq.get(alloc, &key)? else {
+        return Ok(List::new(alloc));
+    };
+    let Key { label, .. } = key;
+    let node = only(alloc, Position::Node(label, record))?;
+    below(alloc, at, Reach::Descendants, node, seq)
+}
+
+/// Which of the nodes below a node a walk meets.
+#[derive(Debug, Drop, Clone, Copy)]
+enum Reach {
+    Children,
+    Descendants,
+}
+
+/// Puts the nodes below a node behind those before. One read a node and one more.
+fn below<S: NodeRead>(
+    alloc: Global,
+    at: &Label,
+    reach: Reach,
+    before: List<Position>,
+    seq: &mut S,
+) -> Result<List<Position>, SeqError>
+    ensures seen { OnTree (S.contents seq.old) result (λ t found. is_root at.now ≡ false → all_plain found ≡ all_plain before ++ nodes_below reach (node_at at.now t.documents)) }
+    ensures unchanged { S.unchanged seq.old seq.new }
+    ensures reads { IfOk result (λ found. S.reads seq.new + length before ≤ S.reads seq.old + (length found + 1)) }
+    ensures reads_of_tree { (t : Tree) → StandsFor (S.contents seq.old) t → is_root at.now ≡ false
+        → S.reads seq.new ≤ S.reads seq.old + (length (nodes_below reach (node_at at.now t.documents)) + 1) }
+    ensures cause { HasCause SeqError.DiskFault (S.count seq.old) (S.count seq.new) result }
+{
+    // It tells that both are labels, where one lies under the other.
+    let _divisions = at.divisions();
+    let mut found = before;
+    let key = Key::behind_attributes(alloc, at)?;
+    let mut next = node_under(at, seq.next_from(alloc, &key)?);
+    while let Some((label, record)) = next {
+        let _divisions = label.divisions();
+        let key = behind(alloc, &label, reach)?;
+        next = node_under(at, seq.next_from(alloc, &key)?);
+        found.push(Position::Node(label, record))?;
+    }
+    Ok(found)
+}
+
+/// The key to seek from behind a node: behind its attributes, or behind its tree.
+fn behind(alloc: Global, at: &Label, reach: Reach) -> Result<Key, NoMemory>
+    ensures { IfOk result (λ key. key ≡ behind_key reach at.now) }
+{
+    match reach {
+        Reach::Children => Key::behind_tree(alloc, at),
+        Reach::Descendants => Key::behind_attributes(alloc, at),
+    }
+}
+
+/// The label and the record of what was found, if it is a node's own entry and lies under `at`.
+fn node_under(at: &Label, found: Option<(Key, Record)>) -> Option<(Label, Record)>
+    ensures { result ≡ node_under at.now found }
+{
+    let (key, record) = found?;
+    if !at.is_ancestor_of(&key.label) || !key.name.as_str().is_empty() {
+        return None;
+    }
+    let Key { label, .. } = key;
+    Some((label, record))
+}
+
+/// Whether a label is the root's, which is no node.
+pub fn is_root(at: &Label) -> bool
+    ensures { result ≡ is_root at.now }
+{
+    // It tells that only the root has one division.
+    at.divisions().len() == 1
+}
