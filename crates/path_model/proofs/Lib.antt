@@ -13,7 +13,9 @@ pub mod AxisLooks
 pub mod PathLaws
 pub mod StepLaws
 pub mod PartLaws
+pub mod LawfulParts
 mod Rows
 mod AxisRows
 mod ComparisonRows
 mod FunctionRows
+mod LawfulRows

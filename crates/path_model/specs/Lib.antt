@@ -1,6 +1,7 @@
 -- Paths
 pub mod Paths
 pub mod PlainPaths
+pub mod Lawful
 -- Positions and axes
 pub mod Positions
 pub mod Sets

@@ -4,3 +4,8 @@ pub mod Digits
 pub mod Encoded
 pub mod Rules
 pub mod Otherwise
+pub mod LawfulGives
+pub mod LawfulForms
+pub mod LawfulWords
+pub mod LawfulRules
+pub mod LawfulPaths

@@ -1,6 +1,7 @@
 -- The grammar of paths (XPath 1.0, sections 2, 3 and 3.7, with the profile of docs/PROFILE.md, "Paths"). A rule refuses the first token that none of its texts goes on with.
 use Rattle.std.specs.Prelude.{ℕ, zero, suc, ◌+◌, ◌-◌, Bool, true, false, not, ◌&&◌, ◌||◌, if◌then◌else◌, ◌==◌, nat_lt, nat_le, pos, List, [], ◌∷◌, ◌++◌, length, take, drop, encode_utf8_all, Option, None, Some, is_some, Ok, Err, codes}
 use Rattle.std.specs.Str.{bytes_eq}
+use Rattle.path_model.specs.Lawful.{most_nested}
 use Rattle.path_model.specs.Numbers.{are_digits, digits_value}
 use Rattle.path_model.specs.declared.path.Axis.{Axis}
 use Rattle.path_model.specs.declared.path.Axis.TheVariants as axis
@@ -330,9 +331,6 @@ expression (suc room) level = expression_of (suc room) (expression room) level
 abbrev pub inside : ℕ → ℕ → Parser Expr
 inside zero level = refuse
 inside (suc room) level = expression room level
-
-abbrev pub most_nested : ℕ
-most_nested = 50
 
 -- a path, and nothing behind it
 abbrev pub whole : Parser XPath

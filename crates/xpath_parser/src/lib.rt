@@ -5,6 +5,7 @@
 
 mod characters;
 mod grammar;
+mod laws;
 mod lex;
 mod literals;
 mod names;
@@ -16,6 +17,7 @@ mod refusal;
 mod tokens;
 mod words;
 
+pub use laws::parsed_paths_are_lawful;
 pub use path_error::PathError;
 pub use path_model::{Axis, Expr, NodeTest, Op, Step, XPath};
 pub use reading::parse;
