@@ -5,6 +5,7 @@ use Rattle.tree_model.specs.Tree.{Tree}
 use Rattle.node_seq.specs.Trees.{StandsFor}
 use Rattle.path_model.specs.Programs.{Look, seen}
 
--- the count of reads rose by no more than one for each position that the look sees of the tree that the known map stands for, and one more, however the call ended
+-- the count of reads rose by no more than one for each position that the look sees of the tree that the known map stands for, and one,
+-- however the call ended
 abbrev pub ReadsOfLook : Option Entries → Look → ℕ → ℕ → Type 0
 ReadsOfLook contents o before after = (t : Tree) → StandsFor contents t → after ≤ before + (length (seen t o) + 1)

@@ -93,14 +93,15 @@ fn below<S: NodeRead>(
     before: List<Position>,
     seq: &mut S,
 ) -> Result<List<Position>, SeqError>
-    ensures seen { OnTree (S.contents seq.old) result (λ t found. is_root at.now ≡ false → all_plain found ≡ all_plain before ++ nodes_below reach (node_at at.now t.documents)) }
+    ensures seen { OnTree (S.contents seq.old) result (λ t found. is_root at.now ≡ false
+        → all_plain found ≡ all_plain before ++ nodes_below reach (node_at at.now t.documents)) }
     ensures unchanged { S.unchanged seq.old seq.new }
     ensures reads { IfOk result (λ found. S.reads seq.new + length before ≤ S.reads seq.old + (length found + 1)) }
     ensures reads_of_tree { (t : Tree) → StandsFor (S.contents seq.old) t → is_root at.now ≡ false
         → S.reads seq.new ≤ S.reads seq.old + (length (nodes_below reach (node_at at.now t.documents)) + 1) }
     ensures cause { HasCause SeqError.DiskFault (S.count seq.old) (S.count seq.new) result }
 {
-    // It tells that both are labels, where one lies under the other.
+    // They tell that it is a label, and so is each one that is found.
     let _divisions = at.divisions();
     let mut found = before;
     let key = Key::behind_attributes(alloc, at)?;
