@@ -1,0 +1,77 @@
+-- Worked words: what they ask for, and the parts of words with two options.
+use Rattle.std.proofs.Common.{◌≡◌, refl, List, [], ◌∷◌, Option, Some, None, codes}
+use Rattle.command_words.specs.Arguments.{Word, Parts, parts_from, parts_of}
+use Rattle.command_words.specs.Commands.{Command, command_of_texts, run, put, get}
+
+abbrev asks : List Word → Option Command → Type 0
+asks ws c = command_of_texts ws ≡ c
+
+-- with options `frames` and `checkpoint`
+abbrev has : List Word → Option Parts → Type 0
+has ws parts = parts_of (codes "frames" ∷ codes "checkpoint" ∷ []) ws ≡ parts
+
+module _ where
+  no_words_at_all : asks [] None
+  no_words_at_all = refl
+
+  run_alone : asks (codes "run" ∷ []) (Some run)
+  unfolding parts_from
+  run_alone = refl
+
+  run_with_a_word : asks (codes "run" ∷ codes "x" ∷ []) None
+  unfolding parts_from
+  run_with_a_word = refl
+
+  no_such_option : asks (codes "run" ∷ codes "--frames" ∷ codes "1" ∷ []) None
+  unfolding parts_from
+  no_such_option = refl
+
+  the_end_of_options_first : asks (codes "--" ∷ codes "run" ∷ []) None
+  unfolding parts_from
+  the_end_of_options_first = refl
+
+  a_second_end_is_plain : asks (codes "get" ∷ codes "--" ∷ codes "--" ∷ []) (Some (get (codes "--")))
+  unfolding parts_from
+  a_second_end_is_plain = refl
+
+  a_dash_alone : asks (codes "put" ∷ codes "-" ∷ []) (Some (put (codes "-")))
+  unfolding parts_from
+  a_dash_alone = refl
+
+  the_empty_word : asks (codes "get" ∷ [] ∷ []) (Some (get []))
+  unfolding parts_from
+  the_empty_word = refl
+
+  help : asks (codes "run" ∷ codes "--help" ∷ []) None
+  unfolding parts_from
+  help = refl
+
+  options_anywhere : has (codes "--frames=8" ∷ codes "x" ∷ codes "--checkpoint" ∷ codes "7" ∷ codes "y" ∷ [])
+      (Some (record { given = (codes "frames", codes "8") ∷ (codes "checkpoint", codes "7") ∷ []; plain = codes "x" ∷ codes "y" ∷ [] }))
+  unfolding parts_from
+  options_anywhere = refl
+
+  the_first_equals_ends_a_name : has (codes "--frames=8=9" ∷ []) (Some (record { given = (codes "frames", codes "8=9") ∷ []; plain = [] }))
+  unfolding parts_from
+  the_first_equals_ends_a_name = refl
+
+  twice : has (codes "--frames" ∷ codes "8" ∷ codes "--frames=8" ∷ []) None
+  unfolding parts_from
+  twice = refl
+
+  a_text_begins_with_no_dash : has (codes "--frames" ∷ codes "--" ∷ codes "1" ∷ []) None
+  unfolding parts_from
+  a_text_begins_with_no_dash = refl
+
+  no_text : has (codes "--frames" ∷ []) None
+  unfolding parts_from
+  no_text = refl
+
+  plain_behind_the_end : has (codes "--frames" ∷ codes "3" ∷ codes "--" ∷ codes "-x" ∷ codes "--frames" ∷ [])
+      (Some (record { given = (codes "frames", codes "3") ∷ []; plain = codes "-x" ∷ codes "--frames" ∷ [] }))
+  unfolding parts_from
+  plain_behind_the_end = refl
+
+  a_shortened_option : has (codes "--frame" ∷ codes "1" ∷ []) None
+  unfolding parts_from
+  a_shortened_option = refl

@@ -1,0 +1,65 @@
+-- The commands of the program, and the words that ask for them (docs/MANUAL.md, "Words").
+use Rattle.std.specs.Prelude.{List, [], ◌∷◌, map, codes, Option, Some, None, option_and_then, option_map, String, string_bytes}
+use Rattle.std.specs.List.{find}
+use Rattle.std.specs.Str.{bytes_eq}
+use Rattle.std.specs.declared.alloc.Global.{Global}
+use Rattle.command_words.specs.Arguments.{Word, Parts, parts_of}
+use Rattle.command_words.specs.declared.command.Command.{Command as Asked}
+use Rattle.command_words.specs.declared.command.Command.TheVariants as asked
+
+-- a script is run, the document with a name is made from the input, or it is written
+pub data Command : Type 0 where
+  run : Command
+  put : Word → Command
+  get : Word → Command
+
+-- ---- what a command takes
+
+abbrev pub no_words : Command → List Word → Option Command
+no_words c [] = Some c
+no_words c (w ∷ ws) = None
+
+-- the one word
+abbrev pub only : List Word → Option Word
+only (w ∷ []) = Some w
+only _ = None
+
+abbrev pub one_word : (Word → Command) → List Word → Option Command
+one_word c ws = option_map c (only ws)
+
+-- ---- the grammar
+
+-- each command: its word, and what it makes of the plain words behind it
+abbrev pub commands : List (Word × (List Word → Option Command))
+commands =
+    (codes "run", no_words run)
+    ∷ (codes "put", one_word put)
+    ∷ (codes "get", one_word get)
+    ∷ []
+
+-- the names of the options, which every command takes
+abbrev pub option_names : List Word
+option_names = []
+
+-- the command with this word and these plain words
+abbrev pub command_by : Word → List Word → Option Command
+command_by w plain = option_and_then (λ row. row.1 plain) (find (λ row. bytes_eq row.0 w) commands)
+
+abbrev pub of_parts : Word → Parts → Option Command
+of_parts w parts = command_by w parts.plain
+
+-- the command that words ask for: the first is its own; None where they aren't of the grammar
+abbrev pub command_of_texts : List Word → Option Command
+command_of_texts [] = None
+command_of_texts (w ∷ ws) = option_and_then (of_parts w) (parts_of option_names ws)
+
+abbrev pub command_of : List (String Global) → Option Command
+command_of words = command_of_texts (map string_bytes words)
+
+-- ---- what was read
+
+-- a command that was read
+abbrev pub meant : Asked → Command
+meant asked.Run = run
+meant (asked.Put name) = put name.now
+meant (asked.Get name) = get name.now

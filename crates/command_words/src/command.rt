@@ -1,0 +1,12 @@
+//! What the words ask for.
+
+/// A command of the program.
+#[derive(Clone, Copy, Debug)]
+pub enum Command<'a> {
+    /// The script of the input is run.
+    Run,
+    /// A document with this name is made from the input.
+    Put(&'a str),
+    /// The document with this name is written.
+    Get(&'a str),
+}
