@@ -1,0 +1,123 @@
+//! Words, as the manual has them ("Words"), and their options by hand.
+use command_words::{Arguments, WordsError, read_arguments, read_words};
+use std::alloc::{AllocError, Global};
+use std::test::Fail;
+
+/// Words with a blank between them; `''` stands for the empty word.
+fn all_words(alloc: Global, words: &str) -> Result<Vec<String>, AllocError> {
+    let mut all = Vec::new(alloc);
+    for word in words.split(' ') {
+        if words.is_empty() {
+            continue;
+        }
+        let word = if word == "''" { "" } else { word };
+        all.push(String::from_str(alloc, word)?)?;
+    }
+    Ok(all)
+}
+
+/// What the words ask for.
+fn asked(alloc: Global, words: &str) -> Result<String, Fail> {
+    let words = all_words(alloc, words)?;
+    match read_words(alloc, &words) {
+        Ok(command) => Ok(format!(in alloc; "{command:?}")?),
+        Err(why) => Ok(format!(in alloc; "{why:?}")?),
+    }
+}
+
+/// Words, and what they ask for.
+const COMMANDS: [(&str, &str); 28] = [
+    ("", "Usage"),
+    ("''", "Usage"),
+    ("run", "Run"),
+    ("run x", "Usage"),
+    ("run ''", "Usage"),
+    ("Run", "Usage"),
+    ("runs", "Usage"),
+    ("run --", "Run"),
+    ("run -- --", "Usage"),
+    ("-- run", "Usage"),
+    ("run --frames 1", "Usage"),
+    ("run --checkpoint=0", "Usage"),
+    ("--frames 8 run", "Usage"),
+    ("run --help", "Usage"),
+    ("run -h", "Usage"),
+    ("help", "Usage"),
+    ("--version", "Usage"),
+    ("run ---", "Usage"),
+    ("run --=5", "Usage"),
+    ("put", "Usage"),
+    ("put x", "Put(\"x\")"),
+    ("put x y", "Usage"),
+    ("put ''", "Put(\"\")"),
+    ("put -", "Put(\"-\")"),
+    ("put -x", "Usage"),
+    ("put -- -x", "Put(\"-x\")"),
+    ("get -- --", "Get(\"--\")"),
+    ("get -\u{e9}", "Usage"),
+];
+
+#[test]
+fn words_ask_for_a_command_or_are_refused(rt: HostRuntime) -> Result<(), Fail> {
+    for (words, want) in COMMANDS {
+        let text = asked(rt.alloc(), words)?;
+        assert_eq!(rt; text.as_str(), want, "at {words:?}");
+    }
+    Ok(())
+}
+
+/// The texts of two options and the plain words, as they were told apart.
+fn parts(alloc: Global, arguments: &Arguments<'_>) -> Result<String, AllocError> {
+    let frames = arguments.text("frames");
+    let checkpoint = arguments.text("checkpoint");
+    let plain = arguments.plain();
+    format!(in alloc; "{frames:?} {checkpoint:?} {plain:?}")
+}
+
+/// The same of words, with these options.
+fn told_apart(alloc: Global, words: &str) -> Result<String, Fail> {
+    let words = all_words(alloc, words)?;
+    match read_arguments(alloc, &["frames", "checkpoint"], words.as_slice()) {
+        Ok(arguments) => Ok(parts(alloc, &arguments)?),
+        Err(WordsError::Usage) => Ok(String::from_str(alloc, "Usage")?),
+        Err(WordsError::NoMemory) => Err(Fail::from("no memory")),
+    }
+}
+
+/// Words with options `frames` and `checkpoint`, and what is told apart of them.
+const OPTIONS: [(&str, &str); 19] = [
+    ("", "None None None"),
+    ("x", "None None Some([\"x\"])"),
+    ("--frames 4 x", "Some(\"4\") None Some([\"x\"])"),
+    ("x --frames=4 y", "Some(\"4\") None Some([\"x\", \"y\"])"),
+    ("--frames 4 --checkpoint 7", "Some(\"4\") Some(\"7\") None"),
+    ("--frames=4=5", "Some(\"4=5\") None None"),
+    ("--frames=", "Some(\"\") None None"),
+    ("--frames ''", "Some(\"\") None None"),
+    ("--frames -", "Some(\"-\") None None"),
+    ("--frames=-1", "Some(\"-1\") None None"),
+    ("--frames 4 --frames 4", "Usage"),
+    ("--frames=4 --checkpoint=1 --frames=5", "Usage"),
+    ("--frames", "Usage"),
+    ("--frames -- 1", "Usage"),
+    ("--frames --checkpoint 1", "Usage"),
+    ("--frame 1", "Usage"),
+    ("--framess 1", "Usage"),
+    (
+        "x -- --frames 4",
+        "None None Some([\"x\", \"--frames\", \"4\"])",
+    ),
+    (
+        "--frames 4 -- -- -x",
+        "Some(\"4\") None Some([\"--\", \"-x\"])",
+    ),
+];
+
+#[test]
+fn options_are_told_from_plain_words(rt: HostRuntime) -> Result<(), Fail> {
+    for (words, want) in OPTIONS {
+        let text = told_apart(rt.alloc(), words)?;
+        assert_eq!(rt; text.as_str(), want, "at {words:?}");
+    }
+    Ok(())
+}
