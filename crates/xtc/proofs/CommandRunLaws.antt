@@ -16,7 +16,8 @@ use Rattle.script_runs.specs.Whole.{piece}
 use Rattle.script_runs.specs.declared.halt.Halt.TheVariants as halt
 use Rattle.script_runs.specs.declared.running.End.{End}
 use Rattle.script_runs.specs.declared.running.End.TheVariants as end
-use Rattle.xtc.specs.Commands.{Command, run, put, get, reads_input}
+use Rattle.command_words.specs.Commands.{Command, run, put, get}
+use Rattle.xtc.specs.Commands.{reads_input}
 use Rattle.xtc.specs.Statuses.{status_of_end}
 use Rattle.xtc.specs.TopCall.{IsOfOpened, IsSilent, ScriptRan, tx_limit, whole_limit}
 use Rattle.xtc.specs.declared.status.Status.{Status}

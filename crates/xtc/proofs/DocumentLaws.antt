@@ -33,7 +33,8 @@ use Rattle.command_lines.specs.declared.line_reply.LineReply.{LineReply}
 use Rattle.session_driver.specs.Lines.{Asked}
 use Rattle.tx_core.specs.Cores.{CoreView, next_number}
 use Rattle.xtc.specs.Book.{after_asked}
-use Rattle.xtc.specs.Commands.{Command, run, put, get, reads_input}
+use Rattle.command_words.specs.Commands.{Command, run, put, get}
+use Rattle.xtc.specs.Commands.{reads_input}
 use Rattle.xtc.specs.Documents.{asks_of, put_asks_of, dump_asks, end_by, end_of, find_asks, label_in, reason_in, text_of}
 use Rattle.xtc.specs.Durable.{HoldState}
 use Rattle.xtc.specs.StoreMachine.{Stands}

@@ -1,6 +1,10 @@
 -- What a run of the program leaves, by the status that it ends with.
-use Rattle.std.proofs.Common.{◌≡◌, refl, inl, inr, List, ℕ, [], Ok, ap, subst}
-use Rattle.std.specs.Prelude.{Option, Some}
+use Rattle.std.proofs.Common.{◌≡◌, ◌∙◌, Bool, true, false, true≢false, refl, sym, inl, inr, List, ℕ, [], Ok, ap, subst}
+use Rattle.std.specs.Prelude.{◌⊎◌, Option, Some}
+use Rattle.outside_traits.specs.DiskPairs.{PairsHave}
+use Rattle.recovery.specs.Trees.{StoodFor}
+use Rattle.command_words.specs.declared.words_error.WordsError.{WordsError}
+use Rattle.command_words.specs.declared.words_error.WordsError.TheVariants as words
 use Rattle.node_records.specs.declared.open_error.OpenError.{OpenError}
 use Rattle.node_records.specs.declared.open_error.OpenError.TheVariants as error
 use Rattle.node_records.specs.declared.open_error.Place.{Place}
@@ -12,9 +16,50 @@ use Rattle.script_runs.specs.declared.running.End.{End}
 use Rattle.script_runs.specs.declared.running.End.TheVariants as end
 use Rattle.xtc.specs.declared.status.Status.{Status}
 use Rattle.xtc.specs.declared.status.Status.TheVariants.{Done, Usage, LineTooLong, Damaged, ReadFault, WriteFault, DiskFault, NoMemory, NotJsonMl, DocumentRefused}
-use Rattle.xtc.specs.Statuses.{status_of, status_of_end}
-use Rattle.xtc.specs.Commands.{Command, run}
+use Rattle.xtc.specs.Statuses.{status_of, status_of_end, status_of_words}
+use Rattle.command_words.specs.Commands.{Command, run}
 use Rattle.xtc.specs.TopCall.{Outcome, Leaves, UnopenedStoreLeaves, OpenedStoreLeaves, IsSilent, IsUnread, IsOfOpened}
+
+-- ---- words that gave no command
+
+abbrev pub is_of_words : Status → Bool
+is_of_words Usage = true
+is_of_words NoMemory = true
+is_of_words status = false
+
+pub words_usage : (error : WordsError) → status_of_words error ≡ Usage → error ≡ words.Usage
+words_usage words.Usage is = refl
+words_usage words.NoMemory is = cc
+
+-- nothing was touched
+untouched_leaves : (o : Outcome) → o.read ≡ [] → o.now ≡ o.before → o.new ≡ o.old → UnopenedStoreLeaves o
+untouched_leaves o unread silent same = record {
+  read = unread;
+  silent = silent;
+  any_moment = record { ends = []; phases = same };
+  left = subst (PairsHave (StoodFor o.old)) (sym same)
+      (λ journal pages of_journal of_pages. record { journal_then = journal; pages_then = pages; of_journal = of_journal; of_pages = of_pages; same = refl });
+}
+
+pub refused_leaves : (limit : ℕ) (command : Option Command) (o : Outcome) (error : WordsError) → o.read ≡ [] → o.now ≡ o.before → o.new ≡ o.old → Leaves limit command (status_of_words error) o
+refused_leaves limit command o words.Usage unread silent same = (unread, silent, same)
+refused_leaves limit command o words.NoMemory unread silent same = inl (untouched_leaves o unread silent same)
+
+pub refused_silent : (command : Option Command) (error : WordsError) (P : Type 0) → P → IsSilent command (status_of_words error) P
+refused_silent command words.Usage P p = p
+refused_silent command words.NoMemory P p = tt
+
+-- the two statuses that words may have, which are no others
+pub refused_as : (status : Status) (error : WordsError) → status ≡ status_of_words error → (status ≡ Usage) ⊎ (status ≡ NoMemory)
+refused_as status words.Usage is = inl is
+refused_as status words.NoMemory is = inr is
+
+pub refused_not : (error : WordsError) (status : Status) → is_of_words status ≡ false → status_of_words error ≡ status → ⊥
+refused_not error status other is = true≢false (sym (of_words error) ∙ ap is_of_words is ∙ other)
+  where
+    of_words : (error : WordsError) → is_of_words (status_of_words error) ≡ true
+    of_words words.Usage = refl
+    of_words words.NoMemory = refl
 
 -- ---- a store that wasn't opened
 

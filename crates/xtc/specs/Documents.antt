@@ -26,7 +26,7 @@ use Rattle.session_driver.specs.Lines.{Asked}
 use Rattle.session_driver.specs.declared.doing.Doing.{Doing}
 use Rattle.session_driver.specs.declared.doing.Doing.TheVariants.{Begin, Commit, Abort, Call}
 use Rattle.xtc.specs.Book.{after_asked}
-use Rattle.xtc.specs.Commands.{Command, run, put, get}
+use Rattle.command_words.specs.Commands.{Command, run, put, get}
 use Rattle.xtc.specs.declared.status.Reason.{Reason}
 use Rattle.xtc.specs.declared.status.Reason.TheVariants as reason
 use Rattle.xtc.specs.declared.status.Status.{Status}

@@ -1,5 +1,7 @@
 -- The numbers that the program ends with, and what it prints of a status (docs/MANUAL.md, "Statuses").
 use Rattle.std.specs.Prelude.{ℕ, List, [], ◌++◌, codes, decimal}
+use Rattle.command_words.specs.declared.words_error.WordsError.{WordsError}
+use Rattle.command_words.specs.declared.words_error.WordsError.TheVariants as words
 use Rattle.node_records.specs.declared.open_error.File.{File}
 use Rattle.node_records.specs.declared.open_error.File.TheVariants as file
 use Rattle.node_records.specs.declared.open_error.OpenError.{OpenError}
@@ -46,6 +48,11 @@ status_text DiskFault = codes "xtc: disk failed"
 status_text NoMemory = codes "xtc: no memory"
 status_text (NotJsonMl why) = codes "xtc: not JsonML"
 status_text (DocumentRefused why) = codes "xtc: refused"
+
+-- the status of words that give no command
+abbrev pub status_of_words : WordsError → Status
+status_of_words words.Usage = Usage
+status_of_words words.NoMemory = NoMemory
 
 -- the status of a store that isn't opened
 abbrev pub status_of : OpenError → Status

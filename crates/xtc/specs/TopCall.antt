@@ -23,7 +23,8 @@ use Rattle.session_driver.specs.Progress.{Progress}
 use Rattle.session_driver.specs.Waiters.{AllStopped}
 use Rattle.store_calls.specs.StoreCalls.{store_meaning, IsValidStoreCall}
 use Rattle.xtc.specs.Book.{script_of, after_asked, replies_text}
-use Rattle.xtc.specs.Commands.{Command, run, put, get, reads_input}
+use Rattle.command_words.specs.Commands.{Command, run, put, get}
+use Rattle.xtc.specs.Commands.{reads_input}
 use Rattle.xtc.specs.Documents.{asks_of, end_of, reason_in, text_of}
 use Rattle.xtc.specs.declared.status.Status.{Status}
 use Rattle.xtc.specs.declared.status.Status.TheVariants.{Done, Usage, LineTooLong, Damaged, ReadFault, WriteFault, DiskFault, NoMemory, NotJsonMl, DocumentRefused}

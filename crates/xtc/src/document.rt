@@ -18,7 +18,7 @@ ghost use Rattle.session_driver.specs.declared.doing.Doing.TheVariants as asked;
 ghost use Rattle.command_lines.specs.declared.command.StoreCall.TheVariants.{Dom};
 ghost use Rattle.store_calls.specs.StoreCalls.{IsValidStoreCall};
 ghost use Rattle.jsonml_io.specs.declared.fragment_error.FragmentError.TheVariants as fragment_error;
-ghost use Rattle.xtc.specs.Commands.{put as put_command, get as get_command};
+ghost use Rattle.command_words.specs.Commands.{put as put_command, get as get_command};
 ghost use Rattle.xtc.specs.Documents.{element_in, find_asks, dump_asks, put_asks, label_in, reason_in, tree_in, tree_line};
 ghost use Rattle.xtc.specs.StoreMachine.{Stands};
 ghost use Rattle.xtc.specs.TopCall.{IsWhole, WroteWhole, tx_limit, whole_limit};

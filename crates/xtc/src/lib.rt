@@ -5,7 +5,6 @@
 #![tactic(auto)]
 
 mod asking;
-mod command;
 mod document;
 mod halt;
 mod laws;

@@ -1,8 +1,9 @@
 // The statuses that the program ends with, with their numbers and texts.
 ghost use Rattle.std.specs.Prelude.{◌≡◌};
-ghost use Rattle.xtc.specs.Statuses.{file_text, status_number, status_of, status_of_end, status_of_gathering, status_of_fragment, status_of_halt};
+ghost use Rattle.xtc.specs.Statuses.{file_text, status_number, status_of, status_of_end, status_of_gathering, status_of_fragment, status_of_halt, status_of_words};
 
 use crate::halt::Halt as StoreHalt;
+use command_words::WordsError;
 use dewey_labels::NoMemory as WantsMemory;
 use jsonml_io::FragmentError;
 use node_records::{File, OpenError, Place};
@@ -16,7 +17,7 @@ use tree_model::Refusal;
 pub enum Status {
     /// The input, where the command has one, was read to its end, and all was written.
     Done,
-    /// The words aren't a command.
+    /// The words aren't those of a command.
     Usage,
     /// A line, by its number from 1, has more bytes than a line may have; with number 0 the whole input of `put` has more than that may have.
     LineTooLong { line: u64 },
@@ -61,6 +62,18 @@ impl Status {
             Status::NoMemory => 8,
             Status::NotJsonMl(_) => 9,
             Status::DocumentRefused(_) => 10,
+        }
+    }
+}
+
+/// Words that give no command.
+impl From<WordsError> for Status {
+    ghost from_gives = { λ error status. status ≡ status_of_words error };
+
+    fn from(error: WordsError) -> Status {
+        match error {
+            WordsError::Usage => Status::Usage,
+            WordsError::NoMemory => Status::NoMemory,
         }
     }
 }

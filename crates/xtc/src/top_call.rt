@@ -1,5 +1,5 @@
 // The program's one call: it tests the words, opens the store, and runs the script of the source over it.
-ghost use Rattle.std.specs.Prelude.{◌≡◌, ◌↔◌, ◌+◌, ℕ, List, ◌-◌, length, IsTrue, None};
+ghost use Rattle.std.specs.Prelude.{◌≡◌, ◌⊎◌, ◌+◌, ℕ, List, ◌-◌, length, IsTrue, None};
 ghost use Rattle.outside_traits.specs.Bytes.{Gave};
 ghost use Rattle.outside_traits.specs.CrashImages.{IsImage};
 ghost use Rattle.outside_traits.specs.DiskPairs.{pair_of};
@@ -8,14 +8,14 @@ ghost use Rattle.node_records.specs.declared.open_error.Place.{Place};
 ghost use Rattle.recovery.specs.Openings.{FoundDamaged, TakesBehind};
 ghost use Rattle.script_runs.specs.Counts.{CountedWhere, DisksCountedWhere, ReadCountedWhere};
 ghost use Rattle.outside_kinds.specs.Bounds.{input_limit};
-ghost use Rattle.xtc.specs.Commands.{command_of, meant, run};
+ghost use Rattle.command_words.specs.Commands.{command_of, meant, run};
 ghost use Rattle.xtc.specs.TopCall.{Leaves, IsSilent, TookInput, tx_limit};
 ghost use Rattle.xtc.specs.inside.CommandRuns.{RunsCommand};
 
-use crate::command::{Command, command_of};
 use crate::document::{run_get, run_put};
 use crate::status::Status;
 use crate::store::Store;
+use command_words::{Command, read_words};
 use outside_traits::{Disk, Sink, Source};
 use recovery::{Opened, StoreFault, open_store};
 use std::alloc::Global;
@@ -64,8 +64,8 @@ pub fn xtc<S: Source, K: Sink, J: Disk + Send, P: Disk + Send>(
         → FoundDamaged (pair_of (J.history journal) (P.history pages)) (pair_of (J.history result.journal) (P.history result.pages)) place }
 
     // The cause of each status, and no fault that was counted at any other.
-    ensures usage { ((result.status ≡ Status.Usage) ↔ (command_of words.now.items ≡ None))
-        × (result.status ≡ Status.Usage → (result.journal ≡ journal) × (result.pages ≡ pages)) }
+    ensures usage { (result.status ≡ Status.Usage → command_of words.now.items ≡ None)
+        × (command_of words.now.items ≡ None → ((result.status ≡ Status.Usage) ⊎ (result.status ≡ Status.NoMemory)) × (result.journal ≡ journal) × (result.pages ≡ pages)) }
     ensures read { ReadCountedWhere (result.status ≡ Status.ReadFault) input_limit
         (S.faults source.old) (S.faults source.new) (S.given source.old) (S.given source.new) }
     ensures write { CountedWhere (result.status ≡ Status.WriteFault) (K.faults sink.old) (K.faults sink.new) }
@@ -73,12 +73,15 @@ pub fn xtc<S: Source, K: Sink, J: Disk + Send, P: Disk + Send>(
         (record { journal = J.faults journal; pages = P.faults pages })
         (record { journal = J.faults result.journal; pages = P.faults result.pages }) }
 {
-    let Some(command) = command_of(words) else {
-        return Finish {
-            status: Status::Usage,
-            journal,
-            pages,
-        };
+    let command = match read_words(alloc, words) {
+        Ok(command) => command,
+        Err(error) => {
+            return Finish {
+                status: Status::from(error),
+                journal,
+                pages,
+            };
+        }
     };
     match open_store(alloc, journal, pages) {
         Ok(store) => run_command(alloc, command, source, sink, store),

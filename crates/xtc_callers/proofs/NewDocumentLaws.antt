@@ -25,7 +25,7 @@ use Rattle.session_driver.specs.Lines.{Asked}
 use Rattle.session_driver.specs.Progress.{Progress}
 use Rattle.store_calls.specs.StoreCalls.{store_meaning}
 use Rattle.xtc.specs.Book.{after_asked}
-use Rattle.xtc.specs.Commands.{Command, put, get}
+use Rattle.command_words.specs.Commands.{Command, put, get}
 use Rattle.xtc.specs.Documents.{asks_of, element_in, end_by, end_of, get_asks, label_in, label_line, put_asks, put_asks_of, reason_in, tree_in, tree_line}
 use Rattle.xtc.specs.DocumentsOnTree.{GetOnTree, PutOnTree}
 use Rattle.xtc.specs.TopCall.{AreFirst, DocumentRan, IsWhole, Leaves, OpenAfterAsked, OpenedStoreLeaves, Outcome, UnopenedStoreLeaves, tx_limit, whole_limit}

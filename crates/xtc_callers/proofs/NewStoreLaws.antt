@@ -25,7 +25,7 @@ use Rattle.command_lines.specs.declared.command.StoreCall.{StoreCall}
 use Rattle.session_driver.specs.Progress.{Progress}
 use Rattle.store_calls.specs.StoreCalls.{store_meaning}
 use Rattle.xtc.specs.Book.{script_of, replies_text}
-use Rattle.xtc.specs.Commands.{Command, run}
+use Rattle.command_words.specs.Commands.{Command, run}
 use Rattle.xtc.specs.TopCall.{Outcome, Leaves, OpenAfterLines, OpenedStoreLeaves, UnopenedStoreLeaves, ScriptRan, IsSilent, slack, tx_limit}
 use Rattle.xtc.specs.declared.status.Status.{Status}
 use Rattle.xtc.specs.declared.status.Status.TheVariants.{Done, Usage, LineTooLong, Damaged, ReadFault, WriteFault, DiskFault, NoMemory, NotJsonMl, DocumentRefused}

@@ -8,7 +8,7 @@ ghost use Rattle.tree_model.specs.declared.reply.Reply.TheVariants as reply;
 ghost use Rattle.jsonml_io.specs.declared.fragment_error.FragmentError.{FragmentError};
 ghost use Rattle.outside_kinds.specs.MemoryDisks.{history_of};
 ghost use Rattle.dewey_labels.specs.Labels.{Label};
-ghost use Rattle.xtc.specs.Commands.{command_of, get, put};
+ghost use Rattle.command_words.specs.Commands.{command_of, get, put};
 ghost use Rattle.xtc.specs.Documents.{element_in, tree_line};
 ghost use Rattle.xtc.specs.TopCall.{whole_limit};
 ghost use Rattle.xtc_callers.specs.NewDocuments.{PutBegun, PutDone, UnlessFailed, tree_of_document};

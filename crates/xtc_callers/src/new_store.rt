@@ -1,8 +1,8 @@
 // A caller of `xtc` over memory, and what it knows by the clauses: a script over the two empty files of a new store.
-ghost use Rattle.std.specs.Prelude.{◌≡◌, ◌≢◌, ◌↔◌, [], None, Some};
+ghost use Rattle.std.specs.Prelude.{◌≡◌, ◌≢◌, ◌⊎◌, [], None, Some};
 ghost use Rattle.node_records.specs.declared.open_error.Place.{Place};
 ghost use Rattle.outside_kinds.specs.MemoryDisks.{history_of, start};
-ghost use Rattle.xtc.specs.Commands.{command_of, run};
+ghost use Rattle.command_words.specs.Commands.{command_of, run};
 ghost use Rattle.xtc_callers.specs.NewStores.{ScriptDone, ScriptBegun};
 
 use dewey_labels::List;
@@ -30,7 +30,8 @@ pub fn run_new_store(alloc: Global, words: &Vec<String>, script: List<u8>) -> Me
     ensures begun { command_of words.now.items ≡ Some run → result.status ≢ Status.Usage
         → ScriptBegun result.status script result.sink.held (history_of result.journal) (history_of result.pages) }
     ensures not_damaged { (place : Place) → result.status ≢ Status.Damaged place }
-    ensures usage { (result.status ≡ Status.Usage) ↔ (command_of words.now.items ≡ None) }
+    ensures usage { result.status ≡ Status.Usage → command_of words.now.items ≡ None }
+    ensures other_words { command_of words.now.items ≡ None → (result.status ≡ Status.Usage) ⊎ (result.status ≡ Status.NoMemory) }
     ensures untouched { result.status ≡ Status.Usage
         → (result.sink.held ≡ []) × (history_of result.journal ≡ start []) × (history_of result.pages ≡ start []) }
 {

@@ -97,6 +97,18 @@ const ENDS: &[Case<'static>] = &[
         status: "10 Call(Dom(5))",
         ..PUT
     },
+    Case {
+        words: "put -- -x",
+        input: r#"["a"]"#,
+        status: "10 Call(Dom(5))",
+        ..PUT
+    },
+    Case {
+        words: "put -",
+        input: r#"["a"]"#,
+        status: "10 Call(Dom(5))",
+        ..PUT
+    },
     // The input isn't an element in JsonML.
     Case {
         input: "[1]",

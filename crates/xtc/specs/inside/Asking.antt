@@ -15,7 +15,8 @@ use Rattle.session_driver.specs.declared.doing.Doing.TheVariants.{Commit}
 use Rattle.store_calls.specs.StoreCalls.{IsValidStoreCall}
 use Rattle.tx_core.specs.Cores.{CoreView}
 use Rattle.xtc.specs.Book.{after_asked}
-use Rattle.xtc.specs.Commands.{Command, reads_input}
+use Rattle.command_words.specs.Commands.{Command}
+use Rattle.xtc.specs.Commands.{reads_input}
 use Rattle.xtc.specs.Documents.{asks, asks_of, element_in, reason_in, text_of}
 use Rattle.xtc.specs.Durable.{HoldState}
 use Rattle.xtc.specs.TopCall.{AreFirst, IsDocumentEnd, IsWithin, NeedsWhole, StopsAtRefusal, slack, whole_limit}

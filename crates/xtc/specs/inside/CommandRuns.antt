@@ -10,7 +10,8 @@ use Rattle.tree_model.specs.Tree.{Tree}
 use Rattle.node_seq.specs.Trees.{StandsFor}
 use Rattle.recovery.specs.Opened.{contents_of_files}
 use Rattle.script_runs.specs.Counts.{Counts, CountedWhere, DisksCountedWhere, ReadCountedWhere}
-use Rattle.xtc.specs.Commands.{Command, reads_input}
+use Rattle.command_words.specs.Commands.{Command}
+use Rattle.xtc.specs.Commands.{reads_input}
 use Rattle.xtc.specs.TopCall.{CommandRan, IsOfOpened, IsSilent, tx_limit}
 use Rattle.xtc.specs.declared.status.Status.{Status}
 use Rattle.xtc.specs.declared.status.Status.TheVariants.{Done, ReadFault, WriteFault, DiskFault}

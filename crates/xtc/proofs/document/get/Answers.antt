@@ -2,7 +2,7 @@ use Rattle.std.proofs.Common.{◌≡◌, ◌++◌, [], refl, ap, subst, ◌∙�
 use Rattle.std.specs.Prelude.{Option}
 use Rattle.dewey_labels.specs.Labels.{Label}
 use Rattle.command_lines.specs.declared.line_reply.LineReply.{LineReply}
-use Rattle.xtc.specs.Commands.{get}
+use Rattle.command_words.specs.Commands.{get}
 use Rattle.xtc.specs.Documents.{find_asks, dump_asks, get_asks, label_in}
 use Rattle.xtc.specs.inside.Asking.{AllAnswered, AskedInTurn, after, said}
 use Rattle.xtc.proofs.AskingLaws.{asked_behind, stopped_wider}

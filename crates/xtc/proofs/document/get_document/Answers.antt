@@ -1,6 +1,6 @@
 use Rattle.std.proofs.Common.{[], arith}
 use Rattle.call_contract.specs.States.{start}
-use Rattle.xtc.specs.Commands.{get}
+use Rattle.command_words.specs.Commands.{get}
 use Rattle.xtc.specs.TopCall.{tx_limit}
 use Rattle.xtc.proofs.DocumentLaws.{core_stands, may_begin, not_opened}
 use Rattle.xtc.proofs.document.get_document.Goals as goal

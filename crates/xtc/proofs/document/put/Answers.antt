@@ -2,7 +2,7 @@ use Rattle.std.proofs.Common.{[], refl, ap, subst, ◌∙◌, List}
 use Rattle.command_lines.specs.declared.line_reply.LineReply.{LineReply}
 use Rattle.command_lines.specs.declared.command.StoreCall.{StoreCall}
 use Rattle.session_driver.specs.Lines.{Asked}
-use Rattle.xtc.specs.Commands.{put}
+use Rattle.command_words.specs.Commands.{put}
 use Rattle.xtc.specs.Documents.{put_asks, put_asks_of, label_in, label_line}
 use Rattle.xtc.specs.declared.status.Status.TheVariants.{NoMemory}
 use Rattle.xtc.specs.inside.Asking.{AllAnswered, Stopped}

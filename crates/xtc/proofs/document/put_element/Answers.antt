@@ -1,5 +1,5 @@
 use Rattle.call_contract.specs.States.{start}
-use Rattle.xtc.specs.Commands.{put}
+use Rattle.command_words.specs.Commands.{put}
 use Rattle.xtc.specs.TopCall.{tx_limit}
 use Rattle.xtc.proofs.DocumentLaws.{core_stands, may_begin, not_opened}
 use Rattle.xtc.proofs.document.put_element.Goals as goal

@@ -1,6 +1,6 @@
 use Rattle.std.specs.Prelude.{Ok, Err}
 use Rattle.call_contract.specs.States.{start}
-use Rattle.xtc.specs.Commands.{put}
+use Rattle.command_words.specs.Commands.{put}
 use Rattle.xtc.specs.TopCall.{IsWhole, tx_limit}
 use Rattle.xtc.proofs.DocumentLaws.{input_done, input_err, not_had, not_judged, nothing_judged, read_within, stops_unwritten}
 use Rattle.xtc.proofs.document.put_input.Goals as goal

@@ -3,7 +3,7 @@ use Rattle.std.specs.Prelude.{Err, IfErr}
 use Rattle.outside_traits.specs.DiskPairs.{pair_of}
 use Rattle.outside_traits.proofs.Laws.{gave_none}
 use Rattle.call_contract.specs.States.{start}
-use Rattle.xtc.specs.Commands.{get}
+use Rattle.command_words.specs.Commands.{get}
 use Rattle.xtc.specs.TopCall.{WroteWhole, tx_limit}
 use Rattle.xtc.specs.declared.status.Status.TheVariants.{DiskFault}
 use Rattle.xtc.specs.declared.top_call.Finish.{Finish}

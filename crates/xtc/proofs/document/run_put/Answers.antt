@@ -2,7 +2,7 @@ use Rattle.std.proofs.Common.{◌≡◌, ℕ, refl, sym, subst}
 use Rattle.std.specs.Prelude.{Err}
 use Rattle.outside_traits.specs.DiskPairs.{pair_of}
 use Rattle.call_contract.specs.States.{start}
-use Rattle.xtc.specs.Commands.{put}
+use Rattle.command_words.specs.Commands.{put}
 use Rattle.xtc.specs.TopCall.{IsWhole, WroteWhole, tx_limit}
 use Rattle.xtc.specs.declared.status.Status.TheVariants.{DiskFault}
 use Rattle.xtc.specs.declared.top_call.Finish.{Finish}

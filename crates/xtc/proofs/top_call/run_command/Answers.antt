@@ -1,6 +1,6 @@
 use Rattle.std.proofs.Common.{ap, subst, sym}
 use Rattle.outside_traits.specs.DiskPairs.{pair_of}
-use Rattle.xtc.specs.Commands.{Command, meant}
+use Rattle.command_words.specs.Commands.{Command, meant}
 use Rattle.xtc.specs.inside.CommandRuns.{Input, Output, Disks, RunsCommand}
 use Rattle.xtc.proofs.top_call.run_command.Goals as goal
 

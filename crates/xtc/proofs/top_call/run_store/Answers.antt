@@ -2,7 +2,7 @@ use Rattle.std.proofs.Common.{◌≡◌, ◌&&◌, refl, sym, subst, ap, ◌∙�
 use Rattle.std.specs.Prelude.{Some}
 use Rattle.outside_traits.specs.DiskPairs.{pair_of}
 use Rattle.script_runs.specs.Machine.{IsReady}
-use Rattle.xtc.specs.Commands.{run}
+use Rattle.command_words.specs.Commands.{run}
 use Rattle.xtc.specs.StoreMachine.{KeptStore, store_machine}
 use Rattle.xtc.specs.TopCall.{tx_limit}
 use Rattle.xtc.specs.declared.top_call.Finish.{Finish}

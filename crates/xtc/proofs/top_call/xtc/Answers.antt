@@ -1,4 +1,4 @@
-use Rattle.std.proofs.Common.{◌≡◌, ◌-◌, ◌∙◌, arith, [], Option, refl, sym, ap, subst, add-zero, Some, Ok}
+use Rattle.std.proofs.Common.{◌≡◌, ◌-◌, ◌∙◌, arith, [], Option, refl, sym, ap, subst, add-zero, Some, Ok, Err}
 use Rattle.outside_traits.specs.DiskPairs.{Pair, pair_of}
 use Rattle.outside_traits.specs.Disks.{all_synced}
 use Rattle.outside_traits.proofs.Laws.{gave_none}
@@ -6,18 +6,14 @@ use Rattle.node_seq.specs.Trees.{StandsFor}
 use Rattle.recovery.specs.Trees.{StandFor}
 use Rattle.recovery.proofs.CommitLaws.{pages_empty}
 use Rattle.script_runs.specs.Counts.{Counts, DisksCountedWhere}
-use Rattle.xtc.specs.declared.status.Status.TheVariants.{DiskFault}
-use Rattle.xtc.specs.Commands.{Command, command_of, meant, reads_input}
+use Rattle.xtc.specs.declared.status.Status.TheVariants.{Done, Damaged, DiskFault}
+use Rattle.command_words.specs.Commands.{Command, command_of, meant}
+use Rattle.xtc.specs.Commands.{reads_input}
 use Rattle.xtc.specs.TopCall.{Outcome, Leaves, OpenedStoreLeaves, IsSilent, tx_limit}
-use Rattle.xtc.proofs.StatusLaws.{beside_none, nothing_read, unopened_leaves, unopened_not_done, unopened_silent, opened_leaves, opened_unread, opened_not_damaged, damaged_of, cause_of, no_fault}
+use Rattle.xtc.proofs.StatusLaws.{beside_none, refused_leaves, refused_silent, refused_not, refused_as, words_usage, nothing_read, unopened_leaves, unopened_not_done, unopened_silent, opened_leaves, opened_unread, opened_not_damaged, damaged_of, cause_of, no_fault}
 use Rattle.xtc.proofs.top_call.xtc.Goals as goal
 
--- ---- the words were no command
-
-pub returns-in_default-clause-input : goal.returns-in_default-clause-input
-returns-in_default-clause-input g c = record { whole = λ reads done. absurd cc; unread = (refl, refl); bound = omega arith }
-
--- ---- the store wasn't opened
+-- ---- the words gave no command
 
 pub returns-in-Err-clause-leaves : goal.returns-in-Err-clause-leaves
 returns-in-Err-clause-leaves g c = (
@@ -25,7 +21,50 @@ returns-in-Err-clause-leaves g c = (
   gave_none _,
   sym (add-zero _),
   λ kj kp.
-      let refused = c.in-Err.field-0 in
+      let held = g.K.Sink.held c.args.sink.now in
+      let files = pair_of (g.J.Disk.history c.args.journal) (g.P.Disk.history c.args.pages) in
+      let o : Outcome = record {
+        read = [];
+        asked = g.S.Source.asked c.args.source.now - g.S.Source.given c.args.source.now;
+        left = g.S.Source.left c.args.source.now;
+        before = held;
+        now = held;
+        old = files;
+        new = files;
+      } in
+      subst (λ status. Leaves tx_limit (command_of c.args.words.now.items) status o) (sym c.from.ensures) (refused_leaves tx_limit (command_of c.args.words.now.items) o c.in-Err.error refl refl refl),
+)
+
+pub returns-in-Err-clause-silent : goal.returns-in-Err-clause-silent
+returns-in-Err-clause-silent g c =
+    let held = g.K.Sink.held c.args.sink.now in
+    subst (λ status. IsSilent (command_of c.args.words.now.items) status (held ≡ held)) (sym c.from.ensures) (refused_silent (command_of c.args.words.now.items) c.in-Err.error (held ≡ held) refl)
+
+pub returns-in-Err-clause-input : goal.returns-in-Err-clause-input
+returns-in-Err-clause-input g c = record {
+  whole = λ reads done. absurd (refused_not c.in-Err.error Done refl (sym c.from.ensures ∙ done));
+  unread = nothing_read c.from.result (g.S.Source.left c.args.source.now) (g.S.Source.left c.args.source.now) (g.S.Source.given c.args.source.now) (g.S.Source.given c.args.source.now) refl refl;
+  bound = omega arith;
+}
+
+pub returns-in-Err-clause-damaged : goal.returns-in-Err-clause-damaged
+returns-in-Err-clause-damaged g c = λ place is. absurd (refused_not c.in-Err.error (Damaged place) refl (sym c.from.ensures ∙ is))
+
+pub returns-in-Err-clause-usage : goal.returns-in-Err-clause-usage
+returns-in-Err-clause-usage g c = (
+  λ is. c.in-Err.ensures.usage (ap Err (words_usage c.in-Err.error (sym c.from.ensures ∙ is))),
+  λ none. (refused_as c.from.result c.in-Err.error c.from.ensures, refl, refl),
+)
+
+-- ---- the store wasn't opened
+
+pub returns-in-Err-open_store-clause-leaves : goal.returns-in-Err-open_store-clause-leaves
+returns-in-Err-open_store-clause-leaves g c = (
+  [],
+  gave_none _,
+  sym (add-zero _),
+  λ kj kp.
+      let refused = c.in-Err-open_store.field-0 in
       let held = g.K.Sink.held c.args.sink.now in
       let o : Outcome = record {
         read = [];
@@ -36,43 +75,43 @@ returns-in-Err-clause-leaves g c = (
         old = pair_of (g.J.Disk.history c.args.journal) (g.P.Disk.history c.args.pages);
         new = pair_of (g.J.Disk.history refused.journal) (g.P.Disk.history refused.pages);
       } in
-      subst (λ status. Leaves tx_limit (command_of c.args.words.now.items) status o) (sym c.from.ensures) (unopened_leaves tx_limit (command_of c.args.words.now.items) o refused.fault (record { read = refl; silent = refl; any_moment = (c.in-Err.ensures.any_moment kj kp).any_moment; left = (c.in-Err.ensures.any_moment kj kp).left })),
+      subst (λ status. Leaves tx_limit (command_of c.args.words.now.items) status o) (sym c.from-in-Err-open_store.ensures) (unopened_leaves tx_limit (command_of c.args.words.now.items) o refused.fault (record { read = refl; silent = refl; any_moment = (c.in-Err-open_store.ensures.any_moment kj kp).any_moment; left = (c.in-Err-open_store.ensures.any_moment kj kp).left })),
 )
 
-pub returns-in-Err-clause-silent : goal.returns-in-Err-clause-silent
-returns-in-Err-clause-silent g c =
+pub returns-in-Err-open_store-clause-silent : goal.returns-in-Err-open_store-clause-silent
+returns-in-Err-open_store-clause-silent g c =
     let held = g.K.Sink.held c.args.sink.now in
-    subst (λ status. IsSilent (command_of c.args.words.now.items) status (held ≡ held)) (sym c.from.ensures) (unopened_silent (command_of c.args.words.now.items) c.in-Err.field-0.fault (held ≡ held) refl)
+    subst (λ status. IsSilent (command_of c.args.words.now.items) status (held ≡ held)) (sym c.from-in-Err-open_store.ensures) (unopened_silent (command_of c.args.words.now.items) c.in-Err-open_store.field-0.fault (held ≡ held) refl)
 
-pub returns-in-Err-clause-input : goal.returns-in-Err-clause-input
-returns-in-Err-clause-input g c = record {
-  whole = λ reads done. absurd (unopened_not_done c.in-Err.field-0.fault (sym c.from.ensures ∙ done));
-  unread = nothing_read c.from.result (g.S.Source.left c.args.source.now) (g.S.Source.left c.args.source.now) (g.S.Source.given c.args.source.now) (g.S.Source.given c.args.source.now) refl refl;
+pub returns-in-Err-open_store-clause-input : goal.returns-in-Err-open_store-clause-input
+returns-in-Err-open_store-clause-input g c = record {
+  whole = λ reads done. absurd (unopened_not_done c.in-Err-open_store.field-0.fault (sym c.from-in-Err-open_store.ensures ∙ done));
+  unread = nothing_read c.from-in-Err-open_store.result (g.S.Source.left c.args.source.now) (g.S.Source.left c.args.source.now) (g.S.Source.given c.args.source.now) (g.S.Source.given c.args.source.now) refl refl;
   bound = omega arith;
 }
 
-pub returns-in-Err-clause-damaged : goal.returns-in-Err-clause-damaged
-returns-in-Err-clause-damaged g c = λ place is. damaged_of _ _ c.in-Err.field-0.fault place c.in-Err.ensures.reason (sym c.from.ensures ∙ is)
+pub returns-in-Err-open_store-clause-damaged : goal.returns-in-Err-open_store-clause-damaged
+returns-in-Err-open_store-clause-damaged g c = λ place is. damaged_of _ _ c.in-Err-open_store.field-0.fault place c.in-Err-open_store.ensures.reason (sym c.from-in-Err-open_store.ensures ∙ is)
 
 -- ---- the script ran
 
-pub returns-in-Ok-clause-leaves : goal.returns-in-Ok-clause-leaves
-returns-in-Ok-clause-leaves g c =
+pub returns-in-Ok-open_store-clause-leaves : goal.returns-in-Ok-open_store-clause-leaves
+returns-in-Ok-open_store-clause-leaves g c =
     let run = c.run_command.ensures.ran in (
       run.0,
       run.1,
       run.2,
       λ kj kp.
-          let store = c.in-Ok.store in
-          let stored = c.in-Ok.ensures.tree in
+          let store = c.in-Ok-open_store.store in
+          let stored = c.in-Ok-open_store.ensures.tree in
           let t = stored.tree in
           let status = c.run_command.result.status in
           let old : Pair = pair_of (g.J.Disk.history c.args.journal) (g.P.Disk.history c.args.pages) in
           let opening : Pair = pair_of store.journal.history (g.P.Disk.history store.pages) in
-          let opens = c.in-Ok.ensures.opens kj kp in
+          let opens = c.in-Ok-open_store.ensures.opens kj kp in
           let stand : StandFor old.journal.now.reads old.pages.now.reads t store.number = record { is_valid_tree = stored.is_valid_tree; opens = opens.stood ∙ ap (λ es. Ok (record { entries = es; number = store.number })) (sym stored.map) } in
           let is : StandsFor (Some store.base) t = record { valid = stored.is_valid_tree; map = ap Some (sym stored.map) } in
-          let none : opening.pages.now ≡ all_synced [] = c.in-Ok.ensures.synced.pages kp ∙ ap all_synced (pages_empty _ _ _ opens.stood) in
+          let none : opening.pages.now ≡ all_synced [] = c.in-Ok-open_store.ensures.synced.pages kp ∙ ap all_synced (pages_empty _ _ _ opens.stood) in
           let o : Outcome = record {
             read = run.0;
             asked = g.S.Source.asked c.run_command.new.source - g.S.Source.given c.args.source.now;
@@ -82,48 +121,48 @@ returns-in-Ok-clause-leaves g c =
             old = old;
             new = pair_of (g.J.Disk.history c.run_command.result.journal) (g.P.Disk.history c.run_command.result.pages);
           } in
-          let leaves : OpenedStoreLeaves tx_limit (Some (meant c.in-Some.command)) status o = record {
+          let leaves : OpenedStoreLeaves tx_limit (Some (meant c.in-Ok.command)) status o = record {
             tree = t;
             number = store.number;
             stood = stand;
             opening = opening;
-            until_open = c.in-Ok.ensures.any_moment kj kp;
-            ran = run.3 kj kp (c.in-Ok.ensures.synced.journal kj).synced none (beside_none _ _ _ opens.stands) t is old;
+            until_open = c.in-Ok-open_store.ensures.any_moment kj kp;
+            ran = run.3 kj kp (c.in-Ok-open_store.ensures.synced.journal kj).synced none (beside_none _ _ _ opens.stands) t is old;
           } in
           opened_leaves tx_limit (command_of c.args.words.now.items) status o c.run_command.ensures.opened
-          (subst (λ (command : Option Command). OpenedStoreLeaves tx_limit command status o) c.in-Some.ensures leaves),
+          (subst (λ (command : Option Command). OpenedStoreLeaves tx_limit command status o) (sym c.in-Ok.ensures.ok) leaves),
     )
 
-pub returns-in-Ok-clause-input : goal.returns-in-Ok-clause-input
-returns-in-Ok-clause-input g c = record {
-  whole = λ reads. c.run_command.ensures.whole (ap reads_input c.in-Some.ensures ∙ reads);
+pub returns-in-Ok-open_store-clause-input : goal.returns-in-Ok-open_store-clause-input
+returns-in-Ok-open_store-clause-input g c = record {
+  whole = λ reads. c.run_command.ensures.whole (ap reads_input (sym c.in-Ok.ensures.ok) ∙ reads);
   unread = opened_unread c.run_command.result.status _ c.run_command.ensures.opened;
   bound = c.run_command.ensures.bound;
 }
 
-pub returns-in-Ok-clause-silent : goal.returns-in-Ok-clause-silent
-returns-in-Ok-clause-silent g c =
-    subst (λ (command : Option Command). IsSilent command c.run_command.result.status (g.K.Sink.held c.run_command.new.sink ≡ g.K.Sink.held c.args.sink.now)) c.in-Some.ensures c.run_command.ensures.silent
+pub returns-in-Ok-open_store-clause-silent : goal.returns-in-Ok-open_store-clause-silent
+returns-in-Ok-open_store-clause-silent g c =
+    subst (λ (command : Option Command). IsSilent command c.run_command.result.status (g.K.Sink.held c.run_command.new.sink ≡ g.K.Sink.held c.args.sink.now)) (sym c.in-Ok.ensures.ok) c.run_command.ensures.silent
 
-pub returns-in-Ok-clause-damaged : goal.returns-in-Ok-clause-damaged
-returns-in-Ok-clause-damaged g c = λ place is. absurd (opened_not_damaged c.run_command.result.status place c.run_command.ensures.opened is)
+pub returns-in-Ok-open_store-clause-damaged : goal.returns-in-Ok-open_store-clause-damaged
+returns-in-Ok-open_store-clause-damaged g c = λ place is. absurd (opened_not_damaged c.run_command.result.status place c.run_command.ensures.opened is)
 
 -- ---- the counts of faults
 
-pub returns-in-Err-clause-disk : goal.returns-in-Err-clause-disk
-returns-in-Err-clause-disk g c =
-    let later = c.in-Err.ensures.counts.later in
-    let fault = c.in-Err.field-0.fault in
+pub returns-in-Err-open_store-clause-disk : goal.returns-in-Err-open_store-clause-disk
+returns-in-Err-open_store-clause-disk g c =
+    let later = c.in-Err-open_store.ensures.counts.later in
+    let fault = c.in-Err-open_store.field-0.fault in
     record {
-      counted = λ is. record { one = cause_of _ _ fault c.in-Err.ensures.reason (sym c.from.ensures ∙ is); journal = later.0; pages = later.1 };
-      exact = λ no. let same = no_fault fault _ (λ e. no (c.from.ensures ∙ e)) c.in-Err.ensures.counts.uncounted in λ i. record { journal = same.0 i; pages = same.1 i };
+      counted = λ is. record { one = cause_of _ _ fault c.in-Err-open_store.ensures.reason (sym c.from-in-Err-open_store.ensures ∙ is); journal = later.0; pages = later.1 };
+      exact = λ no. let same = no_fault fault _ (λ e. no (c.from-in-Err-open_store.ensures ∙ e)) c.in-Err-open_store.ensures.counts.uncounted in λ i. record { journal = same.0 i; pages = same.1 i };
     }
 
-pub returns-in-Ok-clause-disk : goal.returns-in-Ok-clause-disk
-returns-in-Ok-clause-disk g c =
+pub returns-in-Ok-open_store-clause-disk : goal.returns-in-Ok-open_store-clause-disk
+returns-in-Ok-open_store-clause-disk g c =
     let run = c.run_command.ensures.disk in
-    let opened = c.in-Ok.ensures.counts in
+    let opened = c.in-Ok-open_store.ensures.counts in
     let before : Counts = record { journal = g.J.Disk.faults c.args.journal; pages = g.P.Disk.faults c.args.pages } in
-    let opening : Counts = record { journal = c.in-Ok.store.journal.faults; pages = g.P.Disk.faults c.in-Ok.store.pages } in
+    let opening : Counts = record { journal = c.in-Ok-open_store.store.journal.faults; pages = g.P.Disk.faults c.in-Ok-open_store.store.pages } in
     let same : opening ≡ before = λ i. record { journal = opened.0 i; pages = opened.1 i } in
     subst (λ (counts : Counts). DisksCountedWhere (c.run_command.result.status ≡ DiskFault) counts (record { journal = g.J.Disk.faults c.run_command.result.journal; pages = g.P.Disk.faults c.run_command.result.pages })) same run

@@ -1,6 +1,6 @@
 use Rattle.std.proofs.Common.{Some, refl, ap}
 use Rattle.outside_kinds.specs.Memory.{SinkInMemory}
-use Rattle.xtc.specs.Commands.{command_of}
+use Rattle.command_words.specs.Commands.{command_of}
 use Rattle.xtc_callers.proofs.NewDocumentLaws.{got_document, put_of}
 use Rattle.xtc_callers.proofs.new_document.put_and_get.Goals as goal
 

@@ -5,7 +5,7 @@ use Rattle.tree_model.specs.Tree.{empty_tree}
 use Rattle.node_records.specs.declared.open_error.Place.{Place}
 use Rattle.outside_kinds.specs.Memory.{SinkInMemory, SourceInMemory}
 use Rattle.outside_kinds.specs.MemoryDisks.{history_of, start}
-use Rattle.xtc.specs.Commands.{command_of, put}
+use Rattle.command_words.specs.Commands.{command_of, put}
 use Rattle.xtc.specs.TopCall.{tx_limit}
 use Rattle.xtc.specs.declared.status.Status.TheVariants.{Damaged, Usage}
 use Rattle.xtc_callers.proofs.NewDocumentLaws.{put_begun, put_done, put_no_element, put_not_json}
@@ -27,7 +27,7 @@ returns c =
     let not_place : (place : Place) → status ≡ Damaged place → ⊥
     = λ place is. not_damaged empty _ _ place empty_journal empty_pages (c.xtc-status.ensures.damaged place is refl refl) in
     let not_usage : (name : Name) → command ≡ Some (put name) → status ≡ Usage → ⊥
-    = λ name named is. let no : Some (put name) ≡ None = sym named ∙ c.xtc-status.ensures.usage.0.0 is in cc in
+    = λ name named is. let no : Some (put name) ≡ None = sym named ∙ c.xtc-status.ensures.usage.0 is in cc in
     record {
       not_json = λ name why named is. put_not_json empty name _ c.args.input _ _ input_is run.1 held_is refl empty_journal empty_pages command status why named is (run.3 refl refl);
       no_element = λ name why named none short.

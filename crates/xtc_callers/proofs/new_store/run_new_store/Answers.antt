@@ -28,10 +28,11 @@ returns c =
           c.faults.ensures.reads_an_image c.faults-2.ensures.reads_an_image _ c.xtc-status.result.status named not_usage not_place (run.3 refl refl);
       not_damaged = not_place;
       usage = c.xtc-status.ensures.usage.0;
+      other_words = λ none. (c.xtc-status.ensures.usage.1 none).0;
       untouched = λ is.
-          let files = c.xtc-status.ensures.usage.1 is in (
+          let files = c.xtc-status.ensures.usage.1 (c.xtc-status.ensures.usage.0 is) in (
             same_Some _ _ (silent_at_usage _ _ _ is c.xtc-status.ensures.silent ∙ held_is),
-            ap history_of files.0 ∙ journal_is,
-            ap history_of files.1 ∙ pages_is,
+            ap history_of files.1 ∙ journal_is,
+            ap history_of files.2 ∙ pages_is,
           );
     }
