@@ -514,7 +514,7 @@ fn each_piece_and_fault_leaves_its_prefix_of_the_text(rt: HostRuntime) -> Result
 /// Words that are no command.
 const OTHERS: &[&str] = &[
     "", "Run", "run x", "--help", "run ", " run", "put", "get", "Put x", "put x y", "get x y",
-    "put -x", "get --", "x put", "-- run", "run --frames 1", "run --checkpoint=0",
+    "put -x", "get --", "x put", "-- run", "run --f", "run -f",
 ];
 
 fn is_usage(rt: &impl Abort, alloc: Global, words: &str) -> Result<(), Fail> {
