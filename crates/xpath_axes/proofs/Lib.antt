@@ -6,3 +6,5 @@ mod NodeWalks
 mod SingleLooks
 mod ReadCounts
 mod TreeLooks
+pub mod Running
+mod LabelWays

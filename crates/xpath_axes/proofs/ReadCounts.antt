@@ -25,3 +25,7 @@ reads_on first read after before found out most h e m s = let n = met_length bef
 pub reads_at_end : (first read : ℕ) (before found : List Position) (out all : List path.Position) → read + length before ≤ first + (length found + 1) → all_plain found ≡ all_plain before ++ out
     → out ≡ all → read ≤ first + (length all + 1)
 reads_at_end first read before found out all h e w = let n = met_length before found out e in let m = ap length w in omega (arith, h, n, m)
+
+pub plain_append : (ps qs : List Position) → all_plain (ps ++ qs) ≡ all_plain ps ++ all_plain qs
+plain_append [] qs = refl
+plain_append (p ∷ ps) qs = ap (λ (xs : List path.Position). plain p ∷ xs) (plain_append ps qs)

@@ -1,5 +1,7 @@
 -- words of public clauses
 pub mod LookReads
+pub mod Looks
 pub mod Positions
+pub mod Runs
 -- words that only private clauses use
 pub mod inside

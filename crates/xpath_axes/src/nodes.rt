@@ -80,13 +80,13 @@ pub fn at_tree<S: NodeRead>(
 
 /// Which of the nodes below a node a walk meets.
 #[derive(Debug, Drop, Clone, Copy)]
-enum Reach {
+pub(crate) enum Reach {
     Children,
     Descendants,
 }
 
 /// Puts the nodes below a node behind those before. One read a node and one more.
-fn below<S: NodeRead>(
+pub(crate) fn below<S: NodeRead>(
     alloc: Global,
     at: &Label,
     reach: Reach,

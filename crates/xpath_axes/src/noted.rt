@@ -1,0 +1,110 @@
+//! The looks at a map, each noted before it is made.
+ghost use Rattle.std.specs.Prelude.{◌≡◌, ◌++◌, drop};
+ghost use Rattle.outside_traits.specs.Faults.{HasCause};
+ghost use Rattle.path_model.specs.Programs.{ends, looks as then_looks};
+ghost use Rattle.path_model.specs.Programs as look;
+ghost use Rattle.xpath_axes.specs.Positions.{all_plain};
+ghost use Rattle.xpath_axes.specs.Runs.{Runs};
+
+use crate::nodes::{Reach, below, is_root};
+use crate::{Look, Looks, Position, at_attribute, at_attributes, at_node, at_row, at_tree};
+use dewey_labels::{Label, List, Text};
+use node_seq::{NodeRead, SeqError};
+use std::alloc::Global;
+
+/// The node with a label, if there is one. One read.
+pub fn see_node<S: NodeRead, W: Looks>(
+    alloc: Global,
+    at: &Label,
+    seq: &mut S,
+    looks: &mut W,
+) -> Result<List<Position>, SeqError>
+    ensures run { Runs S.reads W.saw S.contents (then_looks (look.at_node at.now) ends) all_plain seq.old looks.old result seq.new looks.new }
+    ensures unchanged { S.unchanged seq.old seq.new }
+    ensures cause { HasCause SeqError.DiskFault (S.count seq.old) (S.count seq.new) result }
+{
+    looks.note(alloc, Look::Node(at))?;
+    at_node(alloc, at, seq)
+}
+
+/// The children of a node. One read a child and one more.
+pub fn see_row<S: NodeRead, W: Looks>(
+    alloc: Global,
+    at: &Label,
+    seq: &mut S,
+    looks: &mut W,
+) -> Result<List<Position>, SeqError>
+    ensures run { Runs S.reads W.saw S.contents (then_looks (look.at_row at.now) ends) all_plain seq.old looks.old result seq.new looks.new }
+    ensures unchanged { S.unchanged seq.old seq.new }
+    ensures cause { HasCause SeqError.DiskFault (S.count seq.old) (S.count seq.new) result }
+{
+    looks.note(alloc, Look::Row(at))?;
+    at_row(alloc, at, seq)
+}
+
+/// A node and all that lie under it. One read a node and one more.
+pub fn see_tree<S: NodeRead, W: Looks>(
+    alloc: Global,
+    at: &Label,
+    seq: &mut S,
+    looks: &mut W,
+) -> Result<List<Position>, SeqError>
+    ensures run { Runs S.reads W.saw S.contents (then_looks (look.at_tree at.now) ends) all_plain seq.old looks.old result seq.new looks.new }
+    ensures unchanged { S.unchanged seq.old seq.new }
+    ensures cause { HasCause SeqError.DiskFault (S.count seq.old) (S.count seq.new) result }
+{
+    looks.note(alloc, Look::Tree(at))?;
+    at_tree(alloc, at, seq)
+}
+
+/// Puts all nodes under a node behind those before. One read a node and one more.
+pub(crate) fn see_below<S: NodeRead, W: Looks>(
+    alloc: Global,
+    at: &Label,
+    before: List<Position>,
+    seq: &mut S,
+    looks: &mut W,
+) -> Result<List<Position>, SeqError>
+    ensures run { Runs S.reads W.saw S.contents (then_looks (look.at_tree at.now) (λ s. ends (all_plain before ++ drop 1 s))) all_plain
+        seq.old looks.old result seq.new looks.new }
+    ensures unchanged { S.unchanged seq.old seq.new }
+    ensures cause { HasCause SeqError.DiskFault (S.count seq.old) (S.count seq.new) result }
+{
+    looks.note(alloc, Look::Tree(at))?;
+    // The root is no node: below it lie the documents.
+    if is_root(at) {
+        return Ok(before);
+    }
+    below(alloc, at, Reach::Descendants, before, seq)
+}
+
+/// All attributes of a node. One read an attribute and one more.
+pub(crate) fn see_attributes<S: NodeRead, W: Looks>(
+    alloc: Global,
+    at: &Label,
+    seq: &mut S,
+    looks: &mut W,
+) -> Result<List<Position>, SeqError>
+    ensures run { Runs S.reads W.saw S.contents (then_looks (look.at_attributes at.now) ends) all_plain seq.old looks.old result seq.new looks.new }
+    ensures unchanged { S.unchanged seq.old seq.new }
+    ensures cause { HasCause SeqError.DiskFault (S.count seq.old) (S.count seq.new) result }
+{
+    looks.note(alloc, Look::Attributes(at))?;
+    at_attributes(alloc, at, seq)
+}
+
+/// The attribute of a node with a name, if there is one. One read.
+pub(crate) fn see_attribute<S: NodeRead, W: Looks>(
+    alloc: Global,
+    at: &Label,
+    name: &Text,
+    seq: &mut S,
+    looks: &mut W,
+) -> Result<List<Position>, SeqError>
+    ensures run { Runs S.reads W.saw S.contents (then_looks (look.at_attribute at.now name.now) ends) all_plain seq.old looks.old result seq.new looks.new }
+    ensures unchanged { S.unchanged seq.old seq.new }
+    ensures cause { HasCause SeqError.DiskFault (S.count seq.old) (S.count seq.new) result }
+{
+    looks.note(alloc, Look::Attribute(at, name))?;
+    at_attribute(alloc, at, name, seq)
+}
