@@ -1,0 +1,4 @@
+mod Parts
+mod Chains
+mod Opened
+mod Orders

@@ -1,0 +1,371 @@
+use Rattle.std.proofs.Common.{◌≡◌, ◌+◌, ◌-◌, if◌then◌else◌, List, [], ◌∷◌, ◌++◌, length, take, drop, map, slice_index_or, refl, sym, ap, subst, ◌∙◌, arith}
+use Rattle.std.specs.List.{filter}
+use Rattle.std.proofs.lemmas.List.{drop_more}
+use Rattle.outside_traits.specs.Faults.{HasCause}
+use Rattle.node_seq.specs.declared.node_read.SeqError.TheVariants.{DiskFault}
+use Rattle.path_model.specs.declared.path.Expr.{Expr}
+use Rattle.path_model.specs.declared.path.Op.TheVariants.{Or}
+use Rattle.path_model.specs.declared.path.Step.{Step}
+use Rattle.path_model.specs.declared.path.XPath.{out-XPath}
+use Rattle.path_model.specs.AxisPrograms.{along}
+use Rattle.path_model.specs.Evaluation as program
+use Rattle.path_model.specs.Evaluation.{in_order, kept_by, operands, settled, taken, filtered, start}
+use Rattle.path_model.specs.Functions.{Value, Context, keeps}
+use Rattle.path_model.specs.Paths as paths
+use Rattle.path_model.specs.PlainPaths.{plain, plain_row, plain_way}
+use Rattle.path_model.specs.Positions.{Position, passes}
+use Rattle.path_model.specs.Programs.{Program, ends, and_then, gathered}
+use Rattle.path_model.specs.Values.{nodes, flag, truth, same_flag}
+use Rattle.xpath_axes.specs.Positions.{all_plain}
+use Rattle.xpath_axes.specs.Positions as position
+use Rattle.xpath_axes.proofs.Running.{left_is, begins, goes, ended, each_goes, item_next, runs_as, and_then-ends, and_then-and_then}
+use Rattle.xpath_eval.specs.Values.{meant, all_meant}
+use Rattle.xpath_eval.specs.inside.Chains.{both, chain_from, chain_of, linked}
+use Rattle.xpath_eval.specs.inside.Contexts.{stands}
+use Rattle.xpath_eval.specs.inside.Steps.{from_node}
+use Rattle.xpath_eval.proofs.Chains.{grouped_is, apply_is}
+use Rattle.xpath_eval.proofs.Opened.{plain_append, plain_length, step_is, path_is, apply_opened, first_is, drop_all, chain_done, meant_pushed, operands_next, kept_next}
+use Rattle.xpath_eval.proofs.Parts.{later, run_is, answer_is, made_of, one_by_one, each_starts, on_tree}
+use Rattle.xpath_eval.proofs.expressions.+evaluation.Goals as goal
+
+pub apply-returns-in_ok-values-in_default : goal.apply-returns-in_ok-values-in_default
+apply-returns-in_ok-values-in_default g t c =
+    let reads = g.S.NodeRead.reads in
+    let saw = g.W.Looks.saw in
+    let nothing = g.met.W.Looks.saw_nothing in
+    let further = g.met.W.Looks.saw_further in
+    let seqs = g.met.S.NodeRead in
+    let es = plain_row c.args.operands.now in
+    let k = stands c.args.context.now in
+    let o = c.args.op in
+    let one = c.in_ok-values-in_default.ensures in
+    let two = c.applied.ensures in
+    record {
+      run = on_tree _ _ _ _ c.applied.result (λ u a stands_for h.
+          run_is reads saw u (apply_is o es k c.in_default.not-Or c.in_default.not-And)
+          (one_by_one reads saw u nothing further (operands es k) (λ us. program.applied o us k) (one.run u stands_for)
+          (run_is reads saw u (ap (λ vs. program.applied o (all_meant vs) k) c.as_slice.ensures) (h (later _ _ u (seqs.unchanged_contents _ _ one.unchanged) stands_for))))) two.run;
+      unchanged = seqs.unchanged_onward _ _ _ one.unchanged two.unchanged;
+      cause = subst (λ n. HasCause DiskFault n (g.S.NodeRead.count c.applied.new.seq) c.applied.result) one.cause.exact two.cause;
+    }
+
+pub link-returns-clause-run : goal.link-returns-clause-run
+link-returns-clause-run g t c =
+    let reads = g.S.NodeRead.reads in
+    let saw = g.W.Looks.saw in
+    let nothing = g.met.W.Looks.saw_nothing in
+    let further = g.met.W.Looks.saw_further in
+    let seqs = g.met.S.NodeRead in
+    let v = meant c.args.left in
+    let e = plain c.args.operand.now in
+    let k = stands c.args.context.now in
+    let o = c.args.op in
+    let one = c.in_ok-right.ensures in
+    on_tree _ _ _ _ c.both.result (λ u a stands_for h.
+    run_is reads saw u (ap (λ b. if b then ends (flag (truth v)) else and_then (program.value e k) (λ z. both o v z k)) (sym c.if-is_decided.false ∙ c.is_decided.ensures))
+    (one_by_one reads saw u nothing further (program.value e k) (λ z. both o v z k) (one.run u stands_for) (h (later _ _ u (seqs.unchanged_contents _ _ one.unchanged) stands_for)))) c.both.ensures.run
+
+pub chain-loop-index-init : goal.chain-loop-index-init
+chain-loop-index-init g t c =
+    let reads = g.S.NodeRead.reads in
+    let saw = g.W.Looks.saw in
+    let nothing = g.met.W.Looks.saw_nothing in
+    let further = g.met.W.Looks.saw_further in
+    let seqs = g.met.S.NodeRead in
+    let rest : List Expr = take (length c.args.operands.now - 1) (drop 1 c.args.operands.now) in
+    let x = c.first-item.result in
+    let k = stands c.args.context.now in
+    let ops = c.args.operators.now in
+    let long = c.in-len1-up.len_at_least in
+    record {
+      same = c.in_ok-left.ensures.unchanged;
+      counted = c.in_ok-left.ensures.cause.exact;
+      left = λ u stands_for.
+          goes reads saw u nothing further (program.value (plain x) k) (λ v. chain_from v ops (map plain rest) k)
+          (left_is reads saw u (ap (λ es. chain_of es ops k) (first_is c.args.operands.now x long c.first-item.is) ∙ grouped_is (plain x) ops (map plain rest) k)
+          (begins reads saw u nothing further (chain_of c.args.operands.now ops k) c.args.seq.now c.args.looks.now)) (c.in_ok-left.ensures.run u stands_for);
+    }
+
+pub chain-loop-index-preserved : goal.chain-loop-index-preserved
+chain-loop-index-preserved g t c =
+    let reads = g.S.NodeRead.reads in
+    let saw = g.W.Looks.saw in
+    let nothing = g.met.W.Looks.saw_nothing in
+    let further = g.met.W.Looks.saw_further in
+    let seqs = g.met.S.NodeRead in
+    let rest : List Expr = take (length c.args.operands.now - 1) (drop 1 c.args.operands.now) in
+    let i = c.loop-index.index in
+    let inv = c.loop-index.invariant in
+    let x = c.index-rest-index.result in
+    let k = stands c.args.context.now in
+    let ops = c.args.operators.now in
+    let o = slice_index_or ops i Or in
+    let v = meant c.loop-index.left in
+    record {
+      same = seqs.unchanged_onward _ _ _ inv.same c.in_ok-left-2.ensures.unchanged;
+      counted = c.in_ok-left-2.ensures.cause.exact ∙ inv.counted;
+      left = λ u stands_for.
+          goes reads saw u nothing further (linked o v (plain x) k) (λ z. chain_from z (drop (i + 1) ops) (map plain (drop (i + 1) rest)) k)
+          (left_is reads saw u (ap (λ os. chain_from v os (map plain (drop i rest)) k) (drop_more ops i Or (omega arith)) ∙ ap (λ es. chain_from v (o ∷ drop (i + 1) ops) (map plain es) k) (item_next rest i x (omega arith) c.index-rest-index.is))
+          (inv.left u stands_for)) (c.in_ok-left-2.ensures.run u (later _ _ u (seqs.unchanged_contents _ _ inv.same) stands_for));
+    }
+
+pub chain-returns-clause-run : goal.chain-returns-clause-run
+chain-returns-clause-run g t c =
+    let reads = g.S.NodeRead.reads in
+    let saw = g.W.Looks.saw in
+    let nothing = g.met.W.Looks.saw_nothing in
+    let further = g.met.W.Looks.saw_further in
+    let seqs = g.met.S.NodeRead in
+    let rest : List Expr = take (length c.args.operands.now - 1) (drop 1 c.args.operands.now) in
+    let i = c.loop-index.index in
+    let inv = c.loop-index.invariant in
+    let k = stands c.args.context.now in
+    let v = meant c.loop-index.left in
+    let ops = drop i c.args.operators.now in
+    λ u stands_for. ended reads saw u nothing further
+    (left_is reads saw u (ap (λ es. chain_from v ops (map plain es) k) (drop_all i rest (omega arith)) ∙ chain_done v ops k) (inv.left u stands_for))
+
+pub filtered-loop-test-preserved : goal.filtered-loop-test-preserved
+filtered-loop-test-preserved g t c =
+    let reads = g.S.NodeRead.reads in
+    let saw = g.W.Looks.saw in
+    let nothing = g.met.W.Looks.saw_nothing in
+    let further = g.met.W.Looks.saw_further in
+    let seqs = g.met.S.NodeRead in
+    let i = c.loop-test.test-index in
+    let inv = c.loop-test.invariant in
+    let x = c.test-item.result in
+    let tests = c.args.tests.now in
+    let from = all_plain c.loop-test.left in
+    record {
+      same = seqs.unchanged_onward _ _ _ inv.same c.in_ok-left.ensures.unchanged;
+      counted = c.in_ok-left.ensures.cause.exact ∙ inv.counted;
+      left = λ u stands_for.
+          goes reads saw u nothing further (kept_by (λ k. program.value (plain x) k) (length from) 1 from) (λ ks. filtered (plain_row (drop (i + 1) tests)) ks)
+          (left_is reads saw u (ap (λ es. filtered (plain_row es) from) (item_next tests i x (omega arith) c.test-item.is)) (inv.left u stands_for))
+          (c.in_ok-left.ensures.run u (later _ _ u (seqs.unchanged_contents _ _ inv.same) stands_for));
+    }
+
+pub settled-returns-then-is_same-clause-run : goal.settled-returns-then-is_same-clause-run
+settled-returns-then-is_same-clause-run g t c =
+    let reads = g.S.NodeRead.reads in
+    let saw = g.W.Looks.saw in
+    let nothing = g.met.W.Looks.saw_nothing in
+    let further = g.met.W.Looks.saw_further in
+    let seqs = g.met.S.NodeRead in
+    let i = c.loop-operand.operand-index in
+    let inv = c.loop-operand.invariant in
+    let x = c.operand-item.result in
+    let es = c.args.operands.now in
+    let k = stands c.args.context.now in
+    let by = c.args.by in
+    let v = meant c.in_ok-one.one in
+    let e = ap (same_flag by) (sym c.truth.ensures) ∙ sym c.is_same.ensures ∙ c.if-is_same.true in
+    λ u stands_for. ended reads saw u nothing further
+    (left_is reads saw u (ap (λ b. if b then ends (flag by) else settled by (plain_row (drop (i + 1) es)) k) e) (goes reads saw u nothing further (program.value (plain x) k) (λ z. if same_flag by (truth z) then ends (flag by) else settled by (plain_row (drop (i + 1) es)) k)
+    (left_is reads saw u (ap (λ ys. settled by (plain_row ys) k) (item_next es i x (omega arith) c.operand-item.is)) (inv.left u stands_for))
+    (c.in_ok-one.ensures.run u (later _ _ u (seqs.unchanged_contents _ _ inv.same) stands_for))))
+
+pub settled-loop-operand-preserved : goal.settled-loop-operand-preserved
+settled-loop-operand-preserved g t c =
+    let reads = g.S.NodeRead.reads in
+    let saw = g.W.Looks.saw in
+    let nothing = g.met.W.Looks.saw_nothing in
+    let further = g.met.W.Looks.saw_further in
+    let seqs = g.met.S.NodeRead in
+    let i = c.loop-operand.operand-index in
+    let inv = c.loop-operand.invariant in
+    let x = c.operand-item.result in
+    let es = c.args.operands.now in
+    let k = stands c.args.context.now in
+    let by = c.args.by in
+    let v = meant c.in_ok-one.one in
+    let e = ap (same_flag by) (sym c.truth.ensures) ∙ sym c.is_same.ensures ∙ c.if-is_same.false in
+    record {
+      same = seqs.unchanged_onward _ _ _ inv.same c.in_ok-one.ensures.unchanged;
+      counted = c.in_ok-one.ensures.cause.exact ∙ inv.counted;
+      left = λ u stands_for. left_is reads saw u (ap (λ b. if b then ends (flag by) else settled by (plain_row (drop (i + 1) es)) k) e) (goes reads saw u nothing further (program.value (plain x) k) (λ z. if same_flag by (truth z) then ends (flag by) else settled by (plain_row (drop (i + 1) es)) k)
+          (left_is reads saw u (ap (λ ys. settled by (plain_row ys) k) (item_next es i x (omega arith) c.operand-item.is)) (inv.left u stands_for))
+          (c.in_ok-one.ensures.run u (later _ _ u (seqs.unchanged_contents _ _ inv.same) stands_for)));
+    }
+
+pub stepped-loop-node-init : goal.stepped-loop-node-init
+stepped-loop-node-init g t c =
+    let reads = g.S.NodeRead.reads in
+    let saw = g.W.Looks.saw in
+    let nothing = g.met.W.Looks.saw_nothing in
+    let further = g.met.W.Looks.saw_further in
+    let seqs = g.met.S.NodeRead in
+    record {
+      same = seqs.unchanged_itself c.args.seq.now;
+      counted = refl;
+      left = λ u stands_for. each_starts reads saw u nothing further (from_node c.args.step.now) (all_plain c.args.from.now) c.args.seq.now c.args.looks.now (ap all_plain c.new-all.ensures);
+    }
+
+pub stepped-loop-node-preserved : goal.stepped-loop-node-preserved
+stepped-loop-node-preserved g t c =
+    let reads = g.S.NodeRead.reads in
+    let saw = g.W.Looks.saw in
+    let nothing = g.met.W.Looks.saw_nothing in
+    let further = g.met.W.Looks.saw_further in
+    let seqs = g.met.S.NodeRead in
+    let i = c.loop-node.node-index in
+    let inv = c.loop-node.invariant in
+    let x = c.node-item.result in
+    let s = c.args.step.now in
+    let f : List Position → List Position = λ ms. filter (passes s.axis s.test) ms in
+    let ways : Program (List Position) = along s.axis s.test (position.plain x) in
+    let one = c.in_ok-found.ensures in
+    let two = c.in_ok-kept.ensures in
+    record {
+      same = seqs.unchanged_onward _ _ _ (seqs.unchanged_onward _ _ _ inv.same one.unchanged) two.unchanged;
+      counted = two.cause.exact ∙ one.cause.exact ∙ inv.counted;
+      left = λ u stands_for.
+          let now = later _ _ u (seqs.unchanged_contents _ _ inv.same) stands_for in
+          each_goes reads saw u nothing further (from_node s) (position.plain x) (all_plain (drop (i + 1) c.args.from.now)) (all_plain c.loop-node.all)
+          (ap all_plain (item_next c.args.from.now i x (omega arith) c.node-item.is))
+          (ap all_plain c.in_ok-put_behind.ensures ∙ plain_append c.loop-node.all c.in_ok-kept.kept)
+          (inv.left u stands_for)
+          (run_is reads saw u (and_then-and_then ways (λ ms. ends (f ms)) (λ ms. filtered (plain_row s.tests) ms))
+          (one_by_one reads saw u nothing further (and_then ways (λ ms. ends (f ms))) (λ ms. filtered (plain_row s.tests) ms) (one.run u now)
+          (run_is reads saw u (ap (λ ts. filtered (plain_row ts) (all_plain c.in_ok-found.found)) c.as_slice.ensures) (two.run u (later _ _ u (seqs.unchanged_contents _ _ one.unchanged) now)))));
+    }
+
+pub taken-loop-step-preserved : goal.taken-loop-step-preserved
+taken-loop-step-preserved g t c =
+    let reads = g.S.NodeRead.reads in
+    let saw = g.W.Looks.saw in
+    let nothing = g.met.W.Looks.saw_nothing in
+    let further = g.met.W.Looks.saw_further in
+    let seqs = g.met.S.NodeRead in
+    let i = c.loop-step.step-index in
+    let inv = c.loop-step.invariant in
+    let x : Step = c.step-item.result in
+    let steps = c.args.steps.now in
+    let rest = plain_way (drop (i + 1) steps) in
+    let from = all_plain c.loop-step.nodes in
+    record {
+      same = seqs.unchanged_onward _ _ _ inv.same c.in_ok-found.ensures.unchanged;
+      counted = c.in_ok-found.ensures.cause.exact ∙ inv.counted;
+      left = λ u stands_for.
+          left_is reads saw u (ap (λ ns. taken rest ns) (sym c.in_ok-nodes.ensures))
+          (goes reads saw u nothing further (gathered (from_node x) from) (λ all. taken rest (in_order all))
+          (left_is reads saw u (ap (λ ss. taken (plain_way ss) from) (item_next steps i x (omega arith) c.step-item.is) ∙ ap (λ p. taken p from) (step_is x rest)) (inv.left u stands_for))
+          (run_is reads saw u (ap (λ ns. gathered (from_node x) (all_plain ns)) c.as_slice.ensures) (c.in_ok-found.ensures.run u (later _ _ u (seqs.unchanged_contents _ _ inv.same) stands_for))));
+    }
+
+pub value-returns-in_ok-nodes-in-Path-clause-run : goal.value-returns-in_ok-nodes-in-Path-clause-run
+value-returns-in_ok-nodes-in-Path-clause-run g t c =
+    let reads = g.S.NodeRead.reads in
+    let saw = g.W.Looks.saw in
+    let nothing = g.met.W.Looks.saw_nothing in
+    let further = g.met.W.Looks.saw_further in
+    let seqs = g.met.S.NodeRead in
+    let p = c.in-Path.path in
+    let k = stands c.args.context.now in
+    let from = start (out-XPath p).absolute k.at in
+    let way = plain_way (out-XPath p).steps in
+    let one = c.in_ok-from-in-Path.ensures in
+    let two = c.in_ok-nodes-in-Path.ensures in
+    λ u stands_for.
+    run_is reads saw u (ap (λ z. program.value z k) (sym (path_is p)) ∙ ap (λ z. program.value (plain z) k) (sym c.in-Path.is))
+    (answer_is reads saw u (ap (λ ns. nodes (all_plain ns)) (sym c.into_vec.ensures))
+    (made_of reads saw u nothing further (and_then from (λ ns. taken way ns)) (λ ns. nodes ns)
+    (one_by_one reads saw u nothing further from (λ ns. taken way ns) (one.run u stands_for)
+    (run_is reads saw u (ap (λ ss. taken (plain_way ss) (all_plain c.in_ok-from-in-Path.from)) c.as_slice.ensures) (two.run u (later _ _ u (seqs.unchanged_contents _ _ one.unchanged) stands_for))))))
+
+pub value-returns-in-Apply-clause-run : goal.value-returns-in-Apply-clause-run
+value-returns-in-Apply-clause-run g t c =
+    let reads = g.S.NodeRead.reads in
+    let saw = g.W.Looks.saw in
+    let nothing = g.met.W.Looks.saw_nothing in
+    let further = g.met.W.Looks.saw_further in
+    let seqs = g.met.S.NodeRead in
+    let k = stands c.args.context.now in
+    let o = c.in-Apply.op in
+    runs_as reads saw g.S.NodeRead.contents meant c.args.seq.now c.args.looks.now c.apply.result c.apply.new.seq c.apply.new.looks
+    (ap (λ es. program.value (paths.apply o (plain_row es)) k) c.as_slice-in-Apply.ensures ∙ ap (λ z. program.value z k) (sym (apply_opened o c.in-Apply.operands)) ∙ ap (λ z. program.value (plain z) k) (sym c.in-Apply.is)) c.apply.ensures.run
+
+pub values_of-loop-operand-init : goal.values_of-loop-operand-init
+values_of-loop-operand-init g t c =
+    let reads = g.S.NodeRead.reads in
+    let saw = g.W.Looks.saw in
+    let nothing = g.met.W.Looks.saw_nothing in
+    let further = g.met.W.Looks.saw_further in
+    let seqs = g.met.S.NodeRead in
+    let all = operands (plain_row c.args.operands.now) (stands c.args.context.now) in
+    record {
+      same = seqs.unchanged_itself c.args.seq.now;
+      counted = refl;
+      left = λ u stands_for. left_is reads saw u (sym (and_then-ends all) ∙ (λ i. and_then all (λ more. ends (all_meant (sym c.new-values.ensures i) ++ more)))) (begins reads saw u nothing further all c.args.seq.now c.args.looks.now);
+    }
+
+pub values_of-loop-operand-preserved : goal.values_of-loop-operand-preserved
+values_of-loop-operand-preserved g t c =
+    let reads = g.S.NodeRead.reads in
+    let saw = g.W.Looks.saw in
+    let nothing = g.met.W.Looks.saw_nothing in
+    let further = g.met.W.Looks.saw_further in
+    let seqs = g.met.S.NodeRead in
+    let i = c.loop-operand.operand-index in
+    let inv = c.loop-operand.invariant in
+    let x = c.operand-item.result in
+    let es = c.args.operands.now in
+    let k = stands c.args.context.now in
+    let so_far = all_meant c.loop-operand.values in
+    let rest = plain_row (drop (i + 1) es) in
+    record {
+      same = seqs.unchanged_onward _ _ _ inv.same c.in_ok-value.ensures.unchanged;
+      counted = c.in_ok-value.ensures.cause.exact ∙ inv.counted;
+      left = λ u stands_for.
+          left_is reads saw u (λ j. and_then (operands rest k) (λ more. ends (sym (ap all_meant c.in_ok-push.ensures.ok ∙ meant_pushed c.loop-operand.values c.in_ok-value.field-0) j ++ more)))
+          (goes reads saw u nothing further (program.value (plain x) k) (λ v. and_then (operands rest k) (λ more. ends ((so_far ++ v ∷ []) ++ more)))
+          (left_is reads saw u (ap (λ ys. and_then (operands (plain_row ys) k) (λ more. ends (so_far ++ more))) (item_next es i x (omega arith) c.operand-item.is) ∙ operands_next (plain x) rest k so_far) (inv.left u stands_for))
+          (c.in_ok-value.ensures.run u (later _ _ u (seqs.unchanged_contents _ _ inv.same) stands_for)));
+    }
+
+pub kept-loop-index-init : goal.kept-loop-index-init
+kept-loop-index-init g t c =
+    let reads = g.S.NodeRead.reads in
+    let saw = g.W.Looks.saw in
+    let nothing = g.met.W.Looks.saw_nothing in
+    let further = g.met.W.Looks.saw_further in
+    let seqs = g.met.S.NodeRead in
+    let ns = all_plain c.args.nodes in
+    let test : Context → Program Value = λ k. program.value (plain c.args.test.now) k in
+    let all = kept_by test (length ns) 1 ns in
+    record {
+      same = seqs.unchanged_itself c.args.seq.now;
+      counted = refl;
+      left = λ u stands_for. left_is reads saw u (sym (and_then-ends all) ∙ (λ i. and_then all (λ more. ends (all_plain (sym c.new-kept.ensures i) ++ more)))) (begins reads saw u nothing further all c.args.seq.now c.args.looks.now);
+    }
+
+pub kept-loop-index-preserved : goal.kept-loop-index-preserved
+kept-loop-index-preserved g t c =
+    let reads = g.S.NodeRead.reads in
+    let saw = g.W.Looks.saw in
+    let nothing = g.met.W.Looks.saw_nothing in
+    let further = g.met.W.Looks.saw_further in
+    let seqs = g.met.S.NodeRead in
+    let i = c.loop-index.index in
+    let inv = c.loop-index.invariant in
+    let x = c.node-item.result in
+    let ns = c.args.nodes in
+    let xs = c.deref-node-items.result.now in
+    let same : xs ≡ ns = c.deref-node-items.ensures.value ∙ c.into_vec-nodes.ensures in
+    let size = length (all_plain ns) in
+    let test : Context → Program Value = λ k. program.value (plain c.args.test.now) k in
+    let so_far = all_plain c.loop-index.kept in
+    let rest = all_plain (drop (i + 1) ns) in
+    let of_size : c.len.result ≡ size = c.len.ensures ∙ sym c.deref-node-items.ensures.len ∙ ap length same ∙ sym (plain_length ns) in
+    record {
+      same = seqs.unchanged_onward _ _ _ inv.same c.in_ok-holds.ensures.unchanged;
+      counted = c.in_ok-holds.ensures.cause.exact ∙ inv.counted;
+      left = λ u stands_for.
+          left_is reads saw u (λ j. and_then (kept_by test size (i + 1 + 1) rest) (λ more. ends (sym (c.in_ok-keep_if.ensures ∙ ap (λ b. so_far ++ (if b then position.plain x ∷ [] else [])) c.keeps.ensures) j ++ more)))
+          (goes reads saw u nothing further (test (record { at = position.plain x; proximity = i + 1; size = size })) (λ v. and_then (kept_by test size (i + 1 + 1) rest) (λ more. ends ((so_far ++ (if keeps v (i + 1) then position.plain x ∷ [] else [])) ++ more)))
+          (left_is reads saw u (ap (λ ys. and_then (kept_by test size (i + 1) (all_plain ys)) (λ more. ends (so_far ++ more))) (subst (λ (ys : List _). drop i ys ≡ x ∷ drop (i + 1) ys) same (item_next xs i x (omega arith) c.node-item.is))
+          ∙ kept_next test size (i + 1) (position.plain x) rest so_far) (inv.left u stands_for))
+          (run_is reads saw u (ap (λ z. test (record { at = position.plain x; proximity = i + 1; size = z })) of_size) (c.in_ok-holds.ensures.run u (later _ _ u (seqs.unchanged_contents _ _ inv.same) stands_for))));
+    }

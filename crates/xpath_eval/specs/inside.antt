@@ -1,0 +1,7 @@
+-- Words of private functions.
+pub mod Contexts
+pub mod Chains
+pub mod Operations
+pub mod Orders
+pub mod Steps
+pub mod Texts
