@@ -49,7 +49,7 @@ use Rattle.lock_plans.specs.Plans.{ends, in_turn}
 use Rattle.lock_plans.specs.DomPlans.{one_element_steps}
 use Rattle.lock_plans.proofs.AppendOutcome.{placed, first_and_last, tests}
 use Rattle.dom_laws.proofs.Same.{Same, same_asks, same_answers, same_where}
-use Rattle.dom_laws.proofs.Seen.{same_self, edge_seen, first_is, last_is, row_is}
+use Rattle.tree_cells.proofs.Seen.{same_self, edge_seen, first_is, last_is, row_is}
 use Rattle.dom_laws.proofs.RecordKinds.{document_same_kind, text_same_kind}
 use Rattle.dom_laws.proofs.StepLaws.{same_see}
 use Rattle.dom_laws.proofs.Changes.{HasKey, AreCovered, taken}

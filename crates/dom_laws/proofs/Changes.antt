@@ -24,8 +24,9 @@ use Rattle.tree_cells.proofs.Edges.{all_edges_same}
 use Rattle.tree_cells.proofs.KeyChanges.{set_over, set_over_none, get_in_changed, Unchanged}
 use Rattle.tree_cells.proofs.SameTrees.{key_is}
 use Rattle.lock_plans.specs.Plans.{ends}
-use Rattle.dom_laws.proofs.Same.{Same, same_change, last_covers}
-use Rattle.dom_laws.proofs.Seen.{record_in, label_in, same_self}
+use Rattle.tree_cells.proofs.Agreement.{last_covers}
+use Rattle.dom_laws.proofs.Same.{Same, same_change}
+use Rattle.tree_cells.proofs.Seen.{record_in, label_in, same_self}
 use Rattle.lock_modes.specs.declared.ask.Ask.TheVariants as ask
 
 -- the key of a cell, if it has one

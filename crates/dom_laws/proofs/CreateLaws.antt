@@ -47,7 +47,7 @@ use Rattle.tree_cells.proofs.Insertions.{IsInserted, inserted_with_attribute}
 use Rattle.lock_plans.specs.Plans.{ends, in_turn}
 use Rattle.lock_plans.specs.DomPlans.{create_steps}
 use Rattle.dom_laws.proofs.Same.{Same, same_asks, same_answers}
-use Rattle.dom_laws.proofs.Seen.{edge_seen, attribute_seen}
+use Rattle.tree_cells.proofs.Seen.{edge_seen, attribute_seen}
 use Rattle.dom_laws.proofs.StepLaws.{not_false}
 use Rattle.dom_laws.proofs.Changes.{HasKey, taken, taken_attribute}
 use Rattle.dom_laws.proofs.WriteLaws.{no_name}

@@ -36,7 +36,7 @@ use Rattle.lock_plans.specs.Plans.{ends}
 use Rattle.lock_plans.specs.DomPlans.{run, take_document}
 use Rattle.dom_laws.proofs.RemoveLaws.{within_same, tree_inside, drops_of, drops_covered, edge_written}
 use Rattle.dom_laws.proofs.Same.{Same, same_asks, same_answers}
-use Rattle.dom_laws.proofs.Seen.{same_self, attribute_seen, taken_seen, next_of_taken, prev_of_taken}
+use Rattle.tree_cells.proofs.Seen.{same_self, attribute_seen, taken_seen, next_of_taken, prev_of_taken}
 use Rattle.dom_laws.proofs.StepLaws.{not_false}
 use Rattle.dom_laws.proofs.Changes.{HasKey, taken}
 use Rattle.dom_laws.proofs.CreateLaws.{no_node_key, covered}

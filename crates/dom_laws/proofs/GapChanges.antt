@@ -24,7 +24,7 @@ use Rattle.tree_cells.proofs.Edges.{edges_same, owner_of, found_by_cell}
 use Rattle.tree_cells.proofs.Insertions.{IsInserted, edge_inserted, edge_removed, edge_elsewhere, left_neighbour, right_neighbour, parent_in}
 use Rattle.lock_plans.specs.Plans.{ends}
 use Rattle.dom_laws.proofs.Same.{Same}
-use Rattle.dom_laws.proofs.Seen.{record_in, label_in}
+use Rattle.tree_cells.proofs.Seen.{record_in, label_in}
 use Rattle.dom_laws.proofs.Changes.{AreCovered, same_changes, key_written}
 use Rattle.tree_cells.proofs.RowChanges as changes
 
@@ -56,7 +56,7 @@ not_new : (acc : List Request) (p new l : Label) (s : Side) (left right : Option
     → same_label l new ≡ false
 not_new acc p new l s left right c off = ⊎_elim
     (λ e. absurd (true≢false (sym (c.tree
-    (edge_cell l s) (subst (λ z. is_in (side new z) ≡ true) (sym (same_label_is l new e)) (Rattle.dom_laws.proofs.Seen.in_self new))) ∙ off)))
+    (edge_cell l s) (subst (λ z. is_in (side new z) ≡ true) (sym (same_label_is l new e)) (Rattle.tree_cells.proofs.Seen.in_self new))) ∙ off)))
     (λ e. e) (found_or_not (same_label l new))
 
 -- an edge that isn't about the gap
@@ -235,8 +235,8 @@ module _ (acc : List Request) (t u : Tree) (w : IsValidTree t) (v : IsValidTree 
       → ((m : Label) → is_under (side l m) ≡ false → found (at m p.1.documents) ≡ found (at m u.documents))
       → o.0 ≡ p.0 → Same acc t u (ends o) (ends p)
   same_rebuilt l labelled tree there_t there_u same = same_gap (λ z. is_in (side l z)) (record { tree = tree; down = in_child l }) l (λ s m k. k)
-      (λ m s out row. absurd (true≢false (sym (Rattle.dom_laws.proofs.Seen.in_self l) ∙ out)))
-      (λ m s out row. absurd (true≢false (sym (Rattle.dom_laws.proofs.Seen.in_self l) ∙ out)))
+      (λ m s out row. absurd (true≢false (sym (Rattle.tree_cells.proofs.Seen.in_self l) ∙ out)))
+      (λ m s out row. absurd (true≢false (sym (Rattle.tree_cells.proofs.Seen.in_self l) ∙ out)))
       (λ m s k row off. refl)
       (λ z m s i row out n. edges_same z m s o.1 t wo w i row (λ k c. there_t k (outside z k i out c)))
       (λ z m s i row out n. edges_same z m s p.1 u vp v i row (λ k c. there_u k (outside z k i out c)))

@@ -37,7 +37,7 @@ use Rattle.lock_plans.specs.Plans.{ends, in_turn}
 use Rattle.lock_plans.specs.DomPlans.{insert_steps}
 use Rattle.lock_plans.proofs.InsertOutcome.{tail, here_is}
 use Rattle.dom_laws.proofs.Same.{Same, same_asks, same_answers}
-use Rattle.dom_laws.proofs.Seen.{same_self, edge_seen}
+use Rattle.tree_cells.proofs.Seen.{same_self, edge_seen}
 use Rattle.dom_laws.proofs.RecordKinds.{document_same_kind, text_same_kind}
 use Rattle.dom_laws.proofs.StepLaws.{seen_at, same_see}
 use Rattle.dom_laws.proofs.Changes.{AreCovered, taken}

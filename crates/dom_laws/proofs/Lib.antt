@@ -16,7 +16,6 @@ pub mod RemoveLaws
 pub mod RenameLaws
 pub mod ReplaceLaws
 pub mod Same
-pub mod Seen
 pub mod SetTextLaws
 pub mod SplitLaws
 pub mod StepLaws

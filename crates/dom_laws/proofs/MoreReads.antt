@@ -22,7 +22,8 @@ use Rattle.tree_cells.proofs.Edges.{neighbour_label}
 use Rattle.tree_cells.proofs.SameTrees.{attribute_same, attributes_same, alone, subtree_same}
 use Rattle.lock_plans.specs.DomPlans.{data_of, run}
 use Rattle.dom_laws.proofs.Same.{same_asks, same_answers, same_reading, Same}
-use Rattle.dom_laws.proofs.Seen.{edge_seen, attribute_seen, attributes_seen, tree_seen, last_is, see_same}
+use Rattle.tree_cells.proofs.Seen.{edge_seen, attribute_seen, attributes_seen, tree_seen, last_is}
+use Rattle.dom_laws.proofs.StepLaws.{see_same}
 use Rattle.dom_laws.proofs.RecordKinds.{lone, by_record, document_same_kind, element_same_kind, data_same}
 use Rattle.dom_laws.proofs.StepLaws.{same_see, same_element, same_text, same_read_found}
 use Rattle.lock_modes.specs.declared.ask.Ask.TheVariants as ask

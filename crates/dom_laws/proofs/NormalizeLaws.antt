@@ -24,7 +24,7 @@ use Rattle.tree_cells.proofs.SameTrees.{alone, subtree_same}
 use Rattle.lock_plans.specs.Plans.{ends}
 use Rattle.lock_plans.specs.DomPlans.{run}
 use Rattle.dom_laws.proofs.Same.{Same, same_asks, same_answers}
-use Rattle.dom_laws.proofs.Seen.{taken_seen}
+use Rattle.tree_cells.proofs.Seen.{taken_seen}
 use Rattle.dom_laws.proofs.RecordKinds.{text_same_kind}
 use Rattle.dom_laws.proofs.StepLaws.{not_false, seen_at, same_see}
 use Rattle.dom_laws.proofs.Changes.{taken}

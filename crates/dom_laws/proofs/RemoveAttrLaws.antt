@@ -26,7 +26,7 @@ use Rattle.tree_cells.specs.Covers.{writes}
 use Rattle.tree_cells.proofs.SameTrees.{attribute_same}
 use Rattle.lock_plans.specs.DomPlans.{run}
 use Rattle.dom_laws.proofs.Same.{same_asks, same_answers, Same}
-use Rattle.dom_laws.proofs.Seen.{attribute_seen}
+use Rattle.tree_cells.proofs.Seen.{attribute_seen}
 use Rattle.dom_laws.proofs.StepLaws.{not_false, seen_at, same_see, same_element}
 use Rattle.dom_laws.proofs.Changes.{HasKey, same_in_place, taken_attribute}
 use Rattle.dom_laws.proofs.WriteLaws.{no_name, attribute_put}

@@ -45,7 +45,7 @@ use Rattle.tree_cells.proofs.Insertions.{IsInserted, removed_by_drops, left_is, 
 use Rattle.lock_plans.specs.DomPlans.{run}
 use Rattle.lock_plans.proofs.RemoveOutcome.{removed}
 use Rattle.dom_laws.proofs.Same.{Same, same_asks, same_answers}
-use Rattle.dom_laws.proofs.Seen.{same_self, taken_seen, next_of_taken, prev_of_taken}
+use Rattle.tree_cells.proofs.Seen.{same_self, taken_seen, next_of_taken, prev_of_taken}
 use Rattle.dom_laws.proofs.StepLaws.{seen_at, same_see}
 use Rattle.dom_laws.proofs.Changes.{HasKey, AreCovered, taken}
 use Rattle.dom_laws.proofs.Takes.{left_grows, same_take_left, same_take_right, parent_taken}

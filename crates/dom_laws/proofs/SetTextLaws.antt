@@ -41,7 +41,7 @@ use Rattle.tree_cells.proofs.KeyChanges.{Unchanged, set_over_none, get_in_change
 use Rattle.tree_cells.proofs.SameTrees.{alone, subtree_same, key_is}
 use Rattle.lock_plans.specs.DomPlans.{run}
 use Rattle.dom_laws.proofs.Same.{Same, same_asks, same_answers}
-use Rattle.dom_laws.proofs.Seen.{taken_seen}
+use Rattle.tree_cells.proofs.Seen.{taken_seen}
 use Rattle.dom_laws.proofs.RecordKinds.{document_same_kind, text_same_kind}
 use Rattle.dom_laws.proofs.StepLaws.{seen_at, same_see}
 use Rattle.dom_laws.proofs.Changes.{HasKey, AreCovered, same_in_place, taken}

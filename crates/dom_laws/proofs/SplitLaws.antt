@@ -44,7 +44,7 @@ use Rattle.tree_cells.proofs.Insertions.{IsInserted, inserted_by_puts}
 use Rattle.lock_plans.specs.Plans.{ends}
 use Rattle.lock_plans.specs.DomPlans.{run, data_of}
 use Rattle.dom_laws.proofs.Same.{Same, same_asks, same_answers}
-use Rattle.dom_laws.proofs.Seen.{same_self, in_self, next_of_taken}
+use Rattle.tree_cells.proofs.Seen.{same_self, in_self, next_of_taken}
 use Rattle.dom_laws.proofs.RecordKinds.{data_same}
 use Rattle.dom_laws.proofs.StepLaws.{seen_at, same_see, same_text}
 use Rattle.dom_laws.proofs.Changes.{HasKey, taken}

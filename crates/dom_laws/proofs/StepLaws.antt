@@ -1,5 +1,5 @@
 -- The steps of calls on two trees.
-use Rattle.std.proofs.Common.{◌≡◌, Bool, true, false, not, if◌then◌else◌, List, [], ◌++◌, Option, None, Some, refl, ap, subst, true≢false, append-nil}
+use Rattle.std.proofs.Common.{◌≡◌, Bool, true, false, not, if◌then◌else◌, List, [], ◌++◌, Option, None, Some, refl, sym, ap, subst, true≢false, append-nil}
 use Rattle.dewey_labels.specs.Labels.{Label, is_label}
 use Rattle.lock_modes.specs.declared.mode.Mode.TheVariants.{NR}
 use Rattle.lock_resources.specs.declared.resource.Resource.TheVariants.{Node}
@@ -15,7 +15,7 @@ use Rattle.tree_model.specs.Outcomes.{Outcome, see, see_in, not_found_err, not_s
 use Rattle.tree_model.specs.NodeKinds.{is_element, is_text_node}
 use Rattle.lock_plans.specs.Plans.{Run, read_found}
 use Rattle.dom_laws.proofs.Same.{Same, same_asks, same_answers}
-use Rattle.dom_laws.proofs.Seen.{node_seen, by_key, same_found}
+use Rattle.tree_cells.proofs.Seen.{node_seen, by_key, same_found}
 use Rattle.dom_laws.proofs.RecordKinds.{element_same_kind, text_same_kind}
 use Rattle.lock_modes.specs.declared.ask.Ask.TheVariants as ask
 use Rattle.lock_plans.specs.Plans as plans
@@ -23,6 +23,12 @@ use Rattle.lock_plans.specs.Plans as plans
 pub not_false : (b : Bool) → not b ≡ false → b ≡ true
 not_false true e = refl
 not_false false e = absurd (true≢false e)
+
+-- a reply that goes on from a found node
+pub see_same : (answer other : Forest → Reply) (f g : Forest) → found f ≡ true → found g ≡ true → answer f ≡ other g → see answer f ≡ see other g
+see_same answer other none g y z e = absurd (true≢false (sym y))
+see_same answer other (node l r ats ch nx) none y z e = absurd (true≢false (sym z))
+see_same answer other (node l r ats ch nx) (node m q ats' ch' nx') y z e = e
 
 -- what was asked for once a node was seen
 abbrev pub seen_at : List Request → Label → List Request

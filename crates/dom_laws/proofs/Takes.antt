@@ -24,8 +24,9 @@ use Rattle.tree_cells.specs.Covers.{some_of, changes_edge_at, changes_row, write
 use Rattle.tree_cells.specs.Places.{has_row_of, same_side}
 use Rattle.tree_cells.proofs.Coverage.{some_left, some_right, and_both, or_first, or_second}
 use Rattle.lock_plans.specs.Plans.{Run}
-use Rattle.dom_laws.proofs.Same.{Same, same_asks, same_answers, last_covers}
-use Rattle.dom_laws.proofs.Seen.{same_self, same_side_self}
+use Rattle.tree_cells.proofs.Agreement.{last_covers}
+use Rattle.dom_laws.proofs.Same.{Same, same_asks, same_answers}
+use Rattle.tree_cells.proofs.Seen.{same_self, same_side_self}
 use Rattle.dom_laws.proofs.StepLaws.{not_false}
 use Rattle.lock_modes.specs.declared.ask.Ask.TheVariants as ask
 use Rattle.lock_plans.specs.Plans as plans

@@ -34,7 +34,7 @@ use Rattle.tree_cells.proofs.KeyChanges.{get_in_changed}
 use Rattle.tree_cells.proofs.SameTrees.{key_is}
 use Rattle.lock_plans.specs.DomPlans.{run}
 use Rattle.dom_laws.proofs.Same.{same_asks, same_answers, Same}
-use Rattle.dom_laws.proofs.Seen.{in_self}
+use Rattle.tree_cells.proofs.Seen.{in_self}
 use Rattle.dom_laws.proofs.StepLaws.{not_false, seen_at, same_see, same_element, same_text}
 use Rattle.dom_laws.proofs.Changes.{HasKey, same_in_place, taken, taken_attribute}
 use Rattle.lock_modes.specs.declared.ask.Ask.TheVariants as ask

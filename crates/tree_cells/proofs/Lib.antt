@@ -1,3 +1,4 @@
+pub mod Agreement
 pub mod Conflict
 pub mod Coverage
 pub mod Edges
@@ -7,5 +8,6 @@ pub mod KeyChanges
 pub mod RowChanges
 pub mod Rows
 pub mod SameTrees
+pub mod Seen
 pub mod Symmetry
 mod CoverRows

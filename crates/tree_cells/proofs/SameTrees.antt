@@ -43,7 +43,7 @@ value_in (Some (Element n)) = None
 value_in (Some (Text d)) = None
 value_in (Some (Attr v)) = Some v
 
-value_again : (o : Option (List ℕ)) → value_in (attr_record o) ≡ o
+pub value_again : (o : Option (List ℕ)) → value_in (attr_record o) ≡ o
 value_again None = refl
 value_again (Some v) = refl
 

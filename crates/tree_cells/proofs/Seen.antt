@@ -1,5 +1,5 @@
 -- What is known of two trees that agree on what was asked for.
-use Rattle.std.proofs.Common.{◌≡◌, Bool, true, false, cond, ◌&&◌, List, ◌++◌, Option, None, Some, is_eq, refl, sym, ap, ◌∙◌, true≢false}
+use Rattle.std.proofs.Common.{◌≡◌, Bool, true, false, cond, ◌&&◌, List, ◌++◌, Option, None, Some, is_eq, refl, sym, ap, ◌∙◌}
 use Rattle.dewey_labels.specs.Labels.{Label, is_child}
 use Rattle.dewey_labels.specs.Sides.{side, is_in}
 use Rattle.dewey_labels.proofs.Sides.{side_itself}
@@ -13,13 +13,11 @@ use Rattle.lock_resources.specs.declared.request.Request.{Request}
 use Rattle.lock_resources.specs.Intentions.{with_intentions}
 use Rattle.tree_model.specs.declared.key.Key.{Key}
 use Rattle.tree_model.specs.declared.record.Record.{Record}
-use Rattle.tree_model.specs.declared.reply.Reply.{Reply}
 use Rattle.tree_model.specs.Names.{Name}
 use Rattle.tree_model.specs.Keys.{key_at, node_key}
 use Rattle.tree_model.specs.Entries.{get}
 use Rattle.tree_model.specs.Tree.{Forest, none, node, Tree, map_of, at, found, below, record_of, first_of, last_child_of}
 use Rattle.tree_model.specs.ValidTrees.{IsValidTree, same_label}
-use Rattle.tree_model.specs.Outcomes.{see}
 use Rattle.tree_model.specs.Places.{row}
 use Rattle.tree_model.proofs.EntryLimits.{list_itself}
 use Rattle.tree_model.proofs.WholeTree.{get_node}
@@ -28,7 +26,7 @@ use Rattle.tree_cells.specs.Cells.{node_cell, attr_cell, edge_cell, Value, recor
 use Rattle.tree_cells.specs.Covers.{Agree}
 use Rattle.tree_cells.specs.Places.{same_side}
 use Rattle.tree_cells.proofs.Coverage.{and_both, or_first, or_second}
-use Rattle.dom_laws.proofs.Same.{seen}
+use Rattle.tree_cells.proofs.Agreement.{seen}
 use Rattle.lock_modes.specs.declared.ask.Ask.TheVariants as ask
 
 -- ---- values
@@ -126,13 +124,6 @@ tree_seen acc l t u agree k i = by k.name
   where
     by : (n : Name) → get (key_at k.label n) (map_of t) ≡ get (key_at k.label n) (map_of u)
     by n = ap record_in (seen acc (Node l) (ask.Node SR) t u agree (attr_cell k.label n) (and_both (is_in (side l k.label)) true i refl))
-
--- ---- replies
-
-pub see_same : (answer other : Forest → Reply) (f g : Forest) → found f ≡ true → found g ≡ true → answer f ≡ other g → see answer f ≡ see other g
-see_same answer other none g y z e = absurd (true≢false (sym y))
-see_same answer other (node l r ats ch nx) none y z e = absurd (true≢false (sym z))
-see_same answer other (node l r ats ch nx) (node m q ats' ch' nx') y z e = e
 
 -- ---- a subtree that was taken
 
