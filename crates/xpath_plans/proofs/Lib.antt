@@ -1,0 +1,10 @@
+pub mod LabelLists
+pub mod AxisLabels
+pub mod PathLabels
+pub mod SeenLabels
+pub mod SeenLaws
+pub mod Covered
+pub mod ProgramLaws
+pub mod FindLaws
+pub mod StepLooks
+mod Rows

@@ -1,0 +1,7 @@
+use Rattle.path_model.specs.Finds.{find}
+use Rattle.path_model.specs.Programs.{looked}
+use Rattle.xpath_plans.proofs.Covered.{looks_covered}
+use Rattle.xpath_plans.proofs.laws.looks_are_covered.Goals as goal
+
+pub returns-clause-of_finds : goal.returns-clause-of_finds
+returns-clause-of_finds c = λ l p t x e. looks_covered (looked t (find l p)) x e

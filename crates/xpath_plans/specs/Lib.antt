@@ -1,0 +1,6 @@
+-- which request a look makes, and those of a program
+pub mod LookRequests
+-- what a look reads of a tree
+pub mod LookCells
+-- the call `find` to the machine of locks
+pub mod Finds

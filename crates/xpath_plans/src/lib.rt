@@ -1,0 +1,9 @@
+//! What the call `find` asks for: a request for each look that the evaluation of its path makes, whatever the look shows.
+//! Its requests and its answer are two folds of one program, and so it keeps the laws of calls, for every path (`finds_meet_the_contract`).
+#![tactic(auto)]
+
+mod laws;
+
+pub use laws::{
+    finds_meet_the_contract, looks_are_covered, paths_keep_the_laws, steps_ask_whatever_they_find,
+};
