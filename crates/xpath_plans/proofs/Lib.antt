@@ -5,6 +5,7 @@ pub mod SeenLabels
 pub mod SeenLaws
 pub mod Covered
 pub mod ProgramLaws
+pub mod ReadsAlone
 pub mod FindLaws
 pub mod StepLooks
 mod Rows

@@ -1,9 +1,9 @@
 //! The laws of what paths ask for, each the contract of a function that does nothing.
-ghost use Rattle.std.specs.Prelude.{◌≡◌, ◌≢◌, ℕ, suc, true, take, List};
+ghost use Rattle.std.specs.Prelude.{◌≡◌, ◌≢◌, ℕ, suc, true, false, take, List};
 ghost use Rattle.dewey_labels.specs.Labels.{Label, IsLabel, is_label};
 ghost use Rattle.lock_resources.specs.Resources.{label_of};
 ghost use Rattle.tree_cells.specs.Cells.{Cell};
-ghost use Rattle.tree_cells.specs.Covers.{Agree, reads};
+ghost use Rattle.tree_cells.specs.Covers.{Agree, reads, writes};
 ghost use Rattle.tree_cells.specs.Forms.{AreRows};
 ghost use Rattle.tree_model.specs.Tree.{Tree};
 ghost use Rattle.tree_model.specs.ValidTrees.{IsValidTree};
@@ -38,13 +38,14 @@ pub fn steps_ask_whatever_they_find()
 {}
 
 /// The requests of every path are rows of the table of requests, each with its intentions before it. Trees that agree on what they cover for reading give the same answer,
-/// and trees that agree so far have the same next request.
+/// and trees that agree so far have the same next request. They cover no cell for writing.
 pub fn paths_keep_the_laws()
     ensures rows { (l : Label) (p : Path) (t : Tree) → IsLabel l → IsValidTree t → AreRows (find_requests l p t) }
     ensures same_reply { (l : Label) (p : Path) (t u : Tree) → IsLabel l → IsValidTree t → IsValidTree u → Agree (find_requests l p t) t u
         → found_at l p t ≡ found_at l p u }
     ensures same_next { (l : Label) (p : Path) (t u : Tree) (k : ℕ) → IsLabel l → IsValidTree t → IsValidTree u → Agree (take k (find_requests l p t)) t u
         → take (suc k) (find_requests l p t) ≡ take (suc k) (find_requests l p u) }
+    ensures writes_nothing { (l : Label) (p : Path) (t : Tree) (x : Cell) → writes (find_requests l p t) x ≡ false }
 {}
 
 /// So `find` meets the contract of calls, whatever the path.
