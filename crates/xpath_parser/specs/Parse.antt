@@ -30,6 +30,20 @@ what_text what.Argument = codes "argument"
 abbrev pub place_of : Text → ℕ → ℕ
 place_of z left = length (encode_utf8_all (take (length z - left) z))
 
+-- the refusal's name, as replies have it
+abbrev pub refusal_name : PathError → List ℕ
+refusal_name (error.Syntax place) = codes "Syntax"
+refusal_name (error.Unsupported place what) = codes "Unsupported"
+refusal_name (error.Deep place) = codes "Deep"
+refusal_name error.NoMemory = codes "NoMemory"
+
+-- its place, and 0 where memory was wanting
+abbrev pub refusal_place : PathError → ℕ
+refusal_place (error.Syntax place) = place
+refusal_place (error.Unsupported place what) = place
+refusal_place (error.Deep place) = place
+refusal_place error.NoMemory = 0
+
 abbrev pub error_of : Text → Refusal → PathError
 error_of z (Syntax left) = error.Syntax (place_of z left)
 error_of z (Unsupported w left) = error.Unsupported (place_of z left) (what_text w)

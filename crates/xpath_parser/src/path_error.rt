@@ -1,5 +1,6 @@
 // Why a text is no path.
 ghost use Rattle.std.specs.Prelude.{◌≡◌};
+ghost use Rattle.xpath_parser.specs.Parse.{refusal_name, refusal_place};
 
 use dewey_labels::{NoMemory, Text};
 use std::alloc::AllocError;
@@ -32,5 +33,31 @@ impl From<AllocError> for PathError {
 
     fn from(_error: AllocError) -> PathError {
         PathError::NoMemory
+    }
+}
+
+impl PathError {
+    /// The refusal's name, as replies have it.
+    pub fn name(&self) -> &'static str
+        ensures { result.now ≡ refusal_name self.now }
+    {
+        match self {
+            PathError::Syntax { .. } => "Syntax",
+            PathError::Unsupported { .. } => "Unsupported",
+            PathError::Deep { .. } => "Deep",
+            PathError::NoMemory => "NoMemory",
+        }
+    }
+
+    /// The place in bytes; 0 where memory was wanting.
+    pub fn place(&self) -> u64
+        ensures { result ≡ refusal_place self.now }
+    {
+        match self {
+            PathError::Syntax { place }
+            | PathError::Unsupported { place, .. }
+            | PathError::Deep { place } => *place,
+            PathError::NoMemory => 0,
+        }
     }
 }

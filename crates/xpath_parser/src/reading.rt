@@ -1,6 +1,7 @@
 // The path of a text.
-ghost use Rattle.std.specs.Prelude.{◌≡◌, ◌≢◌, ◌≤◌, length, encode_utf8_all, IfOk};
+ghost use Rattle.std.specs.Prelude.{◌≡◌, ◌≢◌, ◌≤◌, length, encode_utf8_all, IfOk, IsTrue};
 ghost use Rattle.std.specs.Str.{chars};
+ghost use Rattle.path_model.specs.Lawful.{is_lawful};
 ghost use Rattle.xpath_parser.specs.Parse as spec;
 
 use crate::grammar;
@@ -13,7 +14,8 @@ use std::alloc::{AllocError, Global};
 
 /// Reads a location path. Its cost is linear in the text's length.
 pub fn parse(alloc: Global, text: &str) -> Result<XPath, PathError>
-    ensures { spec.Parses text.now result }
+    ensures path { spec.Parses text.now result }
+    ensures lawful { IfOk result (λ path. IsTrue (is_lawful path)) }
 {
     let characters = characters_of(alloc, text)?;
     let mut tokens = Tokens::new(&characters);
