@@ -1,5 +1,5 @@
 -- What is left of an object when a member is taken out.
-use Rattle.std.proofs.Common.{◌≡◌, ℕ, ◌≢◌, length, Err, codes, Bool, true, false, cond, List, [], ◌∷◌, Option, option_map, String, Global, string_bytes, nat_cmp, is_eq, bytes_eq, refl, ap, ◌∙◌}
+use Rattle.std.proofs.Common.{◌≡◌, ℕ, ◌≢◌, length, Err, codes, Bool, true, false, cond, List, [], ◌∷◌, string_bytes, nat_cmp, bytes_eq, refl, ap, ◌∙◌}
 use Rattle.std.specs.BTreeMap.{is_at}
 use Rattle.std.specs.Cmp.Lexicographic.{slice_cmp}
 use Rattle.std.specs.Map.{remove_entry}

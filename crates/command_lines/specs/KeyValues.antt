@@ -1,21 +1,25 @@
 -- The keys of calls, and what their values are read as (docs/MANUAL.md, "Keys").
-use Rattle.std.specs.Prelude.{ℕ, ◌^◌, ◌==◌, nat_lt, if◌then◌else◌, List, codes, Option, Some, None, option_and_then, option_map, Result, Ok, Err}
+use Rattle.std.specs.Prelude.{ℕ, ◌^◌, ◌==◌, nat_lt, if◌then◌else◌, List, codes, Option, Some, None, option_and_then, Result, Ok, Err}
 use Rattle.serde_json.specs.Data.{Data, null}
 use Rattle.serde_json.specs.Find.{as_number, as_u64, as_str}
 use Rattle.dewey_labels.specs.Labels.{Label, level}
 use Rattle.dewey_labels.specs.LabelText.{label_of}
+use Rattle.path_model.specs.declared.path.XPath.{XPath}
+use Rattle.xpath_parser.specs.declared.path_error.PathError.{PathError}
+use Rattle.xpath_parser.specs.Parse.{parsed}
 use Rattle.tree_model.specs.declared.fragment.Fragment.{Fragment}
 use Rattle.jsonml_io.specs.declared.fragment_error.FragmentError.{FragmentError}
 use Rattle.jsonml_io.specs.JsonMl.{fragment_of}
 use Rattle.command_lines.specs.declared.bad_line.BadLine.{BadLine}
 use Rattle.command_lines.specs.declared.bad_line.BadLine.TheVariants.{Why}
 use Rattle.command_lines.specs.declared.key.Key.{Key}
-use Rattle.command_lines.specs.declared.key.Key.TheVariants.{At, Name, Offset, Count, Before, Old, Tree, TreeOrNone, Value, Data as DataKey}
-use Rattle.command_lines.specs.Reasons.{◌>>=◌, found_or, refused_tree}
+use Rattle.command_lines.specs.declared.key.Key.TheVariants.{At, Path, Name, Offset, Count, Before, Old, Tree, TreeOrNone, Value, Data as DataKey}
+use Rattle.command_lines.specs.Reasons.{◌>>=◌, found_or, refused_path, refused_tree}
 
 -- the key as it stands in a line, which is also the reason where it is missing or of the wrong kind
 abbrev pub key_name : Key → List ℕ
 key_name At = codes "at"
+key_name Path = codes "path"
 key_name Name = codes "name"
 key_name Offset = codes "offset"
 key_name Count = codes "count"
@@ -66,6 +70,15 @@ label_at key value = text_at key value >>= λ text. found_or (key_name key) (nod
 abbrev pub label_or_none_at : Key → Option Data → Result (Option Label) BadLine
 label_or_none_at key (Some null) = Ok None
 label_or_none_at key value = label_at key value >>= λ l. Ok (Some l)
+
+-- a path, or why the text is none
+abbrev pub path_or_reason : Result XPath PathError → Result XPath BadLine
+path_or_reason (Ok p) = Ok p
+path_or_reason (Err e) = Err (refused_path e)
+
+-- a location path
+abbrev pub path_at : Key → Option Data → Result XPath BadLine
+path_at key value = text_at key value >>= λ text. path_or_reason (parsed text)
 
 -- a fragment, or why the value is none
 abbrev pub fragment_or_reason : Result Fragment FragmentError → Result Fragment BadLine

@@ -1,7 +1,7 @@
 -- What a line of a script asks for (docs/MANUAL.md, "Script lines"); JSON is RFC 8259, as `serde_json` reads it, where the last of a repeated key counts.
 use Rattle.std.specs.Prelude.{ℕ, ◌||◌, ◌&&◌, ◌==◌, nat_le, if◌then◌else◌, List, Bool, codes, Option, Some, None, option_and_then, Result, Ok, Err}
 use Rattle.std.specs.List.{list_all}
-use Rattle.serde_json.specs.Data.{Data, null, boolean, number, string, array, object, Members, no_members, member}
+use Rattle.serde_json.specs.Data.{Data, object, Members, no_members, member}
 use Rattle.serde_json.specs.Find.{get_member}
 use Rattle.jsonml_io.specs.JsonMl.{value_of}
 use Rattle.command_lines.specs.declared.bad_line.BadLine.{BadLine}

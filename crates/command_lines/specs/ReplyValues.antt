@@ -1,5 +1,5 @@
 -- The values of the replies of calls (docs/MANUAL.md, "Replies").
-use Rattle.std.specs.Prelude.{ℕ, List, [], ◌∷◌, ◌++◌, map, codes, ◌==◌, if◌then◌else◌, Option, Some, None}
+use Rattle.std.specs.Prelude.{ℕ, List, [], ◌++◌, map, codes, ◌==◌, if◌then◌else◌, Option, Some, None}
 use Rattle.serde_json.specs.Data.{Data, null, boolean, number, unsigned, string, array, object, no_items, item, Members, member, no_members}
 use Rattle.serde_json.specs.View.{items_of}
 use Rattle.dewey_labels.specs.Labels.{Label}

@@ -1,9 +1,8 @@
 -- What a word asks for: the keys that it takes, each by its kind and in this order, and the call that is made of them.
-use Rattle.std.specs.Prelude.{ℕ, List, Option, Result}
+use Rattle.std.specs.Prelude.{ℕ, List, Option}
 use Rattle.dewey_labels.specs.Labels.{Label}
 use Rattle.tree_model.specs.declared.dom_call.DomCall.{DomCall}
 use Rattle.tree_model.specs.declared.dom_call.DomCall.TheVariants as dom
-use Rattle.command_lines.specs.declared.bad_line.BadLine.{BadLine}
 use Rattle.command_lines.specs.declared.key.Key.{Key}
 use Rattle.command_lines.specs.declared.key.Key.TheVariants as key
 use Rattle.command_lines.specs.declared.calls.Word.{Word}
@@ -22,8 +21,9 @@ use Rattle.command_lines.specs.declared.calls.AtRangeCall.{AtRangeCall}
 use Rattle.command_lines.specs.declared.calls.AtRangeCall.TheVariants as at_range
 use Rattle.command_lines.specs.declared.command.What.{What}
 use Rattle.command_lines.specs.declared.command.What.TheVariants.{Begin, Commit, Abort, Call}
-use Rattle.command_lines.specs.declared.command.StoreCall.TheVariants.{Dom}
-use Rattle.command_lines.specs.KeyValues.{text_at, whole_at, label_at, label_or_none_at, tree_at, tree_or_none_at}
+use Rattle.command_lines.specs.declared.command.StoreCall.{StoreCall}
+use Rattle.command_lines.specs.declared.command.StoreCall.TheVariants.{Dom, Find}
+use Rattle.command_lines.specs.KeyValues.{text_at, whole_at, label_at, label_or_none_at, path_at, tree_at, tree_or_none_at}
 use Rattle.command_lines.specs.Taking.{Taking, take_key, ◌|>◌, done}
 
 -- ---- calls with the same keys
@@ -95,8 +95,12 @@ dom_call InsertData = label key.At |> λ l. whole key.Offset |> λ offset. text 
 dom_call ReplaceData = label key.At |> λ l. whole key.Offset |> λ from. whole key.Count |> λ count. text key.Data |> λ t. done (dom.ReplaceData l from count t)
 dom_call SplitText = label key.At |> λ l. whole key.Offset |> λ offset. done (dom.SplitText l offset)
 
+abbrev pub find : Taking StoreCall
+find = label key.At |> λ l. take_key path_at key.Path |> λ p. done (Find l p)
+
 abbrev pub what_in : Word → Taking What
 what_in word.Begin = done Begin
 what_in word.Commit = done Commit
 what_in word.Abort = done Abort
 what_in (word.Dom call) = dom_call call |> λ made. done (Call (Dom made))
+what_in word.Find = find |> λ call. done (Call call)

@@ -9,6 +9,8 @@ pub enum Word {
     Commit,
     Abort,
     Dom(DomWord),
+    /// `at`, `path`
+    Find,
 }
 
 /// What is asked of the tree, by the keys that it takes.
@@ -90,7 +92,7 @@ pub enum AtRangeCall {
 }
 
 /// Each word as it stands in a line, and what it asks for, which tells its keys in the order in which they are tried.
-pub const CALLS: [(&str, Word); 37] = [
+pub const CALLS: [(&str, Word); 38] = [
     ("begin", Word::Begin),
     ("commit", Word::Commit),
     ("abort", Word::Abort),
@@ -114,6 +116,7 @@ pub const CALLS: [(&str, Word); 37] = [
         "substring",
         Word::Dom(DomWord::AtRange(AtRangeCall::Substring)),
     ),
+    ("find", Word::Find),
     ("create", Word::Dom(DomWord::Create)),
     ("drop", Word::Dom(DomWord::OfName(OfNameCall::Drop))),
     ("append", Word::Dom(DomWord::Append)),

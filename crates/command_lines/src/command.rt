@@ -1,7 +1,8 @@
 //! What a line asks for.
 ghost use Rattle.std.specs.Prelude.{◌≡◌, IfOk};
 
-use dewey_labels::{Copied, NoMemory};
+use dewey_labels::{Copied, Label, NoMemory};
+use path_model::XPath;
 use std::alloc::Global;
 use tree_model::DomCall;
 
@@ -25,6 +26,8 @@ pub enum What {
 #[derive(Debug, Drop)]
 pub enum StoreCall {
     Dom(DomCall),
+    /// The nodes and attributes that a path finds from a node.
+    Find { at: Label, path: XPath },
 }
 
 impl Command {
@@ -69,6 +72,10 @@ impl StoreCall {
     {
         match self {
             StoreCall::Dom(call) => Ok(StoreCall::Dom(call.copy(alloc)?)),
+            StoreCall::Find { at, path } => Ok(StoreCall::Find {
+                at: at.copy(alloc)?,
+                path: path.copy(alloc)?,
+            }),
         }
     }
 }

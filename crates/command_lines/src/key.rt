@@ -7,6 +7,8 @@ ghost use Rattle.command_lines.specs.KeyValues.{key_name};
 pub enum Key {
     /// The label of a document or of a node below one.
     At,
+    /// A location path.
+    Path,
     /// A text.
     Name,
     /// A whole number up to 4,294,967,295.
@@ -34,6 +36,7 @@ impl Key {
     {
         match self {
             Key::At => "at",
+            Key::Path => "path",
             Key::Name => "name",
             Key::Offset => "offset",
             Key::Count => "count",

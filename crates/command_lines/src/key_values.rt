@@ -2,16 +2,20 @@
 ghost use Rattle.std.specs.Prelude.{◌≡◌, ◌≢◌, option_map, IsTrue, IfOk, IfSome};
 ghost use Rattle.serde_json.specs.View.{view};
 ghost use Rattle.dewey_labels.specs.Labels.{IsLabel};
+ghost use Rattle.path_model.specs.Lawful.{is_lawful};
 ghost use Rattle.tree_model.specs.Fragments.{plain, plain_or_none, IsValid};
-ghost use Rattle.command_lines.specs.Reasons.{Reads, refused_tree};
-ghost use Rattle.command_lines.specs.KeyValues.{wrong_key, string_at, text_at, whole_at, label_at, label_or_none_at, tree_at, tree_or_none_at, below_root, node_label};
+ghost use Rattle.xpath_parser.specs.Parse.{parsed};
+ghost use Rattle.command_lines.specs.Reasons.{Reads, refused_path, refused_tree};
+ghost use Rattle.command_lines.specs.KeyValues.{path_or_reason, wrong_key, string_at, text_at, whole_at, label_at, label_or_none_at, path_at, tree_at, tree_or_none_at, below_root, node_label};
 
 use crate::{BadLine, Key};
 use dewey_labels::{Label, LabelTextError, NoMemory, Text};
 use jsonml_io::{FragmentError, from_value};
+use path_model::XPath;
 use serde_json::Value;
 use std::alloc::Global;
 use tree_model::Fragment;
+use xpath_parser::{PathError, parse};
 
 /// The key is missing, or its value of the wrong kind.
 fn wrong(alloc: Global, key: Key) -> BadLine
@@ -93,6 +97,35 @@ pub fn label_or_none_at(
         Some(Value::Null) => Ok(None),
         value => Ok(Some(label_at(alloc, key, value)?)),
     }
+}
+
+/// A location path, in time linear in its text.
+pub fn path_at(alloc: Global, key: Key, value: Option<Value>) -> Result<XPath, BadLine>
+    ensures reads { Reads (path_at key (option_map view value)) result }
+    ensures lawful { IfOk result (λ path. IsTrue (is_lawful path)) }
+{
+    let text = text_at(alloc, key, value)?;
+    path_of(alloc, text.as_str())
+}
+
+/// The path of a text, or why it is none.
+fn path_of(alloc: Global, text: &str) -> Result<XPath, BadLine>
+    ensures reads { Reads (path_or_reason (parsed text.now)) result }
+    ensures lawful { IfOk result (λ path. IsTrue (is_lawful path)) }
+{
+    match parse(alloc, text) {
+        Ok(path) => Ok(path),
+        Err(PathError::NoMemory) => Err(BadLine::NoMemory),
+        Err(error) => Err(refused_path(alloc, &error)?),
+    }
+}
+
+/// The reason that names a path's refusal and its place.
+fn refused_path(alloc: Global, error: &PathError) -> Result<BadLine, NoMemory>
+    ensures { IfOk result (λ why. why ≡ refused_path error.now) }
+{
+    let why = format!(in alloc; "path {} {}", error.name(), error.place())?;
+    Ok(BadLine::Why(Text::from_string(why)))
 }
 
 /// A fragment, whose texts are moved and not copied.

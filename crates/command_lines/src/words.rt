@@ -4,10 +4,10 @@ ghost use Rattle.serde_json.specs.View.{members_view};
 ghost use Rattle.command_lines.specs.declared.calls.DomWord.TheVariants.{OfName, Create, At, AtName, AtData, AtRange, Append, Insert, Replace, Remove, SetAttr, InsertData, ReplaceData, SplitText};
 ghost use Rattle.command_lines.specs.Taking.{Takes};
 ghost use Rattle.command_lines.specs.ValidCommands.{IsValidCall, IsValidWhat};
-ghost use Rattle.command_lines.specs.Words.{of_name_call, at_call, at_name_call, at_data_call, at_range_call, dom_call, what_in};
+ghost use Rattle.command_lines.specs.Words.{of_name_call, at_call, at_name_call, at_data_call, at_range_call, dom_call, find, what_in};
 
 use crate::calls::{AtCall, AtDataCall, AtNameCall, AtRangeCall, DomWord, OfNameCall, Word};
-use crate::taking::{label, label_or_none, text, tree, tree_or_none, whole};
+use crate::taking::{label, label_or_none, path, text, tree, tree_or_none, whole};
 use crate::{BadLine, Key, StoreCall, What};
 use dewey_labels::{Label, Text};
 use serde_json::{Map, Value};
@@ -24,7 +24,17 @@ pub fn what_in(alloc: Global, word: Word, members: &mut Map<String, Value>) -> R
         Word::Commit => Ok(What::Commit),
         Word::Abort => Ok(What::Abort),
         Word::Dom(call) => Ok(What::Call(StoreCall::Dom(dom_call(alloc, call, members)?))),
+        Word::Find => Ok(What::Call(find(alloc, members)?)),
     }
+}
+
+fn find(alloc: Global, members: &mut Map<String, Value>) -> Result<StoreCall, BadLine>
+    ensures takes { Takes find (members_view members.old.entries) (members_view members.new.entries) result }
+    ensures valid { IfOk result (λ call. IsValidWhat (What.Call call)) }
+{
+    let at = label(alloc, members, Key::At)?;
+    let path = path(alloc, members, Key::Path)?;
+    Ok(StoreCall::Find { at, path })
 }
 
 fn dom_call(

@@ -7,7 +7,7 @@ use lock_modes::{Ask, EdgeMode};
 use lock_resources::{Resource, Side};
 use std::alloc::Global;
 use std::test::Fail;
-use tree_model::{Refusal, Reply};
+use tree_model::{Hit, Refusal, Reply};
 
 /// The reply's line, without its end.
 fn written(alloc: Global, reply: &LineReply) -> Result<String, Fail> {
@@ -42,7 +42,7 @@ fn reason(alloc: Global, line: &[u8]) -> Result<Text, Fail> {
 }
 
 /// A line, and the reason that it is bad; none of a command or a blank line.
-const REASONS: [(&str, &str); 32] = [
+const REASONS: [(&str, &str); 42] = [
     ("", ""),
     (" \t\r", ""),
     ("\u{c}", "json"),
@@ -103,6 +103,40 @@ const REASONS: [(&str, &str); 32] = [
     ),
     (
         "{\"s\":1,\"call\":\"insert\",\"at\":\"1.1001\",\"before\":null,\"tree\":\"t\"}",
+        "",
+    ),
+    ("{\"s\":1,\"call\":\"find\",\"path\":\"a\"}", "at"),
+    (
+        "{\"s\":1,\"call\":\"find\",\"at\":\"1\",\"path\":\"[\"}",
+        "at",
+    ),
+    ("{\"s\":1,\"call\":\"find\",\"at\":\"1.1001\"}", "path"),
+    (
+        "{\"s\":1,\"call\":\"find\",\"at\":\"1.1001\",\"path\":null}",
+        "path",
+    ),
+    (
+        "{\"s\":1,\"call\":\"find\",\"at\":\"1.1001\",\"path\":\"\"}",
+        "path Syntax 0",
+    ),
+    (
+        "{\"s\":1,\"call\":\"find\",\"at\":\"1.1001\",\"path\":\"a[\",\"x\":0}",
+        "path Syntax 2",
+    ),
+    (
+        "{\"s\":1,\"call\":\"find\",\"at\":\"1.1001\",\"path\":\"é|b\"}",
+        "path Unsupported 2",
+    ),
+    (
+        "{\"s\":1,\"call\":\"find\",\"at\":\"1.1001\",\"path\":\"a[--------------------------------------------------1]\"}",
+        "path Deep 51",
+    ),
+    (
+        "{\"s\":1,\"call\":\"find\",\"at\":\"1.1001\",\"path\":\"a\",\"x\":0}",
+        "extra",
+    ),
+    (
+        "{\"s\":1,\"call\":\"find\",\"at\":\"1.1001\",\"path\":\"//b[@id='x']/title\"}",
         "",
     ),
 ];
@@ -215,6 +249,34 @@ fn waits_bad_lines_and_the_order_are_written(rt: HostRuntime) -> Result<(), Fail
     Ok(())
 }
 
+/// An element and its attribute `id`.
+fn hits(alloc: Global) -> Result<List<Hit>, Fail> {
+    let mut hits = List::new(alloc);
+    let element = label(alloc, "1.1001.1001")?;
+    hits.push(Hit {
+        label: element,
+        attr: None,
+    })?;
+    let element = label(alloc, "1.1001.1001")?;
+    let name = Text::of(alloc, "id")?;
+    hits.push(Hit {
+        label: element,
+        attr: Some(name),
+    })?;
+    Ok(hits)
+}
+
+#[test]
+fn what_a_path_finds_is_written_by_labels(rt: HostRuntime) -> Result<(), Fail> {
+    let alloc = rt.alloc();
+    let found = said(1, LineAnswer::Reply(Reply::Found(hits(alloc)?)));
+    let want = "{\"ok\":[\"1.1001.1001\",\"1.1001.1001/@id\"],\"s\":1}";
+    assert!(rt; writes(alloc, found, want)?);
+    let none = said(1, LineAnswer::Reply(Reply::Found(List::new(alloc))));
+    assert!(rt; writes(alloc, none, "{\"ok\":[],\"s\":1}")?);
+    Ok(())
+}
+
 /// Whether a copy of the command is made.
 fn is_copied(alloc: Global, command: Command) -> bool {
     let copy = command.copy(alloc);
@@ -225,12 +287,16 @@ fn is_copied(alloc: Global, command: Command) -> bool {
 }
 
 #[test]
-fn a_command_is_copied(rt: HostRuntime) -> Result<(), Fail> {
+fn commands_are_copied(rt: HostRuntime) -> Result<(), Fail> {
     let alloc = rt.alloc();
-    let line = b"{\"s\":1,\"call\":\"first\",\"at\":\"1.1001\"}";
-    let Ok(Some(command)) = read_line(alloc, line) else {
-        return Err(Fail::from("no command"));
-    };
-    assert!(rt; is_copied(alloc, command));
+    for line in [
+        "{\"s\":1,\"call\":\"first\",\"at\":\"1.1001\"}",
+        "{\"s\":1,\"call\":\"find\",\"at\":\"1.1001\",\"path\":\"/a\"}",
+    ] {
+        let Ok(Some(command)) = read_line(alloc, line.as_bytes()) else {
+            return Err(Fail::from("no command"));
+        };
+        assert!(rt; is_copied(alloc, command));
+    }
     Ok(())
 }
