@@ -53,9 +53,10 @@ fn try_call(
     let mut text = reply_text(alloc, session, reply)?;
     text.push_str(&format!(in alloc; "\n  {} changes; ", changes.len())?)?;
     push_requests(alloc, &requests, &mut text)?;
-    let StoreCall::Dom(call) = op.call();
-    if plan_reads > most_plan_reads(call) {
-        text.push_str(&format!(in alloc; "\n  {plan_reads} reads of its plan")?)?;
+    if let StoreCall::Dom(call) = op.call() {
+        if plan_reads > most_plan_reads(call) {
+            text.push_str(&format!(in alloc; "\n  {plan_reads} reads of its plan")?)?;
+        }
     }
     if !fails_at_each(alloc, op, map, plan_reads, call_reads)? {
         text.push_str("\n  a fault was passed over")?;

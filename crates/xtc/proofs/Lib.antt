@@ -8,7 +8,6 @@ pub mod LineLaws
 pub mod LiveLaws
 pub mod OnTreeLaws
 pub mod OpeningLaws
-pub mod ReasonLaws
 pub mod ScriptBooks
 pub mod ScriptLaws
 pub mod StatusLaws

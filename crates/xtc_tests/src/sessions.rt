@@ -471,8 +471,8 @@ nope
  {"bad":"call","line":16}
 {"s":0,"call":"abort"}
  {"bad":"s","line":17}
-{"s":1,"call":"find"}
- {"bad":"later","line":18}
+{"s":1,"call":"find","at":"1.1001","path":"a["}
+ {"bad":"path Syntax 2","line":18}
 {"s":1,"call":"docs","at":"1.1001"}
  {"bad":"extra","line":19}
 {"s":1,"call":"append","at":"1","tree":7}
