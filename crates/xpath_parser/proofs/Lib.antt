@@ -9,3 +9,12 @@ pub mod LawfulForms
 pub mod LawfulWords
 pub mod LawfulRules
 pub mod LawfulPaths
+pub mod TextTokens
+pub mod TextValues
+pub mod TextFacts
+pub mod WrittenParts
+pub mod StepBacks
+pub mod PathBacks
+pub mod ExprBacks
+pub mod RoundTrips
+pub mod TextRows

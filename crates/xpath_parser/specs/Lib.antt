@@ -5,5 +5,7 @@ pub mod Input
 pub mod Words
 pub mod Grammar
 pub mod Parse
+-- Texts of paths
+pub mod PathText
 -- Words of the proofs alone
 pub mod inside
