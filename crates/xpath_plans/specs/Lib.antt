@@ -4,3 +4,5 @@ pub mod LookRequests
 pub mod LookCells
 -- the call `find` to the machine of locks
 pub mod Finds
+-- words that only private functions use
+pub mod inside

@@ -3,7 +3,10 @@
 #![tactic(auto)]
 
 mod laws;
+mod look_plan;
+mod requests;
 
 pub use laws::{
     finds_meet_the_contract, looks_are_covered, paths_keep_the_laws, steps_ask_whatever_they_find,
 };
+pub use requests::path_requests;
