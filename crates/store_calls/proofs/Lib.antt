@@ -1,4 +1,5 @@
 pub mod Fragments
+pub mod KeptCalls
 pub mod Reading
 pub mod StoreCallLaws
 pub mod ValidParts

@@ -13,9 +13,14 @@ use Rattle.tree_model.proofs.WholeTree.{map_sorted}
 use Rattle.tree_changes.proofs.ChangeLists.{no_differences}
 use Rattle.node_seq.specs.Trees.{OnTree}
 use Rattle.dom_reads.specs.Reading.{is_reading}
-use Rattle.call_contract.specs.Calls.{OnlyAnswers}
+use Rattle.call_contract.specs.Calls.{OnlyAnswers, changes_of}
 use Rattle.command_lines.specs.declared.command.StoreCall.{StoreCall}
-use Rattle.store_calls.specs.StoreCalls.{dom_call, store_meaning}
+use Rattle.command_lines.specs.declared.command.StoreCall.TheVariants.{Dom, Find}
+use Rattle.dewey_labels.specs.Labels.{Label}
+use Rattle.path_model.specs.Finds.{found_at}
+use Rattle.path_model.specs.PlainPaths.{plain_path}
+use Rattle.path_model.specs.declared.path.XPath.{XPath}
+use Rattle.store_calls.specs.StoreCalls.{store_meaning, store_reply}
 
 pub reading_leaves : (c : DomCall) (t : Tree) → is_reading c ≡ true → (dom c t).1 ≡ t
 reading_leaves call.Docs t reads = refl
@@ -56,18 +61,33 @@ reading_leaves (call.SetText l d) t reads = absurd (true≢false (sym reads))
 pub reading_changes_nothing : (c : DomCall) (t : Tree) → IsValidTree t → is_reading c ≡ true → differences (map_of t) (map_of (dom c t).1) ≡ []
 reading_changes_nothing c t w reads = ap (λ u. differences (map_of t) (map_of u)) (reading_leaves c t reads) ∙ no_differences (map_of t) (map_sorted t w)
 
+-- a call of the store that reads alone has no changes
+pub dom_changes_nothing : (x : StoreCall) (c : DomCall) (t : Tree) → Dom c ≡ x → IsValidTree t → is_reading c ≡ true → changes_of store_meaning x t ≡ []
+dom_changes_nothing x c t is w reads = subst (λ y. changes_of store_meaning y t ≡ []) is (reading_changes_nothing c t w reads)
+
+-- and so has a find, whatever the path
+pub find_changes_nothing : (x : StoreCall) (at : Label) (path : XPath) (t : Tree) → Find at path ≡ x → IsValidTree t → changes_of store_meaning x t ≡ []
+find_changes_nothing x at path t is w = subst (λ y. changes_of store_meaning y t ≡ []) is (no_differences (map_of t) (map_sorted t w))
+
 -- what holds of every answer holds of an answer that came
 pub of_every_answer : {A E : Type 0} (r : Result A E) (P : A → Type 0) → ((x : A) → P x) → IfOk r P
 of_every_answer (Ok x) P all = all x
 of_every_answer (Err e) P all = tt
 
--- a reply of a call that reads alone is all that the call does
-pub only_answers : {E : Type 0} (told : Option Entries) (x : StoreCall) (c : DomCall) (r : Result (Option Reply) E) → c ≡ dom_call x
+-- the reply of a call that reads alone is all that the call does
+pub only_answers : {E : Type 0} (told : Option Entries) (x : StoreCall) (c : DomCall) (r : Result (Option Reply) E) → Dom c ≡ x
     → OnTree told r (λ t known. IfSome known (λ answer. answer ≡ (dom c t).0)) → IfOk r (λ known. IsSome known → IsTrue (is_reading c))
     → OnTree told r (λ t known. IfSome known (OnlyAnswers store_meaning x t))
-only_answers told x c (Err e) same replies reads = tt
-only_answers told x c (Ok None) same replies reads = λ t stands. tt
-only_answers told x c (Ok (Some answer)) same replies reads = λ t stands. record {
-  reply = replies t stands ∙ ap (λ (d : DomCall). (dom d t).0) same;
-  changes = reading_changes_nothing (dom_call x) t stands.valid (subst (λ (d : DomCall). is_reading d ≡ true) same (reads refl));
+only_answers told x c (Err e) is replies reads = tt
+only_answers told x c (Ok None) is replies reads = λ t stands. tt
+only_answers told x c (Ok (Some answer)) is replies reads = λ t stands. record {
+  reply = replies t stands ∙ ap (λ y. store_reply y t) is;
+  changes = dom_changes_nothing x c t is stands.valid (reads refl);
 }
+
+-- so is that of a find
+pub find_only_answers : {E : Type 0} (told : Option Entries) (x : StoreCall) (at : Label) (path : XPath) (r : Result (Option Reply) E) → Find at path ≡ x
+    → OnTree told r (λ t known. known ≡ Some (found_at at (plain_path path) t)) → OnTree told r (λ t known. IfSome known (OnlyAnswers store_meaning x t))
+find_only_answers told x at path (Err e) is replies = tt
+find_only_answers told x at path (Ok known) is replies = λ t stands.
+    subst (λ o. IfSome o (OnlyAnswers store_meaning x t)) (sym (replies t stands)) (record { reply = ap (λ y. store_reply y t) is; changes = find_changes_nothing x at path t is stands.valid })

@@ -1,19 +1,65 @@
 -- Calls on the store's tree by their kinds, and what they mean.
-use Rattle.tree_changes.specs.ValidCalls.{IsValidCall}
-use Rattle.tree_model.specs.declared.dom_call.DomCall.{DomCall}
-use Rattle.call_contract.specs.Calls.{CallMeaning, held_meaning}
+use Rattle.std.specs.Prelude.{Bool, true, List, IsTrue}
+use Rattle.dewey_labels.specs.Labels.{Label, IsLabel}
+use Rattle.lock_resources.specs.declared.request.Request.{Request}
+use Rattle.tree_model.specs.DomCalls.{dom}
+use Rattle.tree_model.specs.Fragments.{Fragments, no_more, IsValid}
+use Rattle.tree_model.specs.Tree.{Tree}
+use Rattle.tree_model.specs.declared.reply.Reply.{Reply}
+use Rattle.tree_changes.specs.ValidCalls.{IsValidCall, fragment_brought}
+use Rattle.lock_plans.specs.DomPlans.{requests}
+use Rattle.path_model.specs.declared.path.XPath.{XPath}
+use Rattle.path_model.specs.Finds.{found_at}
+use Rattle.path_model.specs.Lawful.{is_lawful}
+use Rattle.path_model.specs.PlainPaths.{plain_path}
+use Rattle.xpath_plans.specs.Finds.{find_requests}
+use Rattle.call_contract.specs.Calls.{CallMeaning}
 use Rattle.command_lines.specs.declared.command.StoreCall.{StoreCall}
-use Rattle.command_lines.specs.declared.command.StoreCall.TheVariants.{Dom}
-use Rattle.dom_laws.specs.Meaning.{dom_meaning}
+use Rattle.command_lines.specs.declared.command.StoreCall.TheVariants.{Dom, Find}
 
--- the DOM call that a call is
-abbrev pub dom_call : StoreCall → DomCall
-dom_call (Dom call) = call
+-- ---- what a call means
 
--- what a call means
+-- what it asks for on a tree
+abbrev pub store_requests : StoreCall → Tree → List Request
+store_requests (Dom call) t = requests call t
+store_requests (Find at path) t = find_requests at (plain_path path) t
+
+-- what it is answered
+abbrev pub store_reply : StoreCall → Tree → Reply
+store_reply (Dom call) t = (dom call t).0
+store_reply (Find at path) t = found_at at (plain_path path) t
+
+-- the tree after it
+abbrev pub store_after : StoreCall → Tree → Tree
+store_after (Dom call) t = (dom call t).1
+store_after (Find at path) t = t
+
 abbrev pub store_meaning : CallMeaning StoreCall
-store_meaning = held_meaning dom_call dom_meaning
+store_meaning = record { requests = store_requests; reply = store_reply; after = store_after }
 
--- the call is valid
+-- ---- valid calls
+
+-- a find's path is lawful
+pub record IsLawfulFind (at : Label) (path : XPath) : Type 0 where
+  pub label : IsLabel at
+  pub lawful : IsTrue (is_lawful path)
+
 abbrev pub IsValidStoreCall : StoreCall → Type 0
-IsValidStoreCall call = IsValidCall (dom_call call)
+IsValidStoreCall (Dom call) = IsValidCall call
+IsValidStoreCall (Find at path) = IsLawfulFind at path
+
+-- ---- what a call keeps of itself
+
+-- the fragment that it brings
+abbrev pub fragment_in : StoreCall → Fragments
+fragment_in (Dom call) = fragment_brought call
+fragment_in (Find at path) = no_more
+
+-- its path is lawful, if it has one
+abbrev pub has_lawful_path : StoreCall → Bool
+has_lawful_path (Dom call) = true
+has_lawful_path (Find at path) = is_lawful path
+
+-- so it is valid, since labels are labels and texts are UTF-8 by their types
+abbrev pub KeepsItself : StoreCall → Type 0
+KeepsItself call = IsValid (fragment_in call) × IsTrue (has_lawful_path call)

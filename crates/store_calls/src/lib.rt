@@ -1,5 +1,5 @@
 //! The calls on the store's tree as the lock machine takes them: each with its requests, its reply and its changes, over any map that stands for the tree.
-//! DOM calls keep the laws of calls, so every legal book of them is serial.
+//! DOM calls and finds keep the laws of calls, so every legal book of them is serial.
 #![tactic(auto)]
 
 mod parts;

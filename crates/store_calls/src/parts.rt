@@ -18,7 +18,7 @@ pub fn tell_parts(call: &DomCall)
     tell_text_brought(call);
 }
 
-fn tell_labels(call: &DomCall)
+pub fn tell_labels(call: &DomCall)
     ensures { AllByRecursion IsLabel (labels_named call.now) }
 {
     match call {
@@ -75,7 +75,7 @@ fn tell_text_brought(call: &DomCall)
     }
 }
 
-fn tell_label(at: &Label)
+pub fn tell_label(at: &Label)
     ensures { IsLabel at.now }
 {
     let _divisions = at.divisions();

@@ -1,11 +1,10 @@
 //! A call on the store's tree as a call of the lock machine.
 ghost use Rattle.std.specs.Prelude.{◌≡◌, ◌++◌, [], IsTrue, OnErr};
-ghost use Rattle.tree_changes.specs.ValidCalls.{IsValidCall};
 ghost use Rattle.command_lines.specs.ValidCommands.{IsValidWhat};
 ghost use Rattle.command_lines.specs.declared.command.What.TheVariants.{Call};
-ghost use Rattle.store_calls.specs.StoreCalls.{dom_call};
+ghost use Rattle.store_calls.specs.StoreCalls.{IsValidStoreCall, KeepsItself};
 
-use crate::parts::tell_parts;
+use crate::parts::{tell_label, tell_parts};
 use call_contract::TreeCall;
 use command_lines::StoreCall;
 use dewey_labels::{Copied, List, NoMemory};
@@ -16,9 +15,11 @@ use lock_resources::Request;
 use node_seq::{NodeRead, SeqError};
 use std::alloc::Global;
 use std::marker::Model;
-use tree_model::{Changes, DomCall, Reply};
+use tree_model::{Changes, Reply};
+use xpath_eval::evaluate;
+use xpath_plans::path_requests;
 
-/// A call on the store's tree, seen as that call. The type keeps that its fragment is valid, if it has one; its labels are labels and its texts are UTF-8 by theirs.
+/// A call on the store's tree, seen as that call. The type keeps that its fragment is valid and its path lawful, if it has them; its labels are labels and its texts are UTF-8 by theirs.
 #[derive(Debug, Drop)]
 pub struct StoreOp {
     call: StoreCall,
@@ -26,23 +27,23 @@ pub struct StoreOp {
 
 impl Model for StoreOp {
     ghost use Rattle.command_lines.specs.declared.command.StoreCall.{StoreCall};
-    ghost use Rattle.tree_changes.specs.ValidCalls.{fragment_brought};
-    ghost use Rattle.tree_model.specs.Fragments.{IsValid};
     ghost use Rattle.tree_model.specs.contracts.fragment.Fragment as fragment;
+    ghost use Rattle.path_model.specs.contracts.path.XPath as path;
     ghost use Rattle.std.specs.Coded.{codes};
-    ghost use Rattle.store_calls.specs.StoreCalls.{dom_call};
+    ghost use Rattle.store_calls.specs.StoreCalls.{KeepsItself};
 
     ghost Value = { StoreCall };
 
-    ghost coded = { Prim.hlevel (codes, fragment.the_row.coded) };
+    ghost coded = { Prim.hlevel (codes, fragment.the_row.coded, path.the_row.coded) };
 
     ghost view = { λ op. op.call };
 
-    ghost invariant = { λ op. IsValid (fragment_brought (dom_call op.call)) };
+    ghost invariant = { λ op. KeepsItself op.call };
 }
 
 impl StoreOp {
     /// A call of a command that was read. It takes no memory.
+    #[tactic(auto, using(crate::proofs::KeptCalls::keeps_itself))]
     pub fn new(call: StoreCall) -> StoreOp
         requires valid { IsValidWhat (Call call) }
         ensures { result ≡ call }
@@ -53,30 +54,26 @@ impl StoreOp {
     /// The call, which is valid.
     pub fn call(&self) -> &StoreCall
         ensures call { result.now ≡ self.now }
-        ensures valid { IsValidCall (dom_call self.now) }
+        ensures valid { IsValidStoreCall self.now }
     {
-        let StoreCall::Dom(call) = &self.call;
-        tell_parts(call);
+        tell_call(&self.call);
         &self.call
     }
+}
 
-    /// The DOM call that it is.
-    fn dom(&self) -> &DomCall
-        ensures call { result.now ≡ dom_call self.now }
-        ensures valid { IsValidCall (dom_call self.now) }
-    {
-        let StoreCall::Dom(call) = &self.call;
-        tell_parts(call);
-        call
+/// Tells that a call is valid where it keeps what it must.
+fn tell_call(call: &StoreCall)
+    ensures { KeepsItself call.now → IsValidStoreCall call.now }
+{
+    match call {
+        StoreCall::Dom(call) => tell_parts(call),
+        StoreCall::Find { at, .. } => tell_label(at),
     }
 }
 
 impl TreeCall for StoreOp {
-    ghost use Rattle.tree_changes.specs.ValidCalls.{IsValidCall};
-    ghost use Rattle.call_contract.proofs.HeldCalls.{held_laws};
-    ghost use Rattle.dom_laws.specs.Meaning.{dom_meaning};
-    ghost use Rattle.dom_laws.proofs.Contract.{dom_laws};
-    ghost use Rattle.store_calls.specs.StoreCalls.{dom_call, store_meaning, IsValidStoreCall};
+    ghost use Rattle.store_calls.specs.StoreCalls.{store_meaning, IsValidStoreCall};
+    ghost use Rattle.store_calls.specs.inside.KindLaws.{laws_of_kinds};
 
     ghost meaning = { store_meaning };
 
@@ -88,7 +85,10 @@ impl TreeCall for StoreOp {
         seq: &mut S,
         out: &mut List<Request>,
     ) -> Result<Option<Reply>, SeqError> {
-        dom_requests(alloc, self.dom(), seq, out)
+        match self.call() {
+            StoreCall::Dom(call) => dom_requests(alloc, call, seq, out),
+            StoreCall::Find { at, path } => path_requests(alloc, path, at, seq, out),
+        }
     }
 
     fn apply<S: NodeRead>(
@@ -99,13 +99,12 @@ impl TreeCall for StoreOp {
     ) -> Result<Reply, SeqError> {
         // It tells that a known map is in order.
         let _faults = seq.faults();
-        let call = self.dom();
-        if is_reading(call) {
-            dom_read(alloc, call, seq)
-        } else {
-            dom_write(alloc, call, seq, out)
+        match self.call() {
+            StoreCall::Dom(call) if is_reading(call) => dom_read(alloc, call, seq),
+            StoreCall::Dom(call) => dom_write(alloc, call, seq, out),
+            StoreCall::Find { at, path } => evaluate(alloc, path, at, seq),
         }
     }
 
-    ghost laws = { held_laws dom_call IsValidCall dom_meaning dom_laws };
+    ghost laws = { laws_of_kinds };
 }
