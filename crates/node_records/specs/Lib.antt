@@ -5,4 +5,5 @@ pub mod Labels
 pub mod Keys
 pub mod Records
 pub mod Changes
+pub mod Pending
 pub mod Entries

@@ -10,6 +10,7 @@ mod keys;
 mod labels;
 mod laws;
 mod open_error;
+mod pending;
 mod records;
 mod texts;
 
@@ -18,4 +19,5 @@ pub use entries::{CHUNK_BYTES, Entry, read_entry, write_entry};
 pub use keys::{read_key, write_key};
 pub use laws::{bodies_are_read_again, keys_sort_as_their_bytes, what_is_written_is_read_again};
 pub use open_error::{File, OpenError, Place};
+pub use pending::Pending;
 pub use records::{read_record, write_record};
