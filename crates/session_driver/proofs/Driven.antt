@@ -24,7 +24,7 @@ use Rattle.session_driver.specs.Refusals.{refusal}
 use Rattle.session_driver.specs.declared.doing.Doing.{Doing}
 use Rattle.session_driver.specs.declared.doing.Doing.TheVariants as doing
 use Rattle.session_driver.specs.inside.Steps.{Adds, Leaves}
-use Rattle.session_driver.proofs.Left.{adds_over, done_after, begun_after}
+use Rattle.session_driver.proofs.Left.{adds_over, done_after, begun_after, entries_none}
 use Rattle.session_driver.proofs.Kept.{begin_same, call_same, abort_same, commit_refused}
 use Rattle.session_driver.proofs.Stepped.{MayCome, line_left, line_allowed, line_refused}
 
@@ -46,9 +46,7 @@ module _ {C B : Type 0} where
   book_same old new e = ap (λ (v : CoreView C B). record v { base = new.base; prepared = new.prepared }) e
 
   pub entries_kept : (old new : CoreView C B) → HasBookOf old new → new ≡ with_entries old [] new
-  entries_kept old new e =
-      e ∙ ap (λ (c : Option Entries). record old { base = new.base; committed = c; prepared = new.prepared }) (sym (ap (λ (v : CoreView C B). v.committed) e))
-      ∙ ap (λ (book : Book C). record old { book = book; base = new.base; committed = new.committed; prepared = new.prepared }) (sym (append-nil old.book))
+  entries_kept old new e = entries_none new ∙ ap (λ (v : CoreView C B). with_entries v [] new) e
 
 module _ {C B : Type 0} (is_valid : C → Type 0) (m : CallMeaning C) (told : B → Option Entries) where
   -- where the opening's map is known, the book is legal

@@ -1,5 +1,5 @@
 -- What is left to be done goes on: one part behind another, and a failure behind a part.
-use Rattle.std.proofs.Common.{◌≡◌, inl, inr, ℕ, List, [], ◌∷◌, ◌++◌, Option, Some, None, Result, Ok, Err, IfOk, OnErr, refl, sym, ap, ap₂, ◌∙◌}
+use Rattle.std.proofs.Common.{◌≡◌, inl, inr, ℕ, ◌+◌, List, [], ◌∷◌, ◌++◌, Option, Some, None, Result, Ok, Err, IfOk, OnErr, refl, sym, ap, ap₂, ◌∙◌}
 use Rattle.std.proofs.lemmas.List.{append-nil, append_assoc}
 use Rattle.call_contract.specs.Books.{Book, entry}
 use Rattle.call_contract.specs.declared.events.Event.TheVariants as event
@@ -8,7 +8,10 @@ use Rattle.call_contract.specs.States.{State}
 use Rattle.call_contract.specs.declared.events.Noted.{Noted}
 use Rattle.command_lines.specs.declared.line_reply.LineReply.{LineReply}
 use Rattle.tree_model.specs.Entries.{Entries}
-use Rattle.tx_core.specs.Cores.{CoreView, IsLeftBy, over, with_committed, with_entry}
+use Rattle.node_records.specs.declared.pending.Pending.{Pending}
+use Rattle.call_contract.specs.Sessions.{commits_in}
+use Rattle.tx_core.specs.Drains.{Undrained}
+use Rattle.tx_core.specs.Cores.{CoreView, IsLeftBy, drained, over, with_committed, with_entry, with_pending}
 use Rattle.tx_core.specs.declared.errors.CallError.{CallError}
 use Rattle.tx_core.specs.declared.errors.CallError.TheVariants as call_error
 use Rattle.session_driver.specs.Progress.{Progress, stays}
@@ -20,7 +23,7 @@ module _ {C B : Type 0} where
 
   entries_on : (a b c : CoreView C B) (xs ys : Book C) → b ≡ with_entries a xs b → c ≡ with_entries b ys c → c ≡ with_entries a (xs ++ ys) c
   entries_on a b c xs ys one two =
-      two ∙ ap (λ (v : CoreView C B). with_entries v ys c) one ∙ ap (λ (book : Book C). record a { book = book; base = c.base; committed = c.committed; prepared = c.prepared }) (append_assoc a.book xs ys)
+      two ∙ ap (λ (v : CoreView C B). with_entries v ys c) one ∙ ap (λ (book : Book C). record a { book = book; base = c.base; committed = c.committed; prepared = c.prepared; undrained = c.undrained }) (append_assoc a.book xs ys)
 
   pub entries_none : (v : CoreView C B) → v ≡ with_entries v [] v
   entries_none v = ap (λ (book : Book C). record v { book = book }) (sym (append-nil v.book))
@@ -30,20 +33,23 @@ module _ {C B : Type 0} where
 
   -- the core over a base that was read
   pub entries_read : (v w : CoreView C B) → w ≡ over v w.base → w ≡ with_entries v [] w
-  entries_read v w e =
-      e ∙ ap₂ (λ (c : Option Entries) (p : Option ℕ). record v { base = w.base; committed = c; prepared = p }) (sym (ap (λ (x : CoreView C B). x.committed) e)) (sym (ap (λ (x : CoreView C B). x.prepared) e))
-      ∙ ap (λ (book : Book C). record v { book = book; base = w.base; committed = w.committed; prepared = w.prepared }) (sym (append-nil v.book))
+  entries_read v w e = entries_none w ∙ ap (λ (x : CoreView C B). with_entries x [] w) e
 
-  -- .. with one more entry
+  -- .. with one more entry, over any base and with anything committed and left to be made durable
+  adds_by : (v w : CoreView C B) (n : Noted C) (b : B) (c : Option Entries) (u : Undrained) → w ≡ record (with_entry v n) { base = b; committed = c; undrained = u } → Adds v n w
+  adds_by v w n b c u e =
+      e ∙ (λ i. record (with_entry v n) { base = sym (ap (λ (x : CoreView C B). x.base) e) i; committed = sym (ap (λ (x : CoreView C B). x.committed) e) i; undrained = sym (ap (λ (x : CoreView C B). x.undrained) e) i })
+
   pub adds_over : (v w : CoreView C B) (n : Noted C) → w ≡ over (with_entry v n) w.base → Adds v n w
-  adds_over v w n e = e ∙ ap (λ (c : Option Entries). with_committed (over (with_entry v n) w.base) c) (sym (ap (λ (x : CoreView C B). x.committed) e))
+  adds_over v w n e = adds_by v w n w.base v.committed v.undrained e
 
-  -- .. which is a commit's
-  pub adds_commit : (v w : CoreView C B) (n : Noted C) → w ≡ with_committed (with_entry v n) w.committed → Adds v n w
-  adds_commit v w n e = e ∙ ap (λ (b : B). with_committed (over (with_entry v n) b) w.committed) (sym (ap (λ (x : CoreView C B). x.base) e))
+  -- .. which is that of a commit whose body is handed out
+  pub adds_commit : (v w x : CoreView C B) (n : Noted C) (p : Pending) → w ≡ with_committed (with_pending (with_entry v n) p) w.committed → x ≡ drained w → Adds v n x
+  adds_commit v w x n p e none_waits =
+      adds_by v x n v.base w.committed (record { after = v.number + commits_in (v.book ++ n ∷ []); waiting = [] }) (none_waits ∙ ap (λ (y : CoreView C B). drained y) e)
 
   pub entries_adds : (v w : CoreView C B) (n : Noted C) → Adds v n w → w ≡ with_entries v (n ∷ []) w
-  entries_adds v w n e = e ∙ ap (λ (p : Option ℕ). record v { book = v.book ++ n ∷ []; base = w.base; committed = w.committed; prepared = p }) (sym (ap (λ (x : CoreView C B). x.prepared) e))
+  entries_adds v w n e = e ∙ ap (λ (p : Option ℕ). record v { book = v.book ++ n ∷ []; base = w.base; committed = w.committed; prepared = p; undrained = w.undrained }) (sym (ap (λ (x : CoreView C B). x.prepared) e))
 
   pub entries_one : (v w : CoreView C B) (n : Noted C) → w ≡ over (with_entry v n) w.base → w ≡ with_entries v (n ∷ []) w
   entries_one v w n e = entries_adds v w n (adds_over v w n e)
@@ -161,9 +167,9 @@ module _ {C B : Type 0} where
   pub grown_adds : (v w : CoreView C B) (n : Noted C) (l : LineReply) (xs ys : List LineReply) → Adds v n w → ys ≡ xs ++ l ∷ [] → HasGrown v w xs ys
   grown_adds v w n l xs ys e f = record { entries = n ∷ []; said = l ∷ []; core = entries_adds v w n e; out = f }
 
-  -- whatever was committed before
-  pub grown_anew : (v w : CoreView C B) (committed : Option Entries) (xs ys : List LineReply) → HasGrown (with_committed v committed) w xs ys → HasGrown v w xs ys
-  grown_anew v w committed xs ys is = record { entries = is.entries; said = is.said; core = is.core; out = is.out }
+  -- whatever was committed and left to be made durable before
+  pub grown_anew : (v w : CoreView C B) (committed : Option Entries) (u : Undrained) (xs ys : List LineReply) → HasGrown (record v { committed = committed; undrained = u }) w xs ys → HasGrown v w xs ys
+  grown_anew v w committed u xs ys is = record { entries = is.entries; said = is.said; core = is.core; out = is.out }
 
   -- an attempt without an answer
   pub failed_attempt : (count : B → ℕ) (v w : CoreView C B) (s : ℕ) (c : C) (e : CallError) → IsLeftBy count v s c e w → HasFailed v w

@@ -44,9 +44,9 @@ refused_by_book v s (Call c) = shown_of (call_refused v s)
 
 -- ---- what was done
 
--- the core that was opened so, with further entries
+-- the core that was opened so, with further entries; of what is left to be made durable nothing is said
 abbrev pub with_entries : {C B : Type 0} → CoreView C B → Book C → CoreView C B → CoreView C B
-with_entries v b w = record v { book = v.book ++ b; base = w.base; committed = w.committed; prepared = w.prepared }
+with_entries v b w = record v { book = v.book ++ b; base = w.base; committed = w.committed; prepared = w.prepared; undrained = w.undrained }
 
 -- with the core that was opened so, and lines written: entries and lines were added at the end at most
 pub record HasGrown {C B : Type 0} (old new : CoreView C B) (before after : List LineReply) : Type 0 where

@@ -92,6 +92,8 @@ pub fn finish_commit<C: TreeCall + Drop, B: NodeRead + Drop>(
     ensures cause { HasCause call_error.DiskFault (B.count core.old.base) (B.count core.new.base) result }
 {
     let number = core.commit(session, prepared);
+    // The caller has made it durable.
+    core.drain(alloc);
     core.is_legal();
     say(
         out,

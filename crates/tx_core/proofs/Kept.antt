@@ -14,7 +14,9 @@ use Rattle.overlays.specs.Views.{contents_after}
 use Rattle.wait_graph.specs.Graphs.{waits}
 use Rattle.call_contract.specs.Calls.{CallMeaning}
 use Rattle.call_contract.specs.States.{State, start}
-use Rattle.tx_core.specs.Cores.{CoreView, IsLeftBy, over, waits_in, with_committed, with_entry}
+use Rattle.node_records.specs.declared.pending.Pending.{Pending}
+use Rattle.tx_core.specs.Drains.{Undrained}
+use Rattle.tx_core.specs.Cores.{CoreView, IsLeftBy, opened_over, over, waits_in, with_committed, with_entry, with_pending}
 use Rattle.call_contract.specs.Sessions.{live_after, live_in, queue_after, begins, begins_of, commits_in}
 use Rattle.tx_core.specs.inside.Sessions.{IsSeatedAs, IsSeatedFor, IsToldSeat, wait_in}
 use Rattle.call_contract.specs.Books.{Book, IsBookFrom, last, IsRun, FaultsRise, last_fault, IsAtMost, HasValidCall, HasValidCalls, fault_in, IsReached}
@@ -36,8 +38,8 @@ use Rattle.tx_core.proofs.Told.{once, none_prepared, seated_for}
 use Rattle.tx_core.proofs.Reached.{all_append}
 
 -- a core with these parts, as contracts see it
-abbrev pub shown : {C B : Type 0} → (B → Option Entries) → B → ℕ → ℕ → Parts C B → CoreView C B
-shown told opening number limit p = record {
+abbrev pub shown : {C B : Type 0} → (B → Option Entries) → B → ℕ → ℕ → Undrained → Parts C B → CoreView C B
+shown told opening number limit u p = record {
   opening = opening;
   number = number;
   limit = limit;
@@ -45,6 +47,7 @@ shown told opening number limit p = record {
   committed = contents_after p.layers.changes (told p.base);
   book = p.book.items;
   prepared = p.prepared;
+  undrained = u;
 }
 
 module _ {C B : Type 0} (is_valid : C → Type 0) (m : CallMeaning C) (told : B → Option Entries) where
@@ -192,92 +195,93 @@ module _ {C B : Type 0} (is_valid : C → Type 0) (m : CallMeaning C) (told : B 
   same_committed p q layers base = ap₂ (λ (l : Layered) (x : Option Entries). contents_after l.changes x) layers base
 
   -- what a core with these parts shows, by what it was
-  pub shown_so : (opening : B) (number limit : ℕ) (p q : Parts C B) (b : Book C) (prepared : Option ℕ) → q.book.items ≡ b → q.prepared ≡ prepared → contents_after q.layers.changes (told q.base) ≡ contents_after p.layers.changes (told p.base)
-      → shown told opening number limit q ≡ record { opening = opening; number = number; limit = limit; base = q.base; committed = contents_after p.layers.changes (told p.base); book = b; prepared = prepared }
-  shown_so opening number limit p q b prepared book is committed =
+  pub shown_so : (opening : B) (number limit : ℕ) (u : Undrained) (p q : Parts C B) (b : Book C) (prepared : Option ℕ) → q.book.items ≡ b → q.prepared ≡ prepared → contents_after q.layers.changes (told q.base) ≡ contents_after p.layers.changes (told p.base)
+      → shown told opening number limit u q ≡ record { opening = opening; number = number; limit = limit; base = q.base; committed = contents_after p.layers.changes (told p.base); book = b; prepared = prepared; undrained = u }
+  shown_so opening number limit u p q b prepared book is committed =
       ap₂ (λ (x : Book C) (y : Option ℕ). so x y (contents_after q.layers.changes (told q.base))) book is ∙ ap (so b prepared) committed
     where
       so : Book C → Option ℕ → Option Entries → CoreView C B
-      so b prepared committed = record { opening = opening; number = number; limit = limit; base = q.base; committed = committed; book = b; prepared = prepared }
+      so b prepared committed = record { opening = opening; number = number; limit = limit; base = q.base; committed = committed; book = b; prepared = prepared; undrained = u }
 
   -- with one more entry, over the same base or one that was read
-  pub shown_entry : (opening : B) (number limit : ℕ) (p q : Parts C B) (n : Noted C) (v : CoreView C B) → shown told opening number limit p ≡ v → q.book.items ≡ p.book.items ++ n ∷ [] → q.prepared ≡ None → q.layers ≡ p.layers → q.base ≡ p.base
-      → shown told opening number limit q ≡ with_entry v n
-  shown_entry opening number limit p q n v old book none layers base =
-      shown_so opening number limit p q (p.book.items ++ n ∷ []) None book none (same_committed p q layers (ap told base)) ∙ ap so base ∙ ap (λ (x : CoreView C B). with_entry x n) old
+  pub shown_entry : (opening : B) (number limit : ℕ) (u : Undrained) (p q : Parts C B) (n : Noted C) (v : CoreView C B) → shown told opening number limit u p ≡ v → q.book.items ≡ p.book.items ++ n ∷ [] → q.prepared ≡ None → q.layers ≡ p.layers → q.base ≡ p.base
+      → shown told opening number limit u q ≡ with_entry v n
+  shown_entry opening number limit u p q n v old book none layers base =
+      shown_so opening number limit u p q (p.book.items ++ n ∷ []) None book none (same_committed p q layers (ap told base)) ∙ ap so base ∙ ap (λ (x : CoreView C B). with_entry x n) old
     where
       so : B → CoreView C B
-      so b = record { opening = opening; number = number; limit = limit; base = b; committed = contents_after p.layers.changes (told p.base); book = p.book.items ++ n ∷ []; prepared = None }
+      so b = record { opening = opening; number = number; limit = limit; base = b; committed = contents_after p.layers.changes (told p.base); book = p.book.items ++ n ∷ []; prepared = None; undrained = u }
 
-  pub shown_over : (opening : B) (number limit : ℕ) (p q : Parts C B) (n : Noted C) (v : CoreView C B) → shown told opening number limit p ≡ v → q.book.items ≡ p.book.items ++ n ∷ [] → q.prepared ≡ None → q.layers ≡ p.layers → told q.base ≡ told p.base
-      → shown told opening number limit q ≡ over (with_entry v n) q.base
-  shown_over opening number limit p q n v old book none layers base =
-      shown_so opening number limit p q (p.book.items ++ n ∷ []) None book none (same_committed p q layers base) ∙ ap (λ (x : CoreView C B). over (with_entry x n) q.base) old
+  pub shown_over : (opening : B) (number limit : ℕ) (u : Undrained) (p q : Parts C B) (n : Noted C) (v : CoreView C B) → shown told opening number limit u p ≡ v → q.book.items ≡ p.book.items ++ n ∷ [] → q.prepared ≡ None → q.layers ≡ p.layers → told q.base ≡ told p.base
+      → shown told opening number limit u q ≡ over (with_entry v n) q.base
+  shown_over opening number limit u p q n v old book none layers base =
+      shown_so opening number limit u p q (p.book.items ++ n ∷ []) None book none (same_committed p q layers base) ∙ ap (λ (x : CoreView C B). over (with_entry x n) q.base) old
 
   -- with none, and with a commit prepared
-  pub shown_kept : (opening : B) (number limit : ℕ) (p q : Parts C B) (v : CoreView C B) → shown told opening number limit p ≡ v → q.book.items ≡ p.book.items → q.prepared ≡ p.prepared
-      → contents_after q.layers.changes (told q.base) ≡ contents_after p.layers.changes (told p.base) → q.base ≡ p.base → shown told opening number limit q ≡ v
-  shown_kept opening number limit p q v old book is committed base = shown_so opening number limit p q p.book.items p.prepared book is committed ∙ ap so base ∙ old
+  pub shown_kept : (opening : B) (number limit : ℕ) (u : Undrained) (p q : Parts C B) (v : CoreView C B) → shown told opening number limit u p ≡ v → q.book.items ≡ p.book.items → q.prepared ≡ p.prepared
+      → contents_after q.layers.changes (told q.base) ≡ contents_after p.layers.changes (told p.base) → q.base ≡ p.base → shown told opening number limit u q ≡ v
+  shown_kept opening number limit u p q v old book is committed base = shown_so opening number limit u p q p.book.items p.prepared book is committed ∙ ap so base ∙ old
     where
       so : B → CoreView C B
-      so b = record { opening = opening; number = number; limit = limit; base = b; committed = contents_after p.layers.changes (told p.base); book = p.book.items; prepared = p.prepared }
+      so b = record { opening = opening; number = number; limit = limit; base = b; committed = contents_after p.layers.changes (told p.base); book = p.book.items; prepared = p.prepared; undrained = u }
 
-  pub shown_prepared : (opening : B) (number limit : ℕ) (p q : Parts C B) (prepared : Option ℕ) (v : CoreView C B) → shown told opening number limit p ≡ v → q.book.items ≡ p.book.items → q.prepared ≡ prepared
-      → contents_after q.layers.changes (told q.base) ≡ contents_after p.layers.changes (told p.base) → q.base ≡ p.base → shown told opening number limit q ≡ record v { prepared = prepared }
-  shown_prepared opening number limit p q prepared v old book is committed base =
-      shown_so opening number limit p q p.book.items prepared book is committed ∙ ap so base ∙ ap (λ (x : CoreView C B). record x { prepared = prepared }) old
+  pub shown_prepared : (opening : B) (number limit : ℕ) (u : Undrained) (p q : Parts C B) (prepared : Option ℕ) (v : CoreView C B) → shown told opening number limit u p ≡ v → q.book.items ≡ p.book.items → q.prepared ≡ prepared
+      → contents_after q.layers.changes (told q.base) ≡ contents_after p.layers.changes (told p.base) → q.base ≡ p.base → shown told opening number limit u q ≡ record v { prepared = prepared }
+  shown_prepared opening number limit u p q prepared v old book is committed base =
+      shown_so opening number limit u p q p.book.items prepared book is committed ∙ ap so base ∙ ap (λ (x : CoreView C B). record x { prepared = prepared }) old
     where
       so : B → CoreView C B
-      so b = record { opening = opening; number = number; limit = limit; base = b; committed = contents_after p.layers.changes (told p.base); book = p.book.items; prepared = prepared }
+      so b = record { opening = opening; number = number; limit = limit; base = b; committed = contents_after p.layers.changes (told p.base); book = p.book.items; prepared = prepared; undrained = u }
 
   -- with a commit
-  pub shown_commit : (opening : B) (number limit : ℕ) (p q : Parts C B) (n : Noted C) (v : CoreView C B) → shown told opening number limit p ≡ v → q.book.items ≡ p.book.items ++ n ∷ [] → q.prepared ≡ None → q.base ≡ p.base
-      → shown told opening number limit q ≡ with_committed (with_entry v n) (contents_after q.layers.changes (told q.base))
-  shown_commit opening number limit p q n v old book none base =
-      ap₂ (λ (x : Book C) (y : Option ℕ). so x y q.base) book none ∙ ap (so (p.book.items ++ n ∷ []) None) base ∙ ap (λ (x : CoreView C B). with_committed (with_entry x n) (contents_after q.layers.changes (told q.base))) old
+  pub shown_commit : (opening : B) (number limit : ℕ) (u w : Undrained) (made : Pending) (p q : Parts C B) (n : Noted C) (v : CoreView C B) → shown told opening number limit u p ≡ v → q.book.items ≡ p.book.items ++ n ∷ [] → q.prepared ≡ None → q.base ≡ p.base
+      → w ≡ record { after = u.after; waiting = u.waiting ++ made ∷ [] } → shown told opening number limit w q ≡ with_committed (with_pending (with_entry v n) made) (contents_after q.layers.changes (told q.base))
+  shown_commit opening number limit u w made p q n v old book none base waits =
+      ap (λ (x : Undrained). shown told opening number limit x q) waits ∙ ap₂ (λ (x : Book C) (y : Option ℕ). so x y q.base) book none ∙ ap (so (p.book.items ++ n ∷ []) None) base
+      ∙ ap (λ (x : CoreView C B). with_committed (with_pending (with_entry x n) made) (contents_after q.layers.changes (told q.base))) old
     where
       so : Book C → Option ℕ → B → CoreView C B
-      so b prepared base = record { opening = opening; number = number; limit = limit; base = base; committed = contents_after q.layers.changes (told q.base); book = b; prepared = prepared }
+      so b prepared base = record { opening = opening; number = number; limit = limit; base = base; committed = contents_after q.layers.changes (told q.base); book = b; prepared = prepared; undrained = record { after = u.after; waiting = u.waiting ++ made ∷ [] } }
 
   -- over another base and other layers
-  pub shown_rebased : (opening : B) (number limit : ℕ) (p q : Parts C B) (base : B) (v : CoreView C B) → shown told opening number limit p ≡ v → q ≡ record p { base = base; layers = q.layers; passed = q.passed }
-      → shown told opening number limit q ≡ with_committed (over v base) (contents_after q.layers.changes (told q.base))
-  shown_rebased opening number limit p q base v old same =
+  pub shown_rebased : (opening : B) (number limit : ℕ) (u : Undrained) (p q : Parts C B) (base : B) (v : CoreView C B) → shown told opening number limit u p ≡ v → q ≡ record p { base = base; layers = q.layers; passed = q.passed }
+      → shown told opening number limit u q ≡ with_committed (over v base) (contents_after q.layers.changes (told q.base))
+  shown_rebased opening number limit u p q base v old same =
       ap (λ (x : Parts C B). so x (contents_after q.layers.changes (told q.base))) same ∙ ap (λ (x : CoreView C B). with_committed (over x base) (contents_after q.layers.changes (told q.base))) old
     where
       so : Parts C B → Option Entries → CoreView C B
-      so x committed = record { opening = opening; number = number; limit = limit; base = x.base; committed = committed; book = x.book.items; prepared = x.prepared }
+      so x committed = record { opening = opening; number = number; limit = limit; base = x.base; committed = committed; book = x.book.items; prepared = x.prepared; undrained = u }
 
   -- .. which make the same
-  pub shown_merged : (opening : B) (number limit : ℕ) (p q : Parts C B) (v : CoreView C B) → shown told opening number limit p ≡ v → q ≡ record p { base = q.base; layers = q.layers }
-      → contents_after q.layers.changes (told q.base) ≡ contents_after p.layers.changes (told p.base) → shown told opening number limit q ≡ over v q.base
-  shown_merged opening number limit p q v old same committed =
+  pub shown_merged : (opening : B) (number limit : ℕ) (u : Undrained) (p q : Parts C B) (v : CoreView C B) → shown told opening number limit u p ≡ v → q ≡ record p { base = q.base; layers = q.layers }
+      → contents_after q.layers.changes (told q.base) ≡ contents_after p.layers.changes (told p.base) → shown told opening number limit u q ≡ over v q.base
+  shown_merged opening number limit u p q v old same committed =
       ap (λ (x : Parts C B). so x (contents_after q.layers.changes (told q.base))) same ∙ ap (so p) committed ∙ ap (λ (x : CoreView C B). over x q.base) old
     where
       so : Parts C B → Option Entries → CoreView C B
-      so x committed = record { opening = opening; number = number; limit = limit; base = q.base; committed = committed; book = x.book.items; prepared = x.prepared }
+      so x committed = record { opening = opening; number = number; limit = limit; base = q.base; committed = committed; book = x.book.items; prepared = x.prepared; undrained = u }
 
   -- an attempt that isn't answered, as contracts see it
-  pub left_by : (count : B → ℕ) (opening : B) (number limit : ℕ) (p : Parts C B) (s : ℕ) (c : C) (e : CallError) (q : Parts C B) (v w : CoreView C B) → v ≡ shown told opening number limit p → w ≡ shown told opening number limit q
+  pub left_by : (count : B → ℕ) (opening : B) (number limit : ℕ) (u : Undrained) (p : Parts C B) (s : ℕ) (c : C) (e : CallError) (q : Parts C B) (v w : CoreView C B) → v ≡ shown told opening number limit u p → w ≡ shown told opening number limit u q
       → contents_after q.layers.changes (told q.base) ≡ contents_after p.layers.changes (told p.base) → IsUnanswered is_valid m told count p s c e q → IsLeftBy count v s c e w
-  left_by count opening number limit p s c e q v w old new committed is =
-      subst (λ (x : CoreView C B). IsLeftBy count x s c e w) (sym old) (subst (IsLeftBy count (shown told opening number limit p) s c e) (sym new) (go e is))
+  left_by count opening number limit u p s c e q v w old new committed is =
+      subst (λ (x : CoreView C B). IsLeftBy count x s c e w) (sym old) (subst (IsLeftBy count (shown told opening number limit u p) s c e) (sym new) (go e is))
     where
-      go : (e : CallError) → IsUnanswered is_valid m told count p s c e q → IsLeftBy count (shown told opening number limit p) s c e (shown told opening number limit q)
-      go (call_error.Session why) is = ap (shown told opening number limit) is
-      go call_error.NoMemory (inl stays) = inl (shown_so opening number limit p q p.book.items p.prepared stays.book stays.prepared committed)
-      go call_error.NoMemory (inr (k, some, goes)) = inr (k, some, shown_so opening number limit p q (p.book.items ++ fail_entry s c k None ∷ []) None goes.book goes.prepared committed)
-      go call_error.DiskFault (k, goes) = (k, shown_so opening number limit p q (p.book.items ++ fail_entry s c k (Some (count q.base)) ∷ []) None goes.book goes.prepared committed)
+      go : (e : CallError) → IsUnanswered is_valid m told count p s c e q → IsLeftBy count (shown told opening number limit u p) s c e (shown told opening number limit u q)
+      go (call_error.Session why) is = ap (shown told opening number limit u) is
+      go call_error.NoMemory (inl stays) = inl (shown_so opening number limit u p q p.book.items p.prepared stays.book stays.prepared committed)
+      go call_error.NoMemory (inr (k, some, goes)) = inr (k, some, shown_so opening number limit u p q (p.book.items ++ fail_entry s c k None ∷ []) None goes.book goes.prepared committed)
+      go call_error.DiskFault (k, goes) = (k, shown_so opening number limit u p q (p.book.items ++ fail_entry s c k (Some (count q.base)) ∷ []) None goes.book goes.prepared committed)
 
 -- a core that was just made, as contracts see it
-pub shown_new : {C B : Type 0} (told : B → Option Entries) (opening base : B) (number limit : ℕ) (changes : List Change) (book : Book C) → opening ≡ base → changes ≡ [] → book ≡ []
-    → ◌≡◌ {A = CoreView C B} (record { opening = opening; number = number; limit = limit; base = base; committed = contents_after changes (told base); book = book; prepared = None })
-    (record { opening = base; number = number; limit = limit; base = base; committed = told base; book = []; prepared = None })
-shown_new {C = C} {B = B} told opening base number limit changes book same none empty =
-    ap₂ (λ (x : B) (y : Book C). so x (contents_after changes (told base)) y) same empty ∙ ap (λ (x : Option Entries). so base x []) (ap (λ (cs : List Change). contents_after cs (told base)) none ∙ nothing (told base))
+pub shown_new : {C B : Type 0} (told : B → Option Entries) (opening base : B) (number limit : ℕ) (changes : List Change) (book : Book C) (waiting : List Pending) → opening ≡ base → changes ≡ [] → book ≡ [] → waiting ≡ []
+    → ◌≡◌ {A = CoreView C B} (record { opening = opening; number = number; limit = limit; base = base; committed = contents_after changes (told base); book = book; prepared = None; undrained = record { after = number; waiting = waiting } })
+    (opened_over base (told base) number limit)
+shown_new {C = C} {B = B} told opening base number limit changes book waiting same none empty all =
+    ap₂ (λ (x : B) (y : Book C). so x (contents_after changes (told base)) y waiting) same empty ∙ ap (λ (x : Option Entries). so base x [] waiting) (ap (λ (cs : List Change). contents_after cs (told base)) none ∙ nothing (told base)) ∙ ap (so base (told base) []) all
   where
-    so : B → Option Entries → Book C → CoreView C B
-    so x committed book = record { opening = x; number = number; limit = limit; base = base; committed = committed; book = book; prepared = None }
+    so : B → Option Entries → Book C → List Pending → CoreView C B
+    so x committed book waiting = record { opening = x; number = number; limit = limit; base = base; committed = committed; book = book; prepared = None; undrained = record { after = number; waiting = waiting } }
 
     nothing : (x : Option Entries) → contents_after [] x ≡ x
     nothing None = refl
@@ -302,9 +306,9 @@ both_ok (Err y) f a b = tt
 
 module _ {C B : Type 0} (is_valid : C → Type 0) (m : CallMeaning C) (told : B → Option Entries) where
   -- the book is legal
-  pub core_legal : (count : B → ℕ) (opening : B) (number limit : ℕ) (p : Parts C B) (v : CoreView C B) → v ≡ shown told opening number limit p → IsCore is_valid m told count opening number limit p
+  pub core_legal : (count : B → ℕ) (opening : B) (number limit : ℕ) (u : Undrained) (p : Parts C B) (v : CoreView C B) → v ≡ shown told opening number limit u p → IsCore is_valid m told count opening number limit p
       → (t : Tree) → StandsFor (told v.opening) t → IsBookFrom is_valid m t v.number v.limit v.book
-  core_legal count opening number limit p v is core =
+  core_legal count opening number limit u p v is core =
       subst (λ (x : CoreView C B). (t : Tree) → StandsFor (told x.opening) t → IsBookFrom is_valid m t x.number x.limit x.book) (sym is)
       (λ t opens. record {
         valid_tree = opens.valid;

@@ -25,6 +25,7 @@ use Rattle.outside_traits.specs.Faults.{FaultCounted}
 use Rattle.tx_core.proofs.Counted.{IsTold, counts_go, counts_stay}
 use Rattle.tx_core.specs.inside.Goes.{Stays}
 use Rattle.overlays.specs.Views.{contents_after}
+use Rattle.tx_core.specs.Drains.{Undrained}
 use Rattle.tx_core.proofs.Kept.{shown, shown_so}
 use Rattle.tx_core.proofs.Reached.{all_append, stands_same}
 use Rattle.tx_core.proofs.ToldAgain.{seat_waits, told_waiting, waits_with}
@@ -114,24 +115,24 @@ module _ {C B : Type 0} (is_valid : C → Type 0) (m : CallMeaning C) (told : B 
 
   -- ---- as contracts see it
 
-  pub has_retried : (count : B → ℕ) (opening : B) (number limit : ℕ) (p : Parts C B) (s : ℕ) (c : C) (a : Answer) (q : Parts C B) (v w : CoreView C B) → v ≡ shown told opening number limit p → w ≡ shown told opening number limit q
+  pub has_retried : (count : B → ℕ) (opening : B) (number limit : ℕ) (u : Undrained) (p : Parts C B) (s : ℕ) (c : C) (a : Answer) (q : Parts C B) (v w : CoreView C B) → v ≡ shown told opening number limit u p → w ≡ shown told opening number limit u q
       → contents_after q.layers.changes (told q.base) ≡ contents_after p.layers.changes (told p.base)
       → IsCore is_valid m told count opening number limit p → WaitsIn opening number limit p.book.items s c → IsAgain is_valid m told p s c a q → HasRetried m told v s a w
-  has_retried count opening number limit p s c a q v w old new committed core waits is = subst (λ (x : CoreView C B). HasRetried m told x s a w) (sym old) (subst (HasRetried m told (shown told opening number limit p) s a) (sym new) (record {
+  has_retried count opening number limit u p s c a q v w old new committed core waits is = subst (λ (x : CoreView C B). HasRetried m told x s a w) (sym old) (subst (HasRetried m told (shown told opening number limit u p) s a) (sym new) (record {
     noted = is.noted;
     may_be = is.may_be;
     view = go is.noted is.moved;
     step = λ t opens. is.step (last m (start t number limit) p.book.items) (core.run t opens).stands (waits t opens);
   }))
     where
-      go : (noted : Bool) → HasMoved is_valid m told p s c a noted q → shown told opening number limit q ≡ over (with_retry (shown told opening number limit p) s a noted) q.base
-      go true goes = shown_so is_valid m told opening number limit p q (p.book.items ++ retry_entry s a ∷ []) None goes.book goes.prepared committed
-      go false stays = shown_so is_valid m told opening number limit p q p.book.items p.prepared stays.book stays.prepared committed
+      go : (noted : Bool) → HasMoved is_valid m told p s c a noted q → shown told opening number limit u q ≡ over (with_retry (shown told opening number limit u p) s a noted) q.base
+      go true goes = shown_so is_valid m told opening number limit u p q (p.book.items ++ retry_entry s a ∷ []) None goes.book goes.prepared committed
+      go false stays = shown_so is_valid m told opening number limit u p q p.book.items p.prepared stays.book stays.prepared committed
 
-  pub has_failed : (opening : B) (number limit : ℕ) (p : Parts C B) (s : ℕ) (c : C) (n : Noted C) (q : Parts C B) (v w : CoreView C B) → v ≡ shown told opening number limit p → w ≡ shown told opening number limit q
+  pub has_failed : (opening : B) (number limit : ℕ) (u : Undrained) (p : Parts C B) (s : ℕ) (c : C) (n : Noted C) (q : Parts C B) (v w : CoreView C B) → v ≡ shown told opening number limit u p → w ≡ shown told opening number limit u q
       → contents_after q.layers.changes (told q.base) ≡ contents_after p.layers.changes (told p.base) → GoesAgain is_valid m told p s c n q → w ≡ over (with_entry v n) w.base
-  has_failed opening number limit p s c n q v w old new committed goes =
-      new ∙ shown_so is_valid m told opening number limit p q (p.book.items ++ n ∷ []) None goes.book goes.prepared committed ∙ sym (ap₂ (λ (x y : CoreView C B). over (with_entry x n) y.base) old new)
+  has_failed opening number limit u p s c n q v w old new committed goes =
+      new ∙ shown_so is_valid m told opening number limit u p q (p.book.items ++ n ∷ []) None goes.book goes.prepared committed ∙ sym (ap₂ (λ (x y : CoreView C B). over (with_entry x n) y.base) old new)
 
   -- where nothing but room was made before
   pub goes_after_room : (p p1 : Parts C B) (s : ℕ) (c : C) (n : Noted C) (q : Parts C B) → Stays is_valid m told p p1 → GoesAgain is_valid m told p1 s c n q → GoesAgain is_valid m told p s c n q

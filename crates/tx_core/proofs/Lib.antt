@@ -6,6 +6,7 @@ pub mod Committed
 pub mod Counted
 pub mod CommitsKept
 pub mod Cycles
+pub mod Drained
 pub mod Granted
 pub mod Holders
 pub mod Holding
@@ -20,6 +21,7 @@ pub mod Repeated
 pub mod Rested
 pub mod Retried
 pub mod Seats
+pub mod Sent
 pub mod Spared
 pub mod Told
 pub mod ToldAgain

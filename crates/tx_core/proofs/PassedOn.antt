@@ -17,7 +17,7 @@ use Rattle.overlays.specs.Layered.{Layered}
 use Rattle.overlays.specs.Stretches.{is_in, is_covered, AreEmpty, AreWithin, IsOut}
 use Rattle.overlays.specs.Views.{contents_after}
 use Rattle.overlays.specs.declared.gaps.Stretch.{Stretch}
-use Rattle.overlays.proofs.StretchLaws.{either, or_left, or_right, or_none, both_true, covered_more, uncovered_more, own_kept, commit_kept}
+use Rattle.overlays.proofs.StretchLaws.{either, or_left, or_right, both_true, covered_more, uncovered_more, own_kept, commit_kept}
 use Rattle.tx_core.specs.declared.parts.Parts.{Parts}
 use Rattle.tx_core.specs.declared.parts.Passed.{Passed}
 use Rattle.tx_core.specs.declared.parts.Seat.{Seat}

@@ -1,6 +1,7 @@
 -- Commits: what is prepared of them, and when a transaction has changed too much for one.
 use Rattle.std.specs.Prelude.{◌≡◌, ◌≢◌, ◌≤◌, ℕ, nat_lt, Bool, true, length, Some}
 use Rattle.node_records.specs.Changes.{changes_bytes, changes_of as changes_read}
+use Rattle.node_records.specs.declared.pending.Pending.{Pending}
 use Rattle.node_seq.specs.ChangeLists.{IsChangeList}
 use Rattle.call_contract.specs.CallChanges.{changes_of_calls}
 use Rattle.call_contract.specs.Calls.{CallMeaning}
@@ -24,6 +25,10 @@ pub record IsPrepared {C B : Type 0} (v : CoreView C B) (p : Prepared) : Type 0 
   pub body : p.body ≡ changes_bytes p.changes
   pub read : changes_read p.body ≡ Some p.changes
   pub short : length p.body ≤ body_limit
+
+-- what is left of it to be made durable
+abbrev pub pending_of : Prepared → Pending
+pending_of p = record { number = p.number; body = p.body }
 
 -- the changes are those of the session's transaction in this state
 abbrev pub HasChangesOf : {C : Type 0} → CallMeaning C → State C → ℕ → Prepared → Type 0

@@ -1,5 +1,7 @@
 -- A core as contracts see it: what it was opened with, its base, and its book.
-use Rattle.std.specs.Prelude.{◌≡◌, ◌⊎◌, ℕ, ◌+◌, ◌<◌, Bool, false, [], ◌∷◌, ◌++◌, Option, Some, None, is_some}
+use Rattle.std.specs.Prelude.{◌≡◌, ◌⊎◌, ℕ, ◌+◌, ◌<◌, ◌≤◌, Bool, false, [], ◌∷◌, ◌++◌, length, Option, Some, None, is_some}
+use Rattle.node_records.specs.Pending.{FollowOn}
+use Rattle.node_records.specs.declared.pending.Pending.{Pending}
 use Rattle.tree_model.specs.Entries.{Entries}
 use Rattle.tree_model.specs.Tree.{Tree}
 use Rattle.call_contract.specs.Calls.{CallMeaning}
@@ -9,11 +11,12 @@ use Rattle.call_contract.specs.declared.events.Event.TheVariants as event
 use Rattle.call_contract.specs.declared.events.EventAnswer.TheVariants as said
 use Rattle.call_contract.specs.declared.events.Noted.{Noted}
 use Rattle.call_contract.specs.Books.{Book, entry, last}
+use Rattle.tx_core.specs.Drains.{Undrained}
 use Rattle.tx_core.specs.declared.errors.CallError.{CallError}
 use Rattle.tx_core.specs.declared.errors.CallError.TheVariants.{Session, DiskFault, NoMemory}
 
 -- the base that it was opened over, the number of the opening's commit, the limit, the base now, the map of what is committed where it is known, the book,
--- and the session whose commit was prepared since the last entry, if one was
+-- the session whose commit was prepared since the last entry, if one was, and the commits that weren't handed out yet
 pub record CoreView (C B : Type 0) : Type 0 where
   pub opening : B
   pub number : ℕ
@@ -22,6 +25,20 @@ pub record CoreView (C B : Type 0) : Type 0 where
   pub committed : Option Entries
   pub book : Book C
   pub prepared : Option ℕ
+  pub undrained : Undrained
+
+-- a core that was opened over a base with this map, whose last commit has this number
+abbrev pub opened_over : {C B : Type 0} → B → Option Entries → ℕ → ℕ → CoreView C B
+opened_over base map number limit = record {
+  opening = base;
+  number = number;
+  limit = limit;
+  base = base;
+  committed = map;
+  book = [];
+  prepared = None;
+  undrained = record { after = number; waiting = [] };
+}
 
 -- with one more entry in its book
 abbrev pub with_entry : {C B : Type 0} → CoreView C B → Noted C → CoreView C B
@@ -42,6 +59,20 @@ state_from m t v = last m (start t v.number v.limit) v.book
 -- the number that the next commit gets
 abbrev pub next_number : {C B : Type 0} → CoreView C B → ℕ
 next_number v = v.number + commits_in v.book + 1
+
+-- with one more commit that waits to be handed out
+abbrev pub with_pending : {C B : Type 0} → CoreView C B → Pending → CoreView C B
+with_pending v p = record v { undrained = record { after = v.undrained.after; waiting = v.undrained.waiting ++ p ∷ [] } }
+
+-- all commits were handed out
+abbrev pub drained : {C B : Type 0} → CoreView C B → CoreView C B
+drained v = record v { undrained = record { after = v.number + commits_in v.book; waiting = [] }; prepared = None }
+
+-- the commits that weren't handed out are the last ones of the book
+pub record IsUndrained {C B : Type 0} (v : CoreView C B) : Type 0 where
+  pub opened : v.number ≤ v.undrained.after
+  pub follow : FollowOn v.undrained.after v.undrained.waiting
+  pub last : v.undrained.after + length v.undrained.waiting ≡ v.number + commits_in v.book
 
 -- the session's transaction waits
 abbrev pub waits_in : {C : Type 0} → Option (Live C) → Bool

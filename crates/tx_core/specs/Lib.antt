@@ -1,4 +1,5 @@
 -- words of public clauses
+pub mod Drains
 pub mod Cores
 pub mod Queues
 pub mod Refusals

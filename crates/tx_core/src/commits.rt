@@ -24,6 +24,7 @@ use crate::ends::{note, stop_waiting};
 use crate::parts::{Parts, Places, Seat};
 use crate::passed::{end_passed, forget_puts};
 use crate::places::{seat_at, unseat};
+use crate::undrained::Bodies;
 use call_contract::{Event, EventAnswer, Noted, TreeCall};
 use dewey_labels::List;
 use node_records::write_change;
@@ -90,6 +91,7 @@ fn body_of(alloc: Global, changes: &Changes) -> Result<List<u8>, SessionError>
 pub fn prepare<C: TreeCall + Drop, B: NodeRead>(
     alloc: Global,
     parts: &mut Parts<C, B>,
+    bodies: &mut Bodies,
     session: u32,
 ) -> Result<Prepared, SessionError>
     requires { IsReady (seat_in (get nat_cmp parts.old.places session)) → parts.old.number < 4294967295 }
@@ -98,6 +100,8 @@ pub fn prepare<C: TreeCall + Drop, B: NodeRead>(
         → HasChangesOf C.meaning st session prepared) }
     ensures prepared { OnOk result (parts.new.prepared ≡ Some session) }
     ensures spare { OnOk result (1 ≤ parts.new.layers.spare) }
+    ensures bodies { OnOk result (length bodies.new.waiting.items < vec_capacity bodies.new.waiting) }
+    ensures kept { (bodies.new.waiting.items ≡ bodies.old.waiting.items) × (bodies.new.after ≡ bodies.old.after) × (vec_capacity bodies.old.waiting ≤ vec_capacity bodies.new.waiting) }
     ensures layers { parts.new.layers.changes ≡ parts.old.layers.changes }
     ensures ready { OnOk result (IsReady (seat_in (get nat_cmp parts.new.places session))) }
     ensures refused { shown_prepare_refusal result ≡ commit_refused (seat_in (get nat_cmp parts.old.places session)) }
@@ -108,7 +112,7 @@ pub fn prepare<C: TreeCall + Drop, B: NodeRead>(
 {
     let changes = changes_at(alloc, &parts.places, session)?;
     let body = body_of(alloc, &changes)?;
-    if parts.layers.reserve_layer(alloc).is_err() {
+    if bodies.make_room().is_err() || parts.layers.reserve_layer(alloc).is_err() {
         return Err(SessionError::NoMemory);
     }
     parts.prepared = Some(session);
@@ -119,18 +123,13 @@ pub fn prepare<C: TreeCall + Drop, B: NodeRead>(
     })
 }
 
-/// Makes the commit that was prepared for a session, and answers its number. It takes no memory.
-pub fn commit<C: TreeCall + Drop, B: NodeRead>(
-    parts: &mut Parts<C, B>,
-    session: u32,
-    prepared: Prepared,
-) -> u32
+/// Makes the commit that was prepared for a session under this number. It takes no memory.
+pub fn commit<C: TreeCall + Drop, B: NodeRead>(parts: &mut Parts<C, B>, session: u32, number: u32)
     requires seated { IsSeated parts.old }
     requires ready { IsReady (seat_in (get nat_cmp parts.old.places session)) }
     requires spare { 1 ≤ parts.old.layers.spare }
-    requires number { prepared.number ≡ parts.old.number + 1 }
-    ensures number { result ≡ prepared.number }
-    ensures goes { GoesOn C.is_valid C.meaning B.contents parts.old (entry_of session event.Commit (said.Number result)) parts.new }
+    requires number { number ≡ parts.old.number + 1 }
+    ensures goes { GoesOn C.is_valid C.meaning B.contents parts.old (entry_of session event.Commit (said.Number number)) parts.new }
     ensures seated { IsSeatedFor parts.old parts.new }
     ensures base { parts.new.base ≡ parts.old.base }
     ensures none_prepared { parts.new.prepared ≡ None }
@@ -147,7 +146,6 @@ pub fn commit<C: TreeCall + Drop, B: NodeRead>(
         }
         None => unreachable!(),
     }
-    let number = prepared.number;
     parts.number = number;
     parts.live -= 1;
     parts.prepared = None;
@@ -162,7 +160,6 @@ pub fn commit<C: TreeCall + Drop, B: NodeRead>(
             answer: EventAnswer::Number(number),
         },
     );
-    number
 }
 
 /// Merges what was committed into the base, where the layers keep so many deletions that it is due. For want of memory all stays as it is.

@@ -1,6 +1,6 @@
 //! The core: what it was opened with, and its calls.
 
-ghost use Rattle.std.specs.Prelude.{◌≡◌, ◌≢◌, ℕ, ◌+◌, ◌≤◌, [], None, Some, Err, IfOk, IfErr, IfSome, OnErr, Option, IsTrue};
+ghost use Rattle.std.specs.Prelude.{◌≡◌, ◌≢◌, ℕ, ◌+◌, ◌≤◌, [], length, None, Some, Err, IfOk, IfErr, IfSome, OnErr, Option, IsTrue};
 ghost use Rattle.lock_resources.specs.declared.resource.Resource.{Resource};
 ghost use Rattle.lock_table.specs.Tables.{held};
 ghost use Rattle.wait_graph.specs.Graphs.{waits};
@@ -10,11 +10,12 @@ ghost use Rattle.node_seq.specs.Trees.{StandsFor};
 ghost use Rattle.call_contract.specs.Books.{entry as entry_of, FaultsRise, HasValidCalls, IsAtMost, IsBookFrom, IsSerial, last_fault};
 ghost use Rattle.call_contract.specs.Ends.{LeavesAllElse};
 ghost use Rattle.call_contract.specs.Lives.{NoCellIsShared};
-ghost use Rattle.call_contract.specs.Sessions.{live_in, begins_of, queue_after};
+ghost use Rattle.call_contract.specs.Sessions.{live_in, begins_of, commits_in, queue_after};
 ghost use Rattle.call_contract.specs.declared.events.Event.TheVariants as event;
 ghost use Rattle.call_contract.specs.declared.events.EventAnswer.TheVariants as said;
-ghost use Rattle.tx_core.specs.Commits.{IsPrepared, HasChangesOf, IsPastLimitIn, ReplaysOthers};
-ghost use Rattle.tx_core.specs.Cores.{with_entry, with_committed, over, state_from, next_number, waits_in, IsLeftBy, IsGivenUpBy};
+ghost use Rattle.node_records.specs.Pending.{FollowOn};
+ghost use Rattle.tx_core.specs.Commits.{IsPrepared, HasChangesOf, IsPastLimitIn, ReplaysOthers, pending_of};
+ghost use Rattle.tx_core.specs.Cores.{opened_over, with_entry, with_committed, with_pending, drained, over, state_from, next_number, waits_in, IsLeftBy, IsGivenUpBy, IsUndrained};
 ghost use Rattle.tx_core.specs.Queues.{HasQueue};
 ghost use Rattle.tx_core.specs.Refusals.{begin_refused, call_refused, abort_refused, shown_refusal, shown_prepare_refusal, shown_call_refusal};
 ghost use Rattle.tx_core.specs.Retries.{HasRetried};
@@ -26,9 +27,11 @@ use crate::ends::{abort, begin};
 use crate::errors::{CallError, SessionError};
 use crate::parts::Parts;
 use crate::retries::retry;
+use crate::undrained::Bodies;
 use call_contract::{Answer, Noted, TreeCall};
-use dewey_labels::NoMemory;
+use dewey_labels::{List, NoMemory};
 use lock_table::LockTable;
+use node_records::Pending;
 use node_seq::{NodeRead, SortedSeq};
 use overlays::Layers;
 use std::alloc::Global;
@@ -44,6 +47,7 @@ pub struct Core<C: TreeCall + Drop, B: NodeRead + Drop> {
     number: u32,
     limit: u32,
     parts: Parts<C, B>,
+    bodies: Bodies,
 }
 
 impl<C: TreeCall + Drop, B: NodeRead + Drop> Model for Core<C, B> {
@@ -65,9 +69,10 @@ impl<C: TreeCall + Drop, B: NodeRead + Drop> Model for Core<C, B> {
       committed = contents_after h.parts.layers.changes (B.contents h.parts.base);
       book = h.parts.book.items;
       prepared = h.parts.prepared;
+      undrained = record { after = h.bodies.after; waiting = h.bodies.waiting.items };
     } };
 
-    ghost invariant = { λ h. IsKept C.is_valid C.meaning B.contents B.count h.opening.value h.number h.limit h.parts };
+    ghost invariant = { λ h. IsKept C.is_valid C.meaning B.contents B.count h.opening.value h.number h.limit h.parts h.bodies };
 }
 
 /// Want of memory for a core, with the base that it was to be opened over.
@@ -88,8 +93,7 @@ impl<C: TreeCall + Drop, B: NodeRead + Drop> Core<C, B> {
     /// A core over a base, whose last commit has this number, with an empty book.
     pub fn new(alloc: Global, base: B, number: u32, limit: u32) -> Result<Core<C, B>, NoCore<B>>
         requires { number ≤ limit }
-        ensures ok { IfOk result (λ core. core
-            ≡ record { opening = base; number = number; limit = limit; base = base; committed = B.contents base; book = []; prepared = None }) }
+        ensures ok { IfOk result (λ core. core ≡ opened_over base (B.contents base) number limit) }
         ensures err { IfErr result (λ none. none.base ≡ base) }
     {
         let Ok(locks) = no_locks(alloc) else {
@@ -115,6 +119,10 @@ impl<C: TreeCall + Drop, B: NodeRead + Drop> Core<C, B> {
                 waiting: Vec::new(alloc),
                 book: Vec::new(alloc),
                 prepared: None,
+            },
+            bodies: Bodies {
+                after: number,
+                waiting: Vec::new(alloc),
             },
         })
     }
@@ -168,20 +176,41 @@ impl<C: TreeCall + Drop, B: NodeRead + Drop> Core<C, B> {
         ensures limit { result ≡ Err SessionError.CommitLimit → (t : Tree) → StandsFor (B.contents self.old.opening) t
             → IsPastLimitIn C.meaning (state_from C.meaning t self.old) session }
     {
-        prepare(alloc, &mut self.parts, session)
+        prepare(alloc, &mut self.parts, &mut self.bodies, session)
     }
 
     /// Makes the commit that was prepared for a session, and answers its number. It costs what the transaction has changed, and takes no memory.
+    /// Its body waits to be handed out.
     /// For every other live transaction it is as if its calls had been made on the new tree.
     pub fn commit(&mut self, session: u32, prepared: Prepared) -> u32
         requires prepared { self.old.prepared ≡ Some session }
         requires commit { IsPrepared self.old prepared }
         ensures number { result ≡ next_number self.old }
-        ensures committed { self.new ≡ with_committed (with_entry self.old (entry_of session event.Commit (said.Number result))) self.new.committed }
+        ensures committed { self.new ≡ with_committed (with_pending (with_entry self.old (entry_of session event.Commit (said.Number result))) (pending_of prepared)) self.new.committed }
         ensures apart { (t : Tree) → StandsFor (B.contents self.old.opening) t → NoCellIsShared (state_from C.meaning t self.old) }
         ensures others { (t : Tree) → StandsFor (B.contents self.old.opening) t → ReplaysOthers C.meaning (state_from C.meaning t self.old) session }
     {
-        commit(&mut self.parts, session, prepared)
+        let Prepared {
+            number,
+            changes: _,
+            body,
+        } = prepared;
+        self.bodies.keep(Pending { number, body });
+        commit(&mut self.parts, session, number);
+        number
+    }
+
+    /// Hands out what the commits since the last such call have left to be made durable, in their order. It is no entry of the book, and takes no memory.
+    /// A commit that was prepared before has to be prepared again.
+    pub fn drain(&mut self, alloc: Global) -> List<Pending>
+        ensures waiting { result ≡ self.old.undrained.waiting }
+        ensures follow { FollowOn self.old.undrained.after result }
+        ensures last { self.old.undrained.after + length result ≡ self.old.number + commits_in self.old.book }
+        ensures none_waits { self.new ≡ drained self.old }
+    {
+        let last = self.parts.number;
+        self.parts.prepared = None;
+        self.bodies.hand_out(alloc, last)
     }
 
     /// Ends a session's transaction, a waiting call with it. It takes no memory.
@@ -206,6 +235,13 @@ impl<C: TreeCall + Drop, B: NodeRead + Drop> Core<C, B> {
         rebase(alloc, &mut self.parts, base)
     }
 
+    /// The number of the last commit that was handed out; the opening's where none was.
+    pub fn drained(&self) -> u32
+        ensures { result ≡ self.now.undrained.after }
+    {
+        self.bodies.after
+    }
+
     /// All that came to the core, in its order, with the answers. It is serial from the tree of the opening's map.
     pub fn book(&self) -> &[Noted<C>]
         ensures book { result.now ≡ self.now.book }
@@ -224,11 +260,13 @@ impl<C: TreeCall + Drop, B: NodeRead + Drop> Core<C, B> {
     /// The book's calls are valid, its counts of faults rise from the base's at the opening, none is above the base's now, and who waits stands in its queue.
     /// It is legal from the tree of the opening's map. In the state that it comes to from there, what base and commits make is the committed tree,
     /// the live transactions were answered what they would be answered on it, and nobody waits for himself.
+    /// The commits that weren't handed out are its last ones.
     pub fn is_legal(&self)
         ensures valid { HasValidCalls C.is_valid self.now.book }
         ensures faults { FaultsRise (Some (B.count self.now.opening)) self.now.book }
         ensures counted { IsAtMost (last_fault (Some (B.count self.now.opening)) self.now.book) (B.count self.now.base) }
         ensures queue { HasQueue self.now.book }
+        ensures undrained { IsUndrained self.now }
         ensures book { (t : Tree) → StandsFor (B.contents self.now.opening) t → IsBookFrom C.is_valid C.meaning t self.now.number self.now.limit self.now.book }
         ensures committed { (t : Tree) → StandsFor (B.contents self.now.opening) t → self.now.committed ≡ Some (map_of (state_from C.meaning t self.now).tree) }
         ensures live { (t : Tree) → StandsFor (B.contents self.now.opening) t → LiveStand C.meaning (state_from C.meaning t self.now) }

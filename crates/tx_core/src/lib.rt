@@ -1,5 +1,5 @@
 //! The transaction core: the lock machine of `call_contract` over a base that is read as a map, with the book of all that came to it.
-//! `Core` begins a transaction, attempts a call, tries one that waits again, prepares and makes a commit, and aborts a transaction; the book gains the machine's entry. It merges what was committed into a base that is a sorted vector, or goes on over another base, and shows its book, which is legal, and the sessions that wait.
+//! `Core` begins a transaction, attempts a call, tries one that waits again, prepares and makes a commit, and aborts a transaction; the book gains the machine's entry. What a commit leaves to be made durable is kept until it is handed out. It merges what was committed into a base that is a sorted vector, or goes on over another base, and shows its book, which is legal, and the sessions that wait.
 //! What a session may do, and its ordinals, are read off the book, whatever is known of the base. The book has room for the end of each transaction, so that commits and aborts take no memory.
 //! An attempt is answered, waits, is a deadlock, or is given up. A retry of a call that waits keeps its place in the queue where it waits again, and is an entry only where it holds more or waits for something else.
 //! `asking` asks the lock table for a call's requests in turn, up to the first that is barred, but not for what the way before it was granted, and looks at what a call asks for and answers on what a transaction sees.
@@ -9,6 +9,7 @@
 mod asking;
 mod attempts;
 mod commits;
+mod crossing;
 mod ends;
 mod engine;
 mod errors;
@@ -18,7 +19,9 @@ mod parts;
 mod passed;
 mod places;
 mod retries;
+mod undrained;
 
 pub use commits::Prepared;
+pub use crossing::crosses;
 pub use engine::{Core, NoCore};
 pub use errors::{CallError, SessionError};

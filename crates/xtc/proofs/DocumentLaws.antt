@@ -31,7 +31,7 @@ use Rattle.call_contract.specs.States.{State, start}
 use Rattle.command_lines.specs.declared.command.StoreCall.{StoreCall}
 use Rattle.command_lines.specs.declared.line_reply.LineReply.{LineReply}
 use Rattle.session_driver.specs.Lines.{Asked}
-use Rattle.tx_core.specs.Cores.{CoreView, next_number}
+use Rattle.tx_core.specs.Cores.{CoreView, next_number, opened_over}
 use Rattle.xtc.specs.Book.{after_asked}
 use Rattle.command_words.specs.Commands.{Command, run, put, get}
 use Rattle.xtc.specs.Commands.{reads_input}
@@ -391,11 +391,11 @@ module _ {T : Type 0} (is_known : Bool) (s : State StoreCall) (c : Command) (rea
 
 -- ---- a core that was opened
 
-pub core_stands : (base : Entries) (n limit : ℕ) (core : CoreView StoreCall Entries) (t : Tree) → core ≡ record { opening = base; number = n; limit = limit; base = base; committed = Some base; book = []; prepared = None } → StandsFor (Some base) t
+pub core_stands : (base : Entries) (n limit : ℕ) (core : CoreView StoreCall Entries) (t : Tree) → core ≡ opened_over base (Some base) n limit → StandsFor (Some base) t
     → Stands core (start t n limit)
 core_stands base n limit core t is stands = subst (λ (v : CoreView StoreCall Entries). Stands v (start t n limit)) (sym is) (record { tree = t; opened = stands; state = refl })
 
-pub may_begin : (base : Entries) (n limit : ℕ) (core : CoreView StoreCall Entries) (journal : JournalView) → core ≡ record { opening = base; number = n; limit = limit; base = base; committed = Some base; book = []; prepared = None } → IsStoredTree base → TakesBehind journal n
+pub may_begin : (base : Entries) (n limit : ℕ) (core : CoreView StoreCall Entries) (journal : JournalView) → core ≡ opened_over base (Some base) n limit → IsStoredTree base → TakesBehind journal n
     → MayBeAsked core journal
 may_begin base n limit core journal is stored takes = record {
   state = start stored.tree n limit;

@@ -15,13 +15,13 @@ use Rattle.recovery.specs.Opened.{contents_of_files}
 use Rattle.script_runs.specs.Machine.{IsReady, IsSettled}
 use Rattle.call_contract.specs.States.{State, start}
 use Rattle.command_lines.specs.declared.command.StoreCall.{StoreCall}
-use Rattle.tx_core.specs.Cores.{CoreView}
+use Rattle.tx_core.specs.Cores.{CoreView, opened_over}
 use Rattle.xtc.specs.Durable.{HoldState}
 use Rattle.xtc.specs.StoreMachine.{KeptStore, Stands, store_machine}
 
 -- the core of a store that was opened over this map, with this number
 abbrev pub opened_core : Entries → ℕ → ℕ → CoreView StoreCall Entries
-opened_core base n limit = record { opening = base; number = n; limit = limit; base = base; committed = Some base; book = []; prepared = None }
+opened_core base n limit = opened_over base (Some base) n limit
 
 -- both disks are known
 pub both_known : (a b : Bool) → IsTrue a → IsTrue b → IsTrue (a && b)

@@ -21,6 +21,7 @@ ghost use Rattle.jsonml_io.specs.declared.fragment_error.FragmentError.TheVarian
 ghost use Rattle.command_words.specs.Commands.{put as put_command, get as get_command};
 ghost use Rattle.xtc.specs.Documents.{element_in, find_asks, dump_asks, put_asks, label_in, reason_in, tree_in, tree_line};
 ghost use Rattle.xtc.specs.StoreMachine.{Stands};
+ghost use Rattle.tx_core.specs.Cores.{opened_over};
 ghost use Rattle.xtc.specs.TopCall.{IsWhole, WroteWhole, tx_limit, whole_limit};
 ghost use Rattle.xtc.specs.inside.Asking.{all_asks, AreValidAsks, AskedInTurn, DocumentDone, IfJudged, InputDone, IsReadElement, IsStop, IsUnwritten, IsWriteEnd};
 ghost use Rattle.xtc.specs.inside.CommandRuns.{Input, RunsCommand};
@@ -191,8 +192,7 @@ fn open_core(
     base: SortedSeq,
     number: u32,
 ) -> Result<Core<StoreOp, SortedSeq>, Status>
-    ensures ok { IfOk result (λ core. core
-        ≡ record { opening = base; number = number; limit = tx_limit; base = base; committed = Some base; book = []; prepared = None }) }
+    ensures ok { IfOk result (λ core. core ≡ opened_over base (Some base) number tx_limit) }
     ensures err { IfErr result (λ status. status ≡ Status.NoMemory) }
 {
     match Core::new(alloc, base, number, TX_LIMIT) {

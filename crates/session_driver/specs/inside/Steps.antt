@@ -11,7 +11,7 @@ use Rattle.call_contract.specs.Steps.{step}
 use Rattle.call_contract.specs.declared.events.Event.TheVariants.{Retry}
 use Rattle.call_contract.specs.declared.events.Noted.{Noted}
 use Rattle.command_lines.specs.declared.line_reply.LineReply.{LineReply}
-use Rattle.tx_core.specs.Cores.{CoreView, over, state_from, with_committed, with_entry}
+use Rattle.tx_core.specs.Cores.{CoreView, state_from, with_entry}
 use Rattle.tx_core.specs.Queues.{times}
 use Rattle.session_driver.specs.Driving.{with_entries, IsFailureAtMost, HasGrown, HasBegun}
 use Rattle.session_driver.specs.Progress.{Progress}
@@ -28,7 +28,7 @@ pub record Leaves {C B : Type 0} (old new : CoreView C B) (before after : List L
 
 -- the core gained an entry
 abbrev pub Adds : {C B : Type 0} → CoreView C B → Noted C → CoreView C B → Type 0
-Adds old n new = new ≡ with_committed (over (with_entry old n) new.base) new.committed
+Adds old n new = new ≡ record (with_entry old n) { base = new.base; committed = new.committed; undrained = new.undrained }
 
 -- an attempt failed at most
 pub record HasFailed {C B : Type 0} (old new : CoreView C B) : Type 0 where

@@ -11,7 +11,7 @@ use Rattle.tx_core.proofs.commits.commit.Goals as goal
 pub returns-clause-goes : goal.returns-clause-goes
 returns-clause-goes g c =
     let seat = c.in-Some.seat in
-    commit_goes g.C.TreeCall.is_valid g.C.TreeCall.meaning g.B.NodeRead.contents g.met.C.TreeCall.laws c.args.parts.now _ c.args.session c.args.prepared.number seat
+    commit_goes g.C.TreeCall.is_valid g.C.TreeCall.meaning g.B.NodeRead.contents g.met.C.TreeCall.laws c.args.parts.now _ c.args.session c.args.number seat
     (sym c.in-Some.ensures.seat) (subst IsReady (sym c.in-Some.ensures.seat) c.requires.ready)
     c.unseat.ensures.seats c.unseat.ensures.ordinals refl c.faults-faults.ensures.in_order c.push_layer.ensures.effect
     refl refl c.requires.number refl refl c.release_all.ensures c.stop.ensures.waits c.stop_waiting.ensures c.note.ensures.book
@@ -21,7 +21,7 @@ returns-clause-seated g c =
     let p = c.args.parts.now in
     let s = c.args.session in
     let there = ready_waits (seat_in (tree.get nat_cmp p.places s)) c.requires.ready in
-    seated_commits p _ s c.args.prepared.number _ c.requires.seated there (record { ordinals = c.unseat.ensures.ordinals; opened = refl; limit = refl; begun = refl; prepared = refl })
+    seated_commits p _ s c.args.number _ c.requires.seated there (record { ordinals = c.unseat.ensures.ordinals; opened = refl; limit = refl; begun = refl; prepared = refl })
     (wait_out s (λ o. seat_in (tree.get nat_cmp p.places o)) (λ o. seat_in (tree.get nat_cmp c.unseat.new.places o)) c.unseat.ensures.seats) c.stop_waiting.ensures c.requires.number
     (omega (arith, live_one p s _ c.requires.seated there)) c.note.ensures.book c.note.ensures.capacity
 

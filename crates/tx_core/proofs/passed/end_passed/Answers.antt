@@ -1,4 +1,4 @@
-use Rattle.std.proofs.Common.{◌≡◌, ◌<◌, ◌==◌, true, false, length, take, take_all, get_or, sym, ap, subst, ◌∙◌, arith, add-one}
+use Rattle.std.proofs.Common.{◌≡◌, ◌<◌, ◌==◌, true, false, length, take, get_or, sym, ap, subst, ◌∙◌, arith, add-one}
 use Rattle.overlays.specs.Stretches.{is_covered}
 use Rattle.tx_core.specs.declared.parts.Passed.{Passed}
 use Rattle.tx_core.specs.inside.Passed.{stretches_of}

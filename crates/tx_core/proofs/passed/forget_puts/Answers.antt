@@ -1,4 +1,4 @@
-use Rattle.std.proofs.Common.{◌≡◌, ◌<◌, true, length, take, take_all, get_or, slice_set, sym, ap, subst, ◌∙◌, arith, add-one}
+use Rattle.std.proofs.Common.{◌≡◌, ◌<◌, true, length, take, take_all, slice_set, sym, ap, subst, ◌∙◌, arith, add-one}
 use Rattle.std.specs.List.{AllByRecursion}
 use Rattle.overlays.specs.Stretches.{is_covered, IsOut}
 use Rattle.tx_core.specs.declared.parts.Passed.{Passed}

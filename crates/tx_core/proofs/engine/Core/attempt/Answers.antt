@@ -2,6 +2,8 @@ use Rattle.std.proofs.Common.{Err}
 use Rattle.std.proofs.Common.{refl, sym, ap, ◌∙◌}
 use Rattle.std.proofs.lemmas.Result.{IfErr-weaker}
 use Rattle.tx_core.specs.inside.Goes.{call_entry}
+use Rattle.tx_core.specs.inside.Kept.{undrained_of}
+use Rattle.tx_core.proofs.Drained.{bodies_entry, bodies_unanswered}
 use Rattle.tx_core.proofs.Kept.{core_goes, core_unanswered, left_by, of_each}
 use Rattle.std.proofs.Common.{subst}
 use Rattle.std.proofs.lemmas.Result.{IfOk-weaker}
@@ -31,13 +33,19 @@ invariant_of-self g c =
           (λ a is. core_goes v m told count h.opening.value h.number h.limit h.parts (call_entry c.args.session c.args.call a) q c.self.invariant.core is c.attempt.ensures.seated cause.later)
           (λ e at is. core_unanswered v m told count h.opening.value h.number h.limit h.parts c.args.session c.args.call e q c.self.invariant.core is c.attempt.ensures.seated cause.later (λ fault. cause.failed (at ∙ ap Err fault)));
       passed = c.attempt.ensures.passed;
+      bodies =
+          let h = c.self.inside in
+          let q = c.attempt.new.parts in
+          of_each c.attempt.result c.attempt.ensures.ok c.attempt.ensures.err
+          (λ a is. bodies_entry h.number h.parts.book.items q.book.items h.parts.prepared q.prepared h.bodies _ is.book is.prepared refl c.self.invariant.bodies)
+          (λ e at is. bodies_unanswered g.C.TreeCall.is_valid g.C.TreeCall.meaning g.B.NodeRead.contents g.B.NodeRead.count h.number h.parts q h.bodies c.args.session c.args.call e is c.self.invariant.bodies);
     }
 
 pub returns-clause-err : goal.returns-clause-err
 returns-clause-err g c =
     let h = c.self.inside in
     IfErr-weaker c.attempt.result _ _
-    (λ e is. left_by g.C.TreeCall.is_valid g.C.TreeCall.meaning g.B.NodeRead.contents g.B.NodeRead.count h.opening.value h.number h.limit h.parts c.args.session c.args.call e c.attempt.new.parts _ _ (sym c.self.view_is) refl
+    (λ e is. left_by g.C.TreeCall.is_valid g.C.TreeCall.meaning g.B.NodeRead.contents g.B.NodeRead.count h.opening.value h.number h.limit (undrained_of h.bodies) h.parts c.args.session c.args.call e c.attempt.new.parts _ _ (sym c.self.view_is) refl
     (same_committed g.C.TreeCall.is_valid g.C.TreeCall.meaning g.B.NodeRead.contents h.parts c.attempt.new.parts c.attempt.ensures.seated.layers (g.met.B.NodeRead.unchanged_contents _ _ c.attempt.ensures.unchanged)) is)
     c.attempt.ensures.err
 
@@ -45,7 +53,7 @@ pub returns-clause-ok : goal.returns-clause-ok
 returns-clause-ok g c =
     let h = c.self.inside in
     IfOk-weaker c.attempt.result _ _
-    (λ a is. shown_over g.C.TreeCall.is_valid g.C.TreeCall.meaning g.B.NodeRead.contents h.opening.value h.number h.limit h.parts c.attempt.new.parts (call_entry c.args.session c.args.call a) _ c.self.view_is is.book is.prepared c.attempt.ensures.seated.layers
+    (λ a is. shown_over g.C.TreeCall.is_valid g.C.TreeCall.meaning g.B.NodeRead.contents h.opening.value h.number h.limit (undrained_of h.bodies) h.parts c.attempt.new.parts (call_entry c.args.session c.args.call a) _ c.self.view_is is.book is.prepared c.attempt.ensures.seated.layers
     (g.met.B.NodeRead.unchanged_contents _ _ c.attempt.ensures.unchanged)) c.attempt.ensures.ok
 
 pub returns-clause-deadlock : goal.returns-clause-deadlock

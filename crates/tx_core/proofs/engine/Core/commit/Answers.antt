@@ -1,10 +1,13 @@
-use Rattle.std.proofs.Common.{◌+◌, ℕ, ap, sym, subst, ◌∙◌}
+use Rattle.std.proofs.Common.{◌≡◌, ◌+◌, ◌<◌, ◌^◌, ℕ, length, refl, ap, sym, subst, ◌∙◌, arith}
 use Rattle.tree_model.specs.Tree.{Tree}
 use Rattle.node_seq.specs.Trees.{StandsFor}
 use Rattle.call_contract.specs.Sessions.{commits_in}
-use Rattle.tx_core.specs.Commits.{ReplaysOthers}
+use Rattle.tx_core.specs.Commits.{ReplaysOthers, pending_of}
 use Rattle.tx_core.specs.Cores.{CoreView, state_from, next_number}
 use Rattle.tx_core.proofs.Counted.{same_count}
+use Rattle.tx_core.specs.inside.Kept.{undrained_of}
+use Rattle.tx_core.proofs.Drained.{bodies_commit}
+use Rattle.tx_core.proofs.Told.{number_fits}
 use Rattle.tx_core.proofs.Kept.{core_commits}
 use Rattle.tx_core.proofs.CommitsKept.{core_replays}
 use Rattle.call_contract.specs.Lives.{NoCellIsShared}
@@ -34,6 +37,16 @@ invariant_of-self g c =
           c.self.inside.parts _ c.commit.new.parts c.self.invariant.core c.commit.ensures.goes c.commit.ensures.seated
           (same_count g.B.NodeRead.count c.self.inside.opening.value c.self.inside.parts c.commit.new.parts c.commit.ensures.base);
       passed = c.commit.ensures.passed c.self.invariant.passed;
+      bodies =
+          let h = c.self.inside in
+          let core = c.self.invariant.core in
+          let is = c.requires.commit in
+          let ready = (core.seated.prepared c.args.session (ap (λ (v : CoreView _ _). v.prepared) c.self.view_is ∙ c.requires.prepared)).0 in
+          let next : c.args.prepared.number ≡ h.number + commits_in h.parts.book.items + 1 = is.number ∙ sym (ap (λ (v : CoreView _ _). next_number v) c.self.view_is) in
+          let fits : c.args.prepared.number < 2 ^ 32 = omega (arith, next, core.opened, core.seated.number, number_fits h.parts c.args.session core.seated ready) in
+          let short : length c.args.prepared.body < 2 ^ 32 = omega (arith, is.short) in
+          bodies_commit h.number h.parts.book.items c.commit.new.parts.book.items h.parts.prepared c.commit.new.parts.prepared h.bodies c.keep.new.self _ (pending_of c.args.prepared) c.commit.ensures.goes.book refl c.commit.ensures.none_prepared
+          c.keep.ensures.waiting c.keep.ensures.after next (record { changes = c.args.prepared.changes; rise = is.list.rise; read = is.read; short = short; fits = fits }) c.self.invariant.bodies;
     }
 
 pub returns-clause-others : goal.returns-clause-others
@@ -45,10 +58,14 @@ returns-clause-others g c =
 pub returns-clause-committed : goal.returns-clause-committed
 returns-clause-committed g c =
     let h = c.self.inside in
-    shown_commit g.C.TreeCall.is_valid g.C.TreeCall.meaning g.B.NodeRead.contents h.opening.value h.number h.limit h.parts c.commit.new.parts _ _ c.self.view_is c.commit.ensures.goes.book c.commit.ensures.none_prepared c.commit.ensures.base
+    shown_commit g.C.TreeCall.is_valid g.C.TreeCall.meaning g.B.NodeRead.contents h.opening.value h.number h.limit (undrained_of h.bodies) (undrained_of c.keep.new.self) (pending_of c.args.prepared) h.parts c.commit.new.parts _ _ c.self.view_is c.commit.ensures.goes.book
+    c.commit.ensures.none_prepared c.commit.ensures.base (λ i. record { after = c.keep.ensures.after i; waiting = c.keep.ensures.waiting i })
 
 pub returns-clause-apart : goal.returns-clause-apart
 returns-clause-apart g c =
     let h = c.self.inside in
     subst (λ (v : CoreView _ _). (t : Tree) → StandsFor (g.B.NodeRead.contents v.opening) t → NoCellIsShared (state_from g.C.TreeCall.meaning t v)) c.self.view_is
     (core_apart g.C.TreeCall.is_valid g.C.TreeCall.meaning g.B.NodeRead.contents g.met.C.TreeCall.laws g.B.NodeRead.count h.opening.value h.number h.limit h.parts c.self.invariant.core)
+
+pub keep-requires : goal.keep-requires
+keep-requires g c = c.self.invariant.bodies.room c.args.session (ap (λ (v : CoreView _ _). v.prepared) c.self.view_is ∙ c.requires.prepared)

@@ -3,7 +3,10 @@ use Rattle.call_contract.specs.Sessions.{live_in}
 use Rattle.tx_core.specs.Cores.{CoreView}
 use Rattle.tx_core.specs.Refusals.{refused_call}
 use Rattle.tx_core.specs.declared.parts.Parts.{Parts}
+use Rattle.tx_core.specs.Drains.{Undrained}
+use Rattle.tx_core.specs.inside.Kept.{undrained_of}
 use Rattle.tx_core.proofs.Counted.{same_count}
+use Rattle.tx_core.proofs.Drained.{bodies_roomy, prepared_room, same_undrained}
 use Rattle.tx_core.proofs.Kept.{core_still}
 use Rattle.tx_core.proofs.CommitsKept.{prepared_kept}
 use Rattle.tx_core.proofs.PassedOn.{kept_passed}
@@ -11,7 +14,7 @@ use Rattle.tx_core.proofs.Told.{layered_seated, number_fits, seat_refused}
 use Rattle.std.proofs.Common.{Some, ap₂}
 use Rattle.std.proofs.lemmas.Result.{on_err_weaker}
 use Rattle.overlays.specs.Views.{contents_after}
-use Rattle.tx_core.proofs.Kept.{as_ok, shown_kept, shown_prepared}
+use Rattle.tx_core.proofs.Kept.{as_ok, shown, shown_kept, shown_prepared}
 use Rattle.tx_core.proofs.engine.Core.prepare.Goals as goal
 
 pub prepare-requires : goal.prepare-requires
@@ -29,6 +32,14 @@ invariant_of-self g c =
           (layered_seated p q p.base q.layers q.prepared c.self.invariant.core.seated same
           (prepared_kept p q c.args.session c.prepare.result c.self.invariant.core.seated.prepared (ap (λ (x : Parts _ _). x.places) same) c.prepare.ensures.prepared c.prepare.ensures.ready c.prepare.ensures.spare c.prepare.ensures.err));
       passed = kept_passed g.B.NodeRead.contents c.self.inside.parts c.prepare.new.parts (ap (λ (x : Parts _ _). x.places) c.prepare.ensures.same) (ap (λ (x : Parts _ _). x.passed) c.prepare.ensures.same) (ap₂ contents_after c.prepare.ensures.layers (ap g.B.NodeRead.contents (ap (λ (x : Parts _ _). x.base) c.prepare.ensures.same))) c.self.invariant.passed;
+      bodies =
+          let h = c.self.inside in
+          let q = c.prepare.new.parts in
+          let d = c.prepare.new.bodies in
+          let kept = c.prepare.ensures.kept in
+          bodies_roomy h.number h.parts.book.items q.book.items h.parts.prepared q.prepared h.bodies d (ap (λ (x : Parts _ _). x.book.items) c.prepare.ensures.same) kept.0 kept.1
+          (prepared_room _ h.bodies d h.parts.prepared q.prepared c.prepare.result kept.0 kept.2 c.prepare.ensures.bodies c.prepare.ensures.err c.self.invariant.bodies.room)
+          c.self.invariant.bodies;
     }
 
 pub returns-clause-refused : goal.returns-clause-refused
@@ -43,7 +54,8 @@ returns-clause-ok g c =
     let same = c.prepare.ensures.same in
     let base = ap (λ (x : Parts _ _). x.base) same in
     as_ok c.prepare.result
-    (λ is _. shown_prepared g.C.TreeCall.is_valid g.C.TreeCall.meaning g.B.NodeRead.contents h.opening.value h.number h.limit p q (Some c.args.session) _ c.self.view_is (ap (λ (x : Parts _ _). x.book.items) same) is
+    (λ is _. ap (λ (u : Undrained). shown g.B.NodeRead.contents h.opening.value h.number h.limit u q) (same_undrained h.bodies c.prepare.new.bodies c.prepare.ensures.kept.0 c.prepare.ensures.kept.1)
+    ∙ shown_prepared g.C.TreeCall.is_valid g.C.TreeCall.meaning g.B.NodeRead.contents h.opening.value h.number h.limit (undrained_of h.bodies) p q (Some c.args.session) _ c.self.view_is (ap (λ (x : Parts _ _). x.book.items) same) is
     (ap₂ contents_after c.prepare.ensures.layers (ap g.B.NodeRead.contents base)) base) c.prepare.ensures.prepared
 
 pub returns-clause-err : goal.returns-clause-err
@@ -54,5 +66,6 @@ returns-clause-err g c =
     let same = c.prepare.ensures.same in
     let base = ap (λ (x : Parts _ _). x.base) same in
     on_err_weaker c.prepare.result
-    (λ is. shown_kept g.C.TreeCall.is_valid g.C.TreeCall.meaning g.B.NodeRead.contents h.opening.value h.number h.limit p q _ c.self.view_is (ap (λ (x : Parts _ _). x.book.items) same) is.0
+    (λ is. ap (λ (u : Undrained). shown g.B.NodeRead.contents h.opening.value h.number h.limit u q) (same_undrained h.bodies c.prepare.new.bodies c.prepare.ensures.kept.0 c.prepare.ensures.kept.1)
+    ∙ shown_kept g.C.TreeCall.is_valid g.C.TreeCall.meaning g.B.NodeRead.contents h.opening.value h.number h.limit (undrained_of h.bodies) p q _ c.self.view_is (ap (λ (x : Parts _ _). x.book.items) same) is.0
     (ap₂ contents_after c.prepare.ensures.layers (ap g.B.NodeRead.contents base)) base) c.prepare.ensures.err

@@ -3,7 +3,9 @@ use Rattle.std.proofs.Common.{Option, IsSome, refl, sym, ap, ◌∙◌, subst}
 use Rattle.std.proofs.lemmas.Result.{IfErr-weaker, IfOk-weaker}
 use Rattle.call_contract.specs.Sessions.{live_in}
 use Rattle.tx_core.specs.Cores.{CoreView, waits_in, count_told}
+use Rattle.tx_core.specs.inside.Kept.{undrained_of}
 use Rattle.tx_core.specs.inside.Retrying.{failed_retry}
+use Rattle.tx_core.proofs.Drained.{bodies_again, bodies_entry}
 use Rattle.tx_core.proofs.Kept.{of_each}
 use Rattle.tx_core.proofs.KeptAgain.{core_retries, core_retry_fails, core_waits, has_failed, has_retried}
 use Rattle.call_contract.specs.declared.events.Event.TheVariants as event
@@ -40,6 +42,13 @@ invariant_of-self g c =
           (λ a is. core_retries g.C.TreeCall.is_valid g.C.TreeCall.meaning g.B.NodeRead.contents g.B.NodeRead.count h.opening.value h.number h.limit h.parts c.args.session at.0 a c.retry.new.parts c.self.invariant.core at.2 (is at.0 at.1) c.retry.ensures.seated cause.later)
           (λ e met is. core_retry_fails g.C.TreeCall.is_valid g.C.TreeCall.meaning g.B.NodeRead.contents g.B.NodeRead.count h.opening.value h.number h.limit h.parts c.args.session at.0 (is at.0 at.1).0 e c.retry.new.parts c.self.invariant.core at.2 (is at.0 at.1).1 c.retry.ensures.seated cause.later (λ fault. cause.failed (met ∙ ap Err fault)));
       passed = c.retry.ensures.passed;
+      bodies =
+          let h = c.self.inside in
+          let at = core_waits g.C.TreeCall.is_valid g.C.TreeCall.meaning g.B.NodeRead.contents g.B.NodeRead.count h.opening.value h.number h.limit h.parts c.args.session c.self.invariant.core (ap (λ (x : CoreView _ _). waits_in (live_in x.book c.args.session)) c.self.view_is ∙ c.requires) in
+          let q = c.retry.new.parts in
+          of_each c.retry.result c.retry.ensures.ok c.retry.ensures.err
+          (λ a is. let again = is at.0 at.1 in bodies_again g.C.TreeCall.is_valid g.C.TreeCall.meaning g.B.NodeRead.contents g.B.NodeRead.count h.number h.parts q h.bodies c.args.session at.0 a again.noted again.moved c.self.invariant.bodies)
+          (λ e met is. let failed = (is at.0 at.1).1 in bodies_entry h.number h.parts.book.items q.book.items h.parts.prepared q.prepared h.bodies _ failed.book failed.prepared refl c.self.invariant.bodies);
     }
 
 pub returns-clause-ok : goal.returns-clause-ok
@@ -47,7 +56,7 @@ returns-clause-ok g c =
     let h = c.self.inside in
     let at = core_waits g.C.TreeCall.is_valid g.C.TreeCall.meaning g.B.NodeRead.contents g.B.NodeRead.count h.opening.value h.number h.limit h.parts c.args.session c.self.invariant.core (ap (λ (x : CoreView _ _). waits_in (live_in x.book c.args.session)) c.self.view_is ∙ c.requires) in
     IfOk-weaker c.retry.result _ _
-    (λ a is. has_retried g.C.TreeCall.is_valid g.C.TreeCall.meaning g.B.NodeRead.contents g.B.NodeRead.count h.opening.value h.number h.limit h.parts c.args.session at.0 a c.retry.new.parts _ _ (sym c.self.view_is) refl
+    (λ a is. has_retried g.C.TreeCall.is_valid g.C.TreeCall.meaning g.B.NodeRead.contents g.B.NodeRead.count h.opening.value h.number h.limit (undrained_of h.bodies) h.parts c.args.session at.0 a c.retry.new.parts _ _ (sym c.self.view_is) refl
     (same_committed g.C.TreeCall.is_valid g.C.TreeCall.meaning g.B.NodeRead.contents h.parts c.retry.new.parts c.retry.ensures.seated.layers (g.met.B.NodeRead.unchanged_contents _ _ c.retry.ensures.unchanged)) c.self.invariant.core at.2 (is at.0 at.1)) c.retry.ensures.ok
 
 pub returns-clause-err : goal.returns-clause-err
@@ -59,7 +68,7 @@ returns-clause-err g c =
     (λ e is.
     let failed = is at.0 at.1 in (
       failed.0,
-      has_failed g.C.TreeCall.is_valid g.C.TreeCall.meaning g.B.NodeRead.contents h.opening.value h.number h.limit h.parts c.args.session at.0 (failed_retry c.args.session failed.0 (count_told e (g.B.NodeRead.count q.base))) q _ _ (sym c.self.view_is) refl
+      has_failed g.C.TreeCall.is_valid g.C.TreeCall.meaning g.B.NodeRead.contents h.opening.value h.number h.limit (undrained_of h.bodies) h.parts c.args.session at.0 (failed_retry c.args.session failed.0 (count_told e (g.B.NodeRead.count q.base))) q _ _ (sym c.self.view_is) refl
           (same_committed g.C.TreeCall.is_valid g.C.TreeCall.meaning g.B.NodeRead.contents h.parts c.retry.new.parts c.retry.ensures.seated.layers (g.met.B.NodeRead.unchanged_contents _ _ c.retry.ensures.unchanged)) failed.1,
     ))
     c.retry.ensures.err
