@@ -270,6 +270,10 @@ class Calls:
     def dump(self, at):
         return self._do("dump", at=at)
 
+    def find(self, at, path):
+        """The labels of all that a path finds from a node, an attribute as `LABEL/@NAME`."""
+        return self._do("find", at=at, path=path)
+
     def length(self, at):
         return self._do("length", at=at)
 
