@@ -41,7 +41,7 @@ no_float_refusal TooDeep = refl
 no_float_refusal TextLimit = refl
 no_float_refusal LabelLimit = refl
 
-no_float_reply : (r : Reply) → has_float (reply_value r) ≡ false
+pub no_float_reply : (r : Reply) → has_float (reply_value r) ≡ false
 no_float_reply reply.Nothing = refl
 no_float_reply (reply.Flag b) = refl
 no_float_reply (reply.Number n) = refl

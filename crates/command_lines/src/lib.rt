@@ -23,4 +23,4 @@ pub use command::{Command, StoreCall, What};
 pub use key::Key;
 pub use line_reply::{LineAnswer, LineReply, SessionRefusal};
 pub use reading::read_line;
-pub use writing::write_reply;
+pub use writing::{write_answer, write_reply};

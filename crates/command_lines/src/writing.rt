@@ -3,6 +3,7 @@ ghost use Rattle.std.specs.Prelude.{◌≡◌, [], ◌∷◌, ◌++◌, false, o
 ghost use Rattle.serde_json.specs.View.{view};
 ghost use Rattle.serde_json.specs.Written.{has_float, compact_text};
 ghost use Rattle.command_lines.specs.Replies.{answer_value, wait_value, bad_value, order_value, reply_text};
+ghost use Rattle.command_lines.specs.ReplyValues.{reply_value};
 ghost use Rattle.command_lines.specs.inside.SaidText.{start, end, key_first, session_first, said_text};
 
 use crate::json_value::{ToJson, array_of};
@@ -32,6 +33,14 @@ pub fn write_reply(alloc: Global, reply: &LineReply, out: &mut List<u8>) -> Resu
         LineReply::Bad { why, line } => write_value(alloc, bad_value(alloc, why, *line)?, out),
         LineReply::Order(commits) => write_value(alloc, order_value(alloc, commits)?, out),
     }
+}
+
+/// Puts the value of a reply alone, as compact text and LF, at the end of `out`.
+pub fn write_answer(alloc: Global, reply: &Reply, out: &mut List<u8>) -> Result<(), NoMemory>
+    ensures ok { OnOk result (out.new ≡ out.old ++ (compact_text (reply_value reply.now) ++ 10 ∷ [])) }
+    ensures err { OnErr result (out.new ≡ out.old) }
+{
+    write_value(alloc, reply_value(alloc, reply)?, out)
 }
 
 /// Puts a value's text and LF at the end of `out`.

@@ -1,7 +1,7 @@
 -- Worked words: what they ask for, and the parts of words with two options.
 use Rattle.std.proofs.Common.{◌≡◌, refl, List, [], ◌∷◌, Option, Some, None, codes}
 use Rattle.command_words.specs.Arguments.{Word, Parts, parts_from, parts_of}
-use Rattle.command_words.specs.Commands.{Command, command_of_texts, run, put, get}
+use Rattle.command_words.specs.Commands.{Command, command_of_texts, run, put, get, query}
 
 abbrev asks : List Word → Option Command → Type 0
 asks ws c = command_of_texts ws ≡ c
@@ -41,6 +41,14 @@ module _ where
   the_empty_word : asks (codes "get" ∷ [] ∷ []) (Some (get []))
   unfolding parts_from
   the_empty_word = refl
+
+  two_words_of_a_query : asks (codes "query" ∷ codes "x" ∷ codes "//a" ∷ []) (Some (query (codes "x") (codes "//a")))
+  unfolding parts_from
+  two_words_of_a_query = refl
+
+  a_query_without_its_path : asks (codes "query" ∷ codes "x" ∷ []) None
+  unfolding parts_from
+  a_query_without_its_path = refl
 
   help : asks (codes "run" ∷ codes "--help" ∷ []) None
   unfolding parts_from

@@ -7,11 +7,12 @@ use Rattle.command_words.specs.Arguments.{Word, Parts, parts_of}
 use Rattle.command_words.specs.declared.command.Command.{Command as Asked}
 use Rattle.command_words.specs.declared.command.Command.TheVariants as asked
 
--- a script is run, the document with a name is made from the input, or it is written
+-- a script is run; the document with a name is made from the input, or it is written, or what a path finds from it
 pub data Command : Type 0 where
   run : Command
   put : Word → Command
   get : Word → Command
+  query : Word → Word → Command
 
 -- ---- what a command takes
 
@@ -27,6 +28,14 @@ only _ = None
 abbrev pub one_word : (Word → Command) → List Word → Option Command
 one_word c ws = option_map c (only ws)
 
+-- the two words
+abbrev pub both : List Word → Option (Word × Word)
+both (v ∷ w ∷ []) = Some (v, w)
+both _ = None
+
+abbrev pub two_words : (Word → Word → Command) → List Word → Option Command
+two_words c ws = option_map (λ p. c p.0 p.1) (both ws)
+
 -- ---- the grammar
 
 -- each command: its word, and what it makes of the plain words behind it
@@ -35,6 +44,7 @@ commands =
     (codes "run", no_words run)
     ∷ (codes "put", one_word put)
     ∷ (codes "get", one_word get)
+    ∷ (codes "query", two_words query)
     ∷ []
 
 -- the names of the options, which every command takes
@@ -63,3 +73,4 @@ abbrev pub meant : Asked → Command
 meant asked.Run = run
 meant (asked.Put name) = put name.now
 meant (asked.Get name) = get name.now
+meant (asked.Query name path) = query name.now path.now

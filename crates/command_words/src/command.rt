@@ -9,4 +9,6 @@ pub enum Command<'a> {
     Put(&'a str),
     /// The document with this name is written.
     Get(&'a str),
+    /// What a path finds from the document with this name is written.
+    Query(&'a str, &'a str),
 }

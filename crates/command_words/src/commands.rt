@@ -1,7 +1,7 @@
 //! The words of a command: its own word, then what it takes.
 ghost use Rattle.std.specs.Prelude.{◌≡◌, map, None, Some, Err, IfOk, option_map};
 ghost use Rattle.command_words.specs.Arguments.{Parts};
-ghost use Rattle.command_words.specs.Commands.{command_by, command_of, meant, no_words, of_parts, only};
+ghost use Rattle.command_words.specs.Commands.{both, command_by, command_of, meant, no_words, of_parts, only};
 ghost use Rattle.command_words.specs.Found.{TellsParts};
 
 use crate::arguments::{Arguments, read_arguments};
@@ -45,6 +45,10 @@ fn command_by<'a>(word: &'a str, plain: &[&'a str]) -> Option<Command<'a>>
         "run" => no_words(plain, Command::Run),
         "put" => Some(Command::Put(one_word(plain)?)),
         "get" => Some(Command::Get(one_word(plain)?)),
+        "query" => {
+            let (name, path) = two_words(plain)?;
+            Some(Command::Query(name, path))
+        }
         _ => None,
     }
 }
@@ -64,6 +68,15 @@ fn one_word<'a>(plain: &[&'a str]) -> Option<&'a str>
 {
     match plain {
         [word] => Some(*word),
+        _ => None,
+    }
+}
+
+fn two_words<'a>(plain: &[&'a str]) -> Option<(&'a str, &'a str)>
+    ensures { option_map (λ p. (p.0.now, p.1.now)) result ≡ both (map (λ w. w.now) plain.now) }
+{
+    match plain {
+        [first, second] => Some((*first, *second)),
         _ => None,
     }
 }

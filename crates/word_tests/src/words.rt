@@ -26,7 +26,7 @@ fn asked(alloc: Global, words: &str) -> Result<String, Fail> {
 }
 
 /// Words, and what they ask for.
-const COMMANDS: [(&str, &str); 28] = [
+const COMMANDS: [(&str, &str); 33] = [
     ("", "Usage"),
     ("''", "Usage"),
     ("run", "Run"),
@@ -55,6 +55,11 @@ const COMMANDS: [(&str, &str); 28] = [
     ("put -- -x", "Put(\"-x\")"),
     ("get -- --", "Get(\"--\")"),
     ("get -\u{e9}", "Usage"),
+    ("query x //a", "Query(\"x\", \"//a\")"),
+    ("query x", "Usage"),
+    ("query x /a /b", "Usage"),
+    ("query x -1", "Usage"),
+    ("query -- x -1", "Query(\"x\", \"-1\")"),
 ];
 
 #[test]
