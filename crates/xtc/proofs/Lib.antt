@@ -8,6 +8,7 @@ pub mod LineLaws
 pub mod LiveLaws
 pub mod OnTreeLaws
 pub mod OpeningLaws
+pub mod PromiseLaws
 pub mod ScriptBooks
 pub mod ScriptLaws
 pub mod StatusLaws

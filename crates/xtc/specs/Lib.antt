@@ -5,6 +5,7 @@ pub mod Durable
 pub mod StoreMachine
 pub mod Statuses
 pub mod TopCall
+pub mod Promises
 pub mod Commands
 pub mod Documents
 pub mod DocumentsOnTree

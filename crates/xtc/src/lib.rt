@@ -9,10 +9,15 @@ mod document;
 mod halt;
 mod laws;
 mod line;
+mod promises;
 mod status;
 mod store;
 mod top_call;
 
 pub use laws::{get_is_dump, put_is_create};
+pub use promises::{
+    crashes_lose_no_answered_commit, every_deadlock_is_true, every_output_is_the_replies,
+    every_run_is_serial, files_hold_what_was_answered,
+};
 pub use status::{Reason, Status};
 pub use top_call::{Finish, xtc};
