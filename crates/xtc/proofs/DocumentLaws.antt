@@ -21,7 +21,9 @@ use Rattle.tree_model.specs.Tree.{Tree, map_of}
 use Rattle.tree_model.specs.ValidTrees.{IsValidTree}
 use Rattle.tree_model.specs.declared.fragment.Fragment.{Fragment}
 use Rattle.node_seq.specs.Trees.{StandsFor}
-use Rattle.jsonml_io.specs.declared.fragment_error.FragmentError.{FragmentError}
+use Rattle.path_model.specs.declared.path.XPath.{XPath}
+use Rattle.xpath_parser.specs.Parse.{parsed}
+use Rattle.xpath_parser.specs.declared.path_error.PathError.{PathError}
 use Rattle.journal.specs.Groups.{is_next}
 use Rattle.journal.specs.Views.{JournalView}
 use Rattle.recovery.specs.Opened.{contents_of_files}
@@ -33,9 +35,11 @@ use Rattle.command_lines.specs.declared.line_reply.LineReply.{LineReply}
 use Rattle.session_driver.specs.Lines.{Asked}
 use Rattle.tx_core.specs.Cores.{CoreView, next_number, opened_over}
 use Rattle.xtc.specs.Book.{after_asked}
-use Rattle.command_words.specs.Commands.{Command, run, put, get}
+use Rattle.command_words.specs.Commands.{Command, run, put, get, query}
 use Rattle.xtc.specs.Commands.{reads_input}
-use Rattle.xtc.specs.Documents.{asks_of, put_asks_of, dump_asks, end_by, end_of, find_asks, label_in, reason_in, text_of}
+use Rattle.xtc.specs.Documents.{asks_of, put_asks_of, query_asks_of, question_asks, show_asks, end_by, end_of, find_asks, label_in, reason_in, text_of}
+use Rattle.xtc.specs.declared.question.Question.{Question}
+use Rattle.xtc.specs.declared.question.Question.TheVariants.{Whole, FoundBy}
 use Rattle.xtc.specs.Durable.{HoldState}
 use Rattle.xtc.specs.StoreMachine.{Stands}
 use Rattle.xtc.specs.TopCall.{AreFirst, DocumentRan, IsDocumentEnd, IsWhole, IsWithin, NeedsWhole, OpenAfterAsked, OpenAfter, Outcome, WroteWhole, slack, whole_limit}
@@ -52,24 +56,32 @@ use Rattle.xtc.proofs.AskingLaws.{image_holds}
 abbrev no_element : Status → Result Fragment Status
 no_element e = Err e
 
-none_first : (r : Result (List (Asked StoreCall)) FragmentError) → AreFirst [] r
+none_first : (r : Result (List (Asked StoreCall)) Status) → AreFirst [] r
 none_first (Ok asks) = (asks, refl)
 none_first (Err why) = refl
 
 -- what is asked, where the input is no error
-abbrev asks_in : Result (List (Asked StoreCall)) FragmentError → List (Asked StoreCall)
+abbrev asks_in : Result (List (Asked StoreCall)) Status → List (Asked StoreCall)
 asks_in (Ok asks) = asks
 asks_in (Err why) = []
 
-dump_no_commit : (label : Option Label) → AskNoCommit (dump_asks label)
-dump_no_commit None = tt
-dump_no_commit (Some at) = ((λ is. cc), ((λ is. cc), tt))
+question_no_commit : (q : Question) (label : Option Label) → AskNoCommit (question_asks q label)
+question_no_commit q None = tt
+question_no_commit q (Some at) = ((λ is. cc), ((λ is. cc), tt))
+
+show_no_commit : (s : State StoreCall) (name : Name) (q : Question) → AskNoCommit (show_asks s name q)
+show_no_commit s name q = ((λ it. cc), ((λ it. cc), question_no_commit q (label_in (said s (find_asks name)))))
+
+query_no_commit : (path : Result XPath PathError) (s : State StoreCall) (name : Name) (all : List (Asked StoreCall)) → query_asks_of s name path ≡ Ok all → AskNoCommit all
+query_no_commit (Ok path) s name all is = subst AskNoCommit (ap asks_in is) (show_no_commit s name (FoundBy path))
+query_no_commit (Err why) s name all is = absurd cc
 
 -- a command that reads no input asks for no commit
 asks_no_commit : (c : Command) (s : State StoreCall) (read : List ℕ) (all : List (Asked StoreCall)) → asks_of c s read ≡ Ok all → reads_input (Some c) ≡ false → AskNoCommit all
 asks_no_commit run s read all is reads_none = absurd cc
 asks_no_commit (put name) s read all is reads_none = absurd cc
-asks_no_commit (get name) s read all is reads_none = subst AskNoCommit (ap asks_in is) ((λ it. cc), ((λ it. cc), dump_no_commit (label_in (said s (find_asks name)))))
+asks_no_commit (get name) s read all is reads_none = subst AskNoCommit (ap asks_in is) (show_no_commit s name Whole)
+asks_no_commit (query name path) s read all is reads_none = query_no_commit (parsed path) s name all is
 
 module _ (is_known : Bool) (s : State StoreCall) (c : Command) (read : List ℕ) where
   -- nothing was asked

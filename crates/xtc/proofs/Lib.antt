@@ -9,6 +9,8 @@ pub mod LiveLaws
 pub mod OnTreeLaws
 pub mod OpeningLaws
 pub mod PromiseLaws
+pub mod RefusedPaths
+pub mod ShownLaws
 pub mod ScriptBooks
 pub mod ScriptLaws
 pub mod StatusLaws

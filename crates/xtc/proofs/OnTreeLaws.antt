@@ -32,7 +32,8 @@ use Rattle.session_driver.specs.Progress.{Progress, and_then, stays}
 use Rattle.session_driver.specs.declared.doing.Doing.TheVariants.{Begin, Commit, Abort, Call}
 use Rattle.store_calls.specs.StoreCalls.{store_meaning}
 use Rattle.xtc.specs.Book.{after_asked}
-use Rattle.xtc.specs.Documents.{asks, calls, put_asks, find_asks, dump_asks, get_asks, reason_in, reason_of, label_in, tree_in}
+use Rattle.xtc.specs.Documents.{asks, calls, put_asks, find_asks, question_asks, get_asks, reason_in, reason_of, label_in, tree_in}
+use Rattle.xtc.specs.declared.question.Question.TheVariants.{Whole}
 use Rattle.xtc.specs.DocumentsOnTree.{PutOnTree, GetOnTree, label_shown}
 use Rattle.xtc.specs.declared.status.Reason.TheVariants as reason
 
@@ -202,16 +203,16 @@ module _ (t : Tree) (n limit : ℕ) where
 
     -- what is asked behind it goes by the label that was found
     got_by : (n + 0 == limit) ≡ false → (place : Option Label) → label_shown (answer_of [] doc) ≡ place
-        → got ≡ and_then begun (and_then found (after_asked found.state (dump_asks place)))
+        → got ≡ and_then begun (and_then found (after_asked found.state (question_asks Whole place)))
     got_by some_left place is =
-        ap (λ (at : Option Label). after_asked opened (find_asks name ++ dump_asks at))
+        ap (λ (at : Option Label). after_asked opened (find_asks name ++ question_asks Whole at))
         (ap (λ (p : Progress StoreCall). label_in p.lines) (found_is some_left []) ∙ or_none (label_shown (answer_of [] doc)) ∙ is)
-        ∙ found_is some_left (dump_asks place)
+        ∙ found_is some_left (question_asks Whole place)
 
     -- no label is found where no transaction can be begun
     got_nothing : (n + 0 == limit) ≡ true → got ≡ and_then (record { state = opened; book = []; lines = Said 1 false (answer.Session TxLimit) ∷ [] }) (after_asked opened (calls (Doc name) ∷ []))
     got_nothing spent =
-        ap (λ (at : Option Label). after_asked opened (find_asks name ++ dump_asks at))
+        ap (λ (at : Option Label). after_asked opened (find_asks name ++ question_asks Whole at))
         (ap (λ (p : Progress StoreCall). label_in (and_then p (after_asked p.state (calls (Doc name) ∷ []))).lines) (begin_refused spent))
         ∙ ap (λ (p : Progress StoreCall). and_then p (after_asked p.state (calls (Doc name) ∷ []))) (begin_refused spent)
 
@@ -222,7 +223,7 @@ module _ (t : Tree) (n limit : ℕ) where
       abbrev shown : Progress StoreCall
       shown = called found_calls found_grants dump
 
-      shown_is : after_asked found.state (dump_asks (Some at)) ≡ and_then shown (after_asked shown.state (asks Abort ∷ []))
+      shown_is : after_asked found.state (question_asks Whole (Some at)) ≡ and_then shown (after_asked shown.state (asks Abort ∷ []))
       shown_is = ap (λ (p : Progress StoreCall). and_then p (after_asked p.state (asks Abort ∷ []))) (call_is found_calls found_grants dump)
 
       abbrev lines_by : Reply → Reply → List LineReply

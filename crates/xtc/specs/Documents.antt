@@ -8,15 +8,16 @@ use Rattle.tree_model.specs.Names.{Name}
 use Rattle.tree_model.specs.declared.dom_call.DomCall.{DomCall}
 use Rattle.tree_model.specs.declared.dom_call.DomCall.TheVariants.{Create, Doc, Dump}
 use Rattle.tree_model.specs.declared.fragment.Fragment.{Fragment}
+use Rattle.tree_model.specs.declared.reply.Hit.{Hit}
 use Rattle.tree_model.specs.declared.reply.Reply.TheVariants as reply
 use Rattle.jsonml_io.specs.JsonMl.{fragment_in}
 use Rattle.jsonml_io.specs.Written.{json_of}
 use Rattle.jsonml_io.specs.declared.fragment_error.FragmentError.{FragmentError}
 use Rattle.jsonml_io.specs.declared.fragment_error.FragmentError.TheVariants.{NotJsonMl}
 use Rattle.call_contract.specs.States.{State}
-use Rattle.command_lines.specs.ReplyValues.{label_value, or_null}
+use Rattle.command_lines.specs.ReplyValues.{array_of, hit_value, label_value, or_null}
 use Rattle.command_lines.specs.declared.command.StoreCall.{StoreCall}
-use Rattle.command_lines.specs.declared.command.StoreCall.TheVariants.{Dom}
+use Rattle.command_lines.specs.declared.command.StoreCall.TheVariants.{Dom, Find}
 use Rattle.command_lines.specs.declared.line_reply.LineAnswer.{LineAnswer}
 use Rattle.command_lines.specs.declared.line_reply.LineAnswer.TheVariants as answer
 use Rattle.command_lines.specs.declared.line_reply.LineReply.{LineReply}
@@ -26,7 +27,12 @@ use Rattle.session_driver.specs.Lines.{Asked}
 use Rattle.session_driver.specs.declared.doing.Doing.{Doing}
 use Rattle.session_driver.specs.declared.doing.Doing.TheVariants.{Begin, Commit, Abort, Call}
 use Rattle.xtc.specs.Book.{after_asked}
-use Rattle.command_words.specs.Commands.{Command, run, put, get}
+use Rattle.command_words.specs.Commands.{Command, run, put, get, query}
+use Rattle.xpath_parser.specs.Parse.{parsed}
+use Rattle.xpath_parser.specs.declared.path_error.PathError.{PathError}
+use Rattle.path_model.specs.declared.path.XPath.{XPath}
+use Rattle.xtc.specs.declared.question.Question.{Question}
+use Rattle.xtc.specs.declared.question.Question.TheVariants.{Whole, FoundBy}
 use Rattle.xtc.specs.declared.status.Reason.{Reason}
 use Rattle.xtc.specs.declared.status.Reason.TheVariants as reason
 use Rattle.xtc.specs.declared.status.Status.{Status}
@@ -77,6 +83,15 @@ abbrev pub tree_in : List LineReply → Option Fragment
 tree_in [] = None
 tree_in (line ∷ lines) = option_or (tree_of line) (tree_in lines)
 
+abbrev pub hits_of : LineReply → Option (List Hit)
+hits_of (Said session woke (answer.Reply (reply.Found hits))) = Some hits
+hits_of line = None
+
+-- the first node set that is answered
+abbrev pub hits_in : List LineReply → Option (List Hit)
+hits_in [] = None
+hits_in (line ∷ lines) = option_or (hits_of line) (hits_in lines)
+
 -- ---- what session 1 is asked in turn
 
 abbrev pub asks : Doing StoreCall → Asked StoreCall
@@ -93,24 +108,38 @@ put_asks name element = asks Begin ∷ calls (Create name (Some element)) ∷ as
 abbrev pub find_asks : Name → List (Asked StoreCall)
 find_asks name = asks Begin ∷ calls (Doc name) ∷ []
 
--- to dump the document at a label, where there is one, and to abort
-abbrev pub dump_asks : Option Label → List (Asked StoreCall)
-dump_asks None = []
-dump_asks (Some at) = calls (Dump at) ∷ asks Abort ∷ []
+-- the call that asks it of the document at a label
+abbrev pub call_of : Question → Label → StoreCall
+call_of Whole at = Dom (Dump at)
+call_of (FoundBy path) at = Find at path
 
--- the label is the one that was found
+-- to ask it of the document at a label, where there is one, and to abort
+abbrev pub question_asks : Question → Option Label → List (Asked StoreCall)
+question_asks q None = []
+question_asks q (Some at) = asks (Call (call_of q at)) ∷ asks Abort ∷ []
+
+-- to ask it of the document with this name: the label is the one that was found
+abbrev pub show_asks : State StoreCall → Name → Question → List (Asked StoreCall)
+show_asks st name q = find_asks name ++ question_asks q (label_in (after_asked st (find_asks name)).lines)
+
 abbrev pub get_asks : State StoreCall → Name → List (Asked StoreCall)
-get_asks st name = find_asks name ++ dump_asks (label_in (after_asked st (find_asks name)).lines)
+get_asks st name = show_asks st name Whole
 
-abbrev pub put_asks_of : Name → Result Fragment FragmentError → Result (List (Asked StoreCall)) FragmentError
+-- the path of these bytes is asked for, or refused
+abbrev pub query_asks_of : State StoreCall → Name → Result XPath PathError → Result (List (Asked StoreCall)) Status
+query_asks_of st name (Ok path) = Ok (show_asks st name (FoundBy path))
+query_asks_of st name (Err why) = Err (DocumentRefused (reason.Path why))
+
+abbrev pub put_asks_of : Name → Result Fragment FragmentError → Result (List (Asked StoreCall)) Status
 put_asks_of name (Ok element) = Ok (put_asks name element)
-put_asks_of name (Err e) = Err e
+put_asks_of name (Err why) = Err (NotAnElement why)
 
--- what a command asks from a state on, with this input, or why the input is no element
-abbrev pub asks_of : Command → State StoreCall → List ℕ → Result (List (Asked StoreCall)) FragmentError
+-- what a command asks from a state on, with this input; or how it ends where the input is no element, or its path none
+abbrev pub asks_of : Command → State StoreCall → List ℕ → Result (List (Asked StoreCall)) Status
 asks_of run st input = Ok []
 asks_of (put name) st input = put_asks_of name (element_in input)
 asks_of (get name) st input = Ok (get_asks st name)
+asks_of (query name path) st input = query_asks_of st name (parsed path)
 
 -- ---- how it ends
 
@@ -119,8 +148,8 @@ end_by None = Done
 end_by (Some why) = DocumentRefused why
 
 -- how a command ends that asks this from a state on, where nothing fails
-abbrev pub end_of : State StoreCall → Result (List (Asked StoreCall)) FragmentError → Status
-end_of st (Err why) = NotAnElement why
+abbrev pub end_of : State StoreCall → Result (List (Asked StoreCall)) Status → Status
+end_of st (Err status) = status
 end_of st (Ok asked) = end_by (reason_in (after_asked st asked).lines)
 
 -- ---- what is written
@@ -133,8 +162,18 @@ label_line place = compact_text (or_null label_value place) ++ 10 ∷ []
 abbrev pub tree_line : Option Fragment → List ℕ
 tree_line tree = compact_text (or_null json_of tree) ++ 10 ∷ []
 
+-- the node set as an array of labels, an attribute as `LABEL/@NAME`, or `null`, and LF
+abbrev pub hits_line : Option (List Hit) → List ℕ
+hits_line hits = compact_text (or_null (array_of hit_value) hits) ++ 10 ∷ []
+
+-- the answer to what was asked of a document
+abbrev pub answer_line : Question → List LineReply → List ℕ
+answer_line Whole lines = tree_line (tree_in lines)
+answer_line (FoundBy path) lines = hits_line (hits_in lines)
+
 -- by what was answered
 abbrev pub text_of : Command → List LineReply → List ℕ
 text_of run lines = []
 text_of (put name) lines = label_line (label_in lines)
 text_of (get name) lines = tree_line (tree_in lines)
+text_of (query name path) lines = hits_line (hits_in lines)

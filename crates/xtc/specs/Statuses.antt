@@ -13,8 +13,11 @@ use Rattle.script_runs.specs.declared.running.End.{End}
 use Rattle.script_runs.specs.declared.running.End.TheVariants as end
 use Rattle.script_runs.specs.declared.whole.GatherError.{GatherError}
 use Rattle.script_runs.specs.declared.whole.GatherError.TheVariants as gathering
+use Rattle.xpath_parser.specs.declared.path_error.PathError.{PathError}
+use Rattle.xpath_parser.specs.declared.path_error.PathError.TheVariants as path
 use Rattle.xtc.specs.declared.halt.Halt.{Halt}
 use Rattle.xtc.specs.declared.halt.Halt.TheVariants as store_halt
+use Rattle.xtc.specs.declared.status.Reason.TheVariants.{Path}
 use Rattle.xtc.specs.declared.status.Status.{Status}
 use Rattle.xtc.specs.declared.status.Status.TheVariants.{Done, Usage, LineTooLong, Damaged, ReadFault, WriteFault, DiskFault, NoMemory, NotJsonMl, DocumentRefused}
 
@@ -79,6 +82,11 @@ status_of_gathering gathering.NoMemory = NoMemory
 abbrev pub status_of_fragment : FragmentError → Status
 status_of_fragment fragment.NoMemory = NoMemory
 status_of_fragment why = NotJsonMl why
+
+-- the status of a path that is none
+abbrev pub status_of_path : PathError → Status
+status_of_path path.NoMemory = NoMemory
+status_of_path why = DocumentRefused (Path why)
 
 -- the status of a store that can't go on
 abbrev pub status_of_halt : Halt → Status

@@ -17,13 +17,12 @@ use Rattle.call_contract.specs.States.{State, start}
 use Rattle.call_contract.specs.declared.events.Event.TheVariants.{Abort}
 use Rattle.call_contract.specs.declared.events.Noted.{Noted}
 use Rattle.command_lines.specs.declared.command.StoreCall.{StoreCall}
-use Rattle.jsonml_io.specs.declared.fragment_error.FragmentError.{FragmentError}
 use Rattle.session_driver.specs.Lines.{Asked}
 use Rattle.session_driver.specs.Progress.{Progress}
 use Rattle.session_driver.specs.Waiters.{AllStopped}
 use Rattle.store_calls.specs.StoreCalls.{store_meaning, IsValidStoreCall}
 use Rattle.xtc.specs.Book.{script_of, after_asked, replies_text}
-use Rattle.command_words.specs.Commands.{Command, run, put, get}
+use Rattle.command_words.specs.Commands.{Command, run, put, get, query}
 use Rattle.xtc.specs.Commands.{reads_input}
 use Rattle.xtc.specs.Documents.{asks_of, end_of, reason_in, text_of}
 use Rattle.xtc.specs.declared.status.Status.{Status}
@@ -132,16 +131,16 @@ pub record OpenAfterAsked (t : Tree) (n limit : ℕ) (least : ℕ) (asked : List
   pub opens : OpenAfter t n (after_asked (start t n limit) (take count asked)).book journal pages
 
 -- these are the first of what a command asks
-abbrev pub AreFirst : List (Asked StoreCall) → Result (List (Asked StoreCall)) FragmentError → Type 0
+abbrev pub AreFirst : List (Asked StoreCall) → Result (List (Asked StoreCall)) Status → Type 0
 AreFirst asked (Ok asks) = (rest : List (Asked StoreCall)) × (asked ++ rest ≡ asks)
-AreFirst asked (Err why) = asked ≡ []
+AreFirst asked (Err status) = asked ≡ []
 
 -- what a status says of the input, and of what was asked from a state on; where nothing fails it is `end_of`
 abbrev pub IsDocumentEnd : Command → State StoreCall → List ℕ → Status → List (Asked StoreCall) → Type 0
 IsDocumentEnd c st read Done asked = (asks_of c st read ≡ Ok asked) × (end_of st (Ok asked) ≡ Done)
 IsDocumentEnd c st read WriteFault asked = (asks_of c st read ≡ Ok asked) × (end_of st (Ok asked) ≡ Done)
 IsDocumentEnd c st read (DocumentRefused why) asked = end_of st (asks_of c st read) ≡ DocumentRefused why
-IsDocumentEnd c st read (NotJsonMl why) asked = asks_of c st read ≡ Err why
+IsDocumentEnd c st read (NotJsonMl why) asked = asks_of c st read ≡ Err (NotJsonMl why)
 IsDocumentEnd c st read (LineTooLong line) asked = (line ≡ 0) × (asked ≡ [])
 IsDocumentEnd c st read ReadFault asked = IsTrue (reads_input (Some c)) × (asked ≡ [])
 IsDocumentEnd c st read DiskFault asked = Unit {0}
@@ -180,7 +179,7 @@ WroteWhole Done before now text = Took before now text
 WroteWhole WriteFault before now text = TookPrefix before now text
 WroteWhole status before now text = now ≡ before
 
--- `put` or `get` over a store that was opened as a tree and a number. `asked` is what session 1 was asked in turn, up to the first refusal; `answered` of these were answered,
+-- `put`, `get` or `query` over a store that was opened as a tree and a number. `asked` is what session 1 was asked in turn, up to the first refusal; `answered` of these were answered,
 -- all but the last one at most, within whose commit the command stopped. The book of all is sound,
 -- and the files, now and as a crash leaves them at any moment, stand for a prefix of its commits with every one that was answered.
 pub record DocumentRan (t : Tree) (n limit : ℕ) (c : Command) (status : Status) (opening : Pair) (o : Outcome) : Type 0 where
@@ -192,7 +191,7 @@ pub record DocumentRan (t : Tree) (n limit : ℕ) (c : Command) (status : Status
   pub sound : IsSound t n limit (after_asked (start t n limit) asked)
   pub end : IsDocumentEnd c (start t n limit) o.read status asked
   pub short : IsWithin status (length o.read)
-  -- `put` judges its whole input and commits nothing but that; `get` reads none, and leaves the journal
+  -- `put` judges its whole input and commits nothing but that; `get` and `query` read none, and leave the journal
   pub whole : IsTrue (reads_input (Some c)) → NeedsWhole status asked (IsWhole o.left o.read)
   pub unread : reads_input (Some c) ≡ false → o.read ≡ []
   pub unwritten : reads_input (Some c) ≡ false → o.new.journal ≡ opening.journal
@@ -209,6 +208,7 @@ abbrev pub CommandRan : Tree → ℕ → ℕ → Option Command → Status → P
 CommandRan t n limit (Some run) status opening o = ScriptRan t n limit status opening o
 CommandRan t n limit (Some (put name)) status opening o = DocumentRan t n limit (put name) status opening o
 CommandRan t n limit (Some (get name)) status opening o = DocumentRan t n limit (get name) status opening o
+CommandRan t n limit (Some (query name path)) status opening o = DocumentRan t n limit (query name path) status opening o
 CommandRan t n limit None status opening o = ⊥
 
 -- ---- by the status
@@ -253,6 +253,7 @@ pub record TookInput (command : Option Command) (status : Status) (left left_now
 abbrev pub OfDocument : Option Command → Type 0 → Type 0
 OfDocument (Some (put name)) P = P
 OfDocument (Some (get name)) P = P
+OfDocument (Some (query name path)) P = P
 OfDocument command P = Unit {0}
 
 -- so it is where nothing is written

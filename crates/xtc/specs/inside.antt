@@ -2,3 +2,4 @@
 pub mod CommandRuns
 pub mod Stores
 pub mod Asking
+pub mod Showing

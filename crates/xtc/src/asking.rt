@@ -1,26 +1,24 @@
 // What session 1 is asked in turn for a command of one document, and what is read off the replies.
-ghost use Rattle.std.specs.Prelude.{◌≡◌, ◌++◌, ◌∷◌, [], false, None, Err, IfOk, IfErr, IfSome, OnOk};
+ghost use Rattle.std.specs.Prelude.{◌≡◌, ◌++◌, ◌∷◌, [], None, Err, IfOk, IfErr, IfSome, OnOk};
 ghost use Rattle.call_contract.specs.States.{State};
 ghost use Rattle.command_lines.specs.declared.command.StoreCall.{StoreCall};
 ghost use Rattle.command_lines.specs.declared.line_reply.LineAnswer.TheVariants as line_answer;
-ghost use Rattle.serde_json.specs.Data.{null};
-ghost use Rattle.serde_json.specs.View.{view};
-ghost use Rattle.serde_json.specs.Written.{has_float, compact_text};
-ghost use Rattle.xtc.specs.Documents.{reason_of_answer, reason_of, reason_in, label_in, tree_in, label_line, tree_line};
+ghost use Rattle.command_lines.specs.ReplyValues.{reply_value};
+ghost use Rattle.serde_json.specs.Written.{compact_text};
+ghost use Rattle.xtc.specs.Documents.{answer_line, reason_of_answer, reason_of, reason_in, hits_in, hits_line, label_in, tree_in, label_line, tree_line};
 ghost use Rattle.xtc.specs.StoreMachine.{Stands};
 ghost use Rattle.xtc.specs.inside.Asking.{all_asks, AreValidAsks, AskedInTurn, IsStop};
 ghost use Rattle.xtc.specs.inside.Stores.{MayBeAsked, Counts};
 
 use crate::halt::Halt;
+use crate::question::Question;
 use crate::status::{Reason, Status};
 use crate::store::answer;
-use command_lines::{LineAnswer, LineReply, SessionRefusal};
-use dewey_labels::{Label, NoMemory};
+use command_lines::{LineAnswer, LineReply, SessionRefusal, write_answer};
+use dewey_labels::{Label, List, NoMemory};
 use journal::Journal;
-use jsonml_io::to_value;
 use node_seq::SortedSeq;
 use outside_traits::Disk;
-use serde_json::Value;
 use session_driver::Doing;
 use std::alloc::Global;
 use store_calls::StoreOp;
@@ -136,44 +134,67 @@ pub fn label_in(alloc: Global, replies: &[LineReply]) -> Result<Option<Label>, N
     Ok(None)
 }
 
-/// The first label that is answered, as a JSON string in a line.
+/// The first label that is answered, as a JSON string in a line; `null` where there is none.
 pub fn label_line(alloc: Global, replies: &[LineReply]) -> Result<Vec<u8>, NoMemory>
     ensures { IfOk result (λ text. text.items ≡ label_line (label_in replies.now)) }
 {
-    match label_in(alloc, replies)? {
-        Some(label) => line_of(alloc, &Value::String(label.text(alloc)?.into_string())),
-        None => null_line(alloc),
+    let label = label_in(alloc, replies)?;
+    line_of(alloc, &Reply::Place(label))
+}
+
+/// What was asked of a document, in a line: `null` where there is no answer.
+pub fn answer_line(
+    alloc: Global,
+    question: &Question,
+    replies: &[LineReply],
+) -> Result<Vec<u8>, NoMemory>
+    ensures { IfOk result (λ text. text.items ≡ answer_line question.now replies.now) }
+{
+    match question {
+        Question::Whole => tree_line(alloc, replies),
+        Question::FoundBy(_) => hits_line(alloc, replies),
     }
 }
 
 /// The first fragment that is answered, as JsonML in a line; `null` where there is none.
-pub fn tree_line(alloc: Global, replies: &[LineReply]) -> Result<Vec<u8>, NoMemory>
+fn tree_line(alloc: Global, replies: &[LineReply]) -> Result<Vec<u8>, NoMemory>
     ensures { IfOk result (λ text. text.items ≡ tree_line (tree_in replies.now)) }
 {
     for reply in replies {
         if let LineReply::Said {
-            answer: LineAnswer::Reply(Reply::Tree(Some(tree))),
+            answer: LineAnswer::Reply(reply),
             ..
         } = reply
+            && matches!(reply, Reply::Tree(Some(_)))
         {
-            return line_of(alloc, &to_value(alloc, tree)?);
+            return line_of(alloc, reply);
         }
     }
-    null_line(alloc)
+    line_of(alloc, &Reply::Nothing)
 }
 
-fn null_line(alloc: Global) -> Result<Vec<u8>, NoMemory>
-    ensures { IfOk result (λ text. text.items ≡ compact_text null ++ 10 ∷ []) }
+/// The first node set that is answered, as an array of labels in a line; `null` where there is none.
+fn hits_line(alloc: Global, replies: &[LineReply]) -> Result<Vec<u8>, NoMemory>
+    ensures { IfOk result (λ text. text.items ≡ hits_line (hits_in replies.now)) }
 {
-    line_of(alloc, &Value::Null)
+    for reply in replies {
+        if let LineReply::Said {
+            answer: LineAnswer::Reply(reply),
+            ..
+        } = reply
+            && matches!(reply, Reply::Found(_))
+        {
+            return line_of(alloc, reply);
+        }
+    }
+    line_of(alloc, &Reply::Nothing)
 }
 
-/// A value's compact text and LF.
-fn line_of(alloc: Global, value: &Value) -> Result<Vec<u8>, NoMemory>
-    requires { has_float (view value.now) ≡ false }
-    ensures { IfOk result (λ text. text.items ≡ compact_text (view value.now) ++ 10 ∷ []) }
+/// A reply's value as compact text, and LF.
+fn line_of(alloc: Global, reply: &Reply) -> Result<Vec<u8>, NoMemory>
+    ensures { IfOk result (λ text. text.items ≡ compact_text (reply_value reply.now) ++ 10 ∷ []) }
 {
-    let mut text = value.to_vec(alloc)?;
-    text.push(b'\n')?;
-    Ok(text)
+    let mut text = List::new(alloc);
+    write_answer(alloc, reply, &mut text)?;
+    Ok(text.into_vec())
 }

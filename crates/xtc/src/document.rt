@@ -1,4 +1,4 @@
-// The commands of one document over a store that was opened.
+// The command that makes a document, over a store that was opened.
 ghost use Rattle.std.specs.Prelude.{◌≡◌, ◌≢◌, ◌+◌, ◌≤◌, ℕ, List, [], length, None, Some, Ok, Err, IfOk, IfErr, OnOk, IfSome};
 ghost use Rattle.outside_traits.specs.Bytes.{Gave};
 ghost use Rattle.outside_traits.specs.DiskPairs.{pair_of};
@@ -80,38 +80,8 @@ pub fn run_put<S: Source, K: Sink, J: Disk, P: Disk>(
     with_disks(written(sink, text), journal.into_disk(), pages)
 }
 
-/// Writes the document with a name.
-pub fn run_get<K: Sink, J: Disk, P: Disk>(
-    alloc: Global,
-    name: &str,
-    sink: &mut K,
-    store: Opened<J, P>,
-) -> Finish<J, P>
-    requires tree { IsStoredTree store.base }
-    requires next { TakesBehind store.journal store.number }
-    ensures { (input : Input) → RunsCommand J.is_known P.is_known store.base store.number (get_command name.now) result.status input input
-        (record { held = K.held sink.old; faults = K.faults sink.old }) (record { held = K.held sink.new; faults = K.faults sink.new })
-        (record {
-          files = pair_of store.journal.history (P.history store.pages);
-          faults = record { journal = store.journal.faults; pages = P.faults store.pages };
-        })
-        (record {
-          files = pair_of (J.history result.journal) (P.history result.pages);
-          faults = record { journal = J.faults result.journal; pages = P.faults result.pages };
-        }) }
-{
-    let Opened {
-        mut journal,
-        pages,
-        base,
-        number,
-    } = store;
-    let text = get_document(alloc, name, base, number, &mut journal);
-    with_disks(written(sink, text), journal.into_disk(), pages)
-}
-
 /// Writes the text that there is, and answers how the command ended.
-fn written<K: Sink>(sink: &mut K, text: Result<Vec<u8>, Status>) -> Status
+pub fn written<K: Sink>(sink: &mut K, text: Result<Vec<u8>, Status>) -> Status
     requires { IfErr text IsUnwritten }
     ensures text { IfOk text (λ text. IsWriteEnd result × WroteWhole result (K.held sink.old) (K.held sink.new) text.items) }
     ensures none { IfErr text (λ status. (result ≡ status) × (K.held sink.new ≡ K.held sink.old)) }
@@ -168,26 +138,7 @@ fn put_element<J: Disk>(
     put(alloc, &mut core, journal, name, element)
 }
 
-/// Answers the line of the document with a name.
-fn get_document<J: Disk>(
-    alloc: Global,
-    name: &str,
-    base: SortedSeq,
-    number: u32,
-    journal: &mut Journal<J>,
-) -> Result<Vec<u8>, Status>
-    requires tree { IsStoredTree base }
-    requires next { TakesBehind journal.old number }
-    ensures done { (t : Tree) → StandsFor (Some base) t
-        → DocumentDone J.is_known (start t number tx_limit) (get_command name.now) [] journal.old.history journal.new.history (λ text. text.items) result }
-    ensures stops { IfErr result IsStop }
-    ensures counts { Counts (result ≡ Err Status.DiskFault) journal.old.faults journal.new.faults }
-{
-    let mut core = open_core(alloc, base, number)?;
-    get(alloc, &mut core, journal, name)
-}
-
-fn open_core(
+pub fn open_core(
     alloc: Global,
     base: SortedSeq,
     number: u32,
@@ -258,102 +209,22 @@ fn put<J: Disk>(
     Ok(label_line(alloc, replies.as_slice())?)
 }
 
-/// Finds and dumps the document with a name, aborts, and answers the document's line.
-fn get<J: Disk>(
-    alloc: Global,
-    core: &mut Core<StoreOp, SortedSeq>,
-    journal: &mut Journal<J>,
-    name: &str,
-) -> Result<Vec<u8>, Status>
-    requires may { MayBeAsked core.old journal.old }
-    ensures done { (s : State StoreCall) → Stands core.old s
-        → DocumentDone J.is_known s (get_command name.now) [] journal.old.history journal.new.history (λ text. text.items) result }
-    ensures stops { IfErr result IsStop }
-    ensures counts { Counts (result ≡ Err Status.DiskFault) journal.old.faults journal.new.faults }
-{
-    let mut replies = Vec::new(alloc);
-    let label = find(alloc, core, journal, name, &mut replies)?;
-    dump(alloc, core, journal, label, &mut replies)
-}
-
-/// Finds the document with a name.
-fn find<J: Disk>(
-    alloc: Global,
-    core: &mut Core<StoreOp, SortedSeq>,
-    journal: &mut Journal<J>,
-    name: &str,
-    replies: &mut Vec<LineReply>,
-) -> Result<Option<Label>, Status>
-    requires may { MayBeAsked core.old journal.old }
-    requires unrefused { reason_in replies.old.items ≡ None }
-    ensures asked { (s : State StoreCall) → Stands core.old s → AskedInTurn J.is_known s (find_asks name.now)
-        journal.old.history core.new journal.new.history replies.old.items replies.new.items result }
-    ensures label { IfOk result (λ label. label ≡ label_in replies.new.items) }
-    ensures stops { IfErr result IsStop }
-    ensures may { OnOk result (MayBeAsked core.new journal.new) }
-    ensures unrefused { OnOk result (reason_in replies.new.items ≡ None) }
-    ensures counts { Counts (result ≡ Err Status.DiskFault) journal.old.faults journal.new.faults }
-{
-    let doings = find_doings(alloc, name)?;
-    ask_in_turn(alloc, core, journal, doings, replies)?;
-    Ok(label_in(alloc, replies.as_slice())?)
-}
-
-/// Dumps the document at a label and aborts, and answers the document's line.
-fn dump<J: Disk>(
-    alloc: Global,
-    core: &mut Core<StoreOp, SortedSeq>,
-    journal: &mut Journal<J>,
-    label: Option<Label>,
-    replies: &mut Vec<LineReply>,
-) -> Result<Vec<u8>, Status>
-    requires may { MayBeAsked core.old journal.old }
-    requires unrefused { reason_in replies.old.items ≡ None }
-    ensures asked { (s : State StoreCall) → Stands core.old s → AskedInTurn J.is_known s (dump_asks label)
-        journal.old.history core.new journal.new.history replies.old.items replies.new.items result }
-    ensures stops { IfErr result IsStop }
-    ensures text { IfOk result (λ text. text.items ≡ tree_line (tree_in replies.new.items)) }
-    ensures counts { Counts (result ≡ Err Status.DiskFault) journal.old.faults journal.new.faults }
-{
-    let doings = dump_doings(alloc, label)?;
-    ask_in_turn(alloc, core, journal, doings, replies)?;
-    Ok(tree_line(alloc, replies.as_slice())?)
-}
-
 fn put_doings(alloc: Global, name: &str, element: Fragment) -> Result<Vec<Doing<StoreOp>>, NoMemory>
     requires { IsValid (plain element) }
     ensures asks { IfOk result (λ doings. all_asks doings.items ≡ put_asks name.now element) }
     ensures valid { IfOk result (λ doings. AreValidAsks (all_asks doings.items)) }
 {
     let create = DomCall::Create(Text::of(alloc, name)?, Some(element));
-    Ok(vec![in alloc; Doing::Begin, doing_of(create), Doing::Commit]?)
-}
-
-fn find_doings(alloc: Global, name: &str) -> Result<Vec<Doing<StoreOp>>, NoMemory>
-    ensures asks { IfOk result (λ doings. all_asks doings.items ≡ find_asks name.now) }
-    ensures valid { IfOk result (λ doings. AreValidAsks (all_asks doings.items)) }
-{
-    let doc = DomCall::Doc(Text::of(alloc, name)?);
-    Ok(vec![in alloc; Doing::Begin, doing_of(doc)]?)
-}
-
-fn dump_doings(alloc: Global, label: Option<Label>) -> Result<Vec<Doing<StoreOp>>, NoMemory>
-    ensures asks { IfOk result (λ doings. all_asks doings.items ≡ dump_asks label) }
-    ensures valid { IfOk result (λ doings. AreValidAsks (all_asks doings.items)) }
-{
-    match label {
-        Some(at) => Ok(vec![in alloc; doing_of(DomCall::Dump(at)), Doing::Abort]?),
-        None => Ok(Vec::new(alloc)),
-    }
+    Ok(vec![in alloc; Doing::Begin, doing_of(StoreCall::Dom(create)), Doing::Commit]?)
 }
 
 /// Asking a session for a call.
-fn doing_of(call: DomCall) -> Doing<StoreOp>
-    requires { IsValidWhat (Call (Dom call)) }
-    ensures doing { result ≡ asked.Call (Dom call) }
+pub fn doing_of(call: StoreCall) -> Doing<StoreOp>
+    requires { IsValidWhat (Call call) }
+    ensures doing { result ≡ asked.Call call }
     ensures valid { IsValidDoing IsValidStoreCall result }
 {
-    let call = StoreOp::new(StoreCall::Dom(call));
+    let call = StoreOp::new(call);
     // It tells that the call is valid.
     let _call = call.call();
     Doing::Call(call)

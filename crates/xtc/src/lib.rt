@@ -10,6 +10,8 @@ mod halt;
 mod laws;
 mod line;
 mod promises;
+mod question;
+mod showing;
 mod status;
 mod store;
 mod top_call;

@@ -1,6 +1,6 @@
 // The statuses that the program ends with, with their numbers and texts.
 ghost use Rattle.std.specs.Prelude.{◌≡◌};
-ghost use Rattle.xtc.specs.Statuses.{file_text, status_number, status_of, status_of_end, status_of_gathering, status_of_fragment, status_of_halt, status_of_words};
+ghost use Rattle.xtc.specs.Statuses.{file_text, status_number, status_of, status_of_end, status_of_gathering, status_of_fragment, status_of_halt, status_of_path, status_of_words};
 
 use crate::halt::Halt as StoreHalt;
 use command_words::WordsError;
@@ -11,6 +11,7 @@ use script_runs::{End, GatherError, Halt};
 use std::fmt;
 use std::fmt::{Display, Formatter, Write};
 use tree_model::Refusal;
+use xpath_parser::PathError;
 
 /// How a run of the program ended.
 #[derive(Debug, Drop)]
@@ -38,8 +39,10 @@ pub enum Status {
 }
 
 /// Why the store refuses a document.
-#[derive(Clone, Copy, Debug, PartialEq, Eq)]
+#[derive(Debug, Drop)]
 pub enum Reason {
+    /// The path that is asked for is none.
+    Path(PathError),
     /// The tree refuses the call.
     Call(Refusal),
     /// No number is left for a transaction, or no room for the commit's body.
@@ -128,6 +131,18 @@ impl From<FragmentError> for Status {
         match error {
             FragmentError::NoMemory => Status::NoMemory,
             error => Status::NotJsonMl(error),
+        }
+    }
+}
+
+/// A path that is none.
+impl From<PathError> for Status {
+    ghost from_gives = { λ error status. status ≡ status_of_path error };
+
+    fn from(error: PathError) -> Status {
+        match error {
+            PathError::NoMemory => Status::NoMemory,
+            error => Status::DocumentRefused(Reason::Path(error)),
         }
     }
 }

@@ -12,7 +12,8 @@ ghost use Rattle.command_words.specs.Commands.{command_of, meant, run};
 ghost use Rattle.xtc.specs.TopCall.{Leaves, IsSilent, TookInput, tx_limit};
 ghost use Rattle.xtc.specs.inside.CommandRuns.{RunsCommand};
 
-use crate::document::{run_get, run_put};
+use crate::document::run_put;
+use crate::showing::{run_get, run_query};
 use crate::status::Status;
 use crate::store::Store;
 use command_words::{Command, read_words};
@@ -33,7 +34,7 @@ pub struct Finish<J, P> {
 }
 
 /// Does what the words after the program's name say, over the store on two disks: `run` takes a script from the source and gives its replies to the sink,
-/// `put NAME` makes a document of the whole input and gives its label, and `get NAME` gives a document. A commit is answered once it is durable.
+/// `put NAME` makes a document of the whole input and gives its label, `get NAME` gives a document, and `query NAME PATH` what a path finds from one. A commit is answered once it is durable.
 /// What is pending of a script is written before each read, so whoever writes a line and waits has its reply.
 pub fn xtc<S: Source, K: Sink, J: Disk + Send, P: Disk + Send>(
     alloc: Global,
@@ -126,6 +127,7 @@ fn run_command<S: Source, K: Sink, J: Disk, P: Disk>(
         Command::Run => run_store(alloc, source, sink, store),
         Command::Put(name) => run_put(alloc, name, source, sink, store),
         Command::Get(name) => run_get(alloc, name, sink, store),
+        Command::Query(name, path) => run_query(alloc, name, path, sink, store),
     }
 }
 

@@ -5,7 +5,7 @@ use Rattle.xtc.specs.Documents.{find_asks}
 use Rattle.xtc.specs.declared.status.Status.TheVariants.{NoMemory}
 use Rattle.xtc.specs.inside.Asking.{AllAnswered}
 use Rattle.xtc.proofs.AskingLaws.{not_begun, stopped_behind, stopped_err}
-use Rattle.xtc.proofs.document.find.Goals as goal
+use Rattle.xtc.proofs.showing.find.Goals as goal
 
 pub returns-in_err-doings-clause-asked : goal.returns-in_err-doings-clause-asked
 returns-in_err-doings-clause-asked g c = λ s stands.

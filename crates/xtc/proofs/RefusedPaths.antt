@@ -1,0 +1,39 @@
+-- A path that is refused: nothing was asked.
+use Rattle.std.proofs.Common.{List, ℕ, Bool, [], ◌≡◌, ◌≢◌, ap, absurd, arith}
+use Rattle.std.specs.Prelude.{Err}
+use Rattle.outside_traits.specs.Moments.{History}
+use Rattle.tree_model.specs.Names.{Name}
+use Rattle.call_contract.specs.States.{State}
+use Rattle.command_lines.specs.declared.command.StoreCall.{StoreCall}
+use Rattle.command_words.specs.Commands.{query}
+use Rattle.xpath_parser.specs.Parse.{parsed}
+use Rattle.xpath_parser.specs.declared.path_error.PathError.{PathError}
+use Rattle.xpath_parser.specs.declared.path_error.PathError.TheVariants as error
+use Rattle.xtc.specs.Documents.{end_of, query_asks_of}
+use Rattle.xtc.specs.Statuses.{status_of_path}
+use Rattle.xtc.specs.declared.status.Reason.TheVariants.{Path}
+use Rattle.xtc.specs.declared.status.Status.TheVariants.{DiskFault, DocumentRefused, NoMemory}
+use Rattle.xtc.specs.inside.Asking.{DocumentWent, IsStop}
+use Rattle.xtc.proofs.DocumentLaws.{nothing_asked}
+
+pub path_went : (is_known : Bool) (s : State StoreCall) (name : Name) (path : List ℕ) (e : PathError) (journal : History) → (e ≢ error.NoMemory → parsed path ≡ Err e)
+    → DocumentWent is_known s (query name path) [] journal journal (status_of_path e)
+path_went is_known s name path error.NoMemory journal refused = nothing_asked is_known s (query name path) [] journal NoMemory tt (omega arith)
+path_went is_known s name path (error.Syntax place) journal refused =
+    nothing_asked is_known s (query name path) [] journal (DocumentRefused (Path (error.Syntax place))) (ap (λ r. end_of s (query_asks_of s name r)) (refused (λ is. cc))) (omega arith)
+path_went is_known s name path (error.Unsupported place what) journal refused =
+    nothing_asked is_known s (query name path) [] journal (DocumentRefused (Path (error.Unsupported place what))) (ap (λ r. end_of s (query_asks_of s name r)) (refused (λ is. cc))) (omega arith)
+path_went is_known s name path (error.Deep place) journal refused =
+    nothing_asked is_known s (query name path) [] journal (DocumentRefused (Path (error.Deep place))) (ap (λ r. end_of s (query_asks_of s name r)) (refused (λ is. cc))) (omega arith)
+
+pub path_stops : (e : PathError) → IsStop (status_of_path e)
+path_stops error.NoMemory = tt
+path_stops (error.Syntax place) = tt
+path_stops (error.Unsupported place what) = tt
+path_stops (error.Deep place) = tt
+
+pub path_no_fault : (e : PathError) → status_of_path e ≡ DiskFault → ⊥
+path_no_fault error.NoMemory is = cc
+path_no_fault (error.Syntax place) is = cc
+path_no_fault (error.Unsupported place what) is = cc
+path_no_fault (error.Deep place) is = cc
