@@ -41,11 +41,11 @@ use Rattle.xtc_callers.proofs.NewStoreLaws.{all_read, alone, one_tree, stands_un
 abbrev an_element : Fragment → Result Fragment FragmentError
 an_element element = Ok element
 
-abbrev no_asks : FragmentError → Result (List (Asked StoreCall)) FragmentError
-no_asks why = Err why
+abbrev no_asks : FragmentError → Result (List (Asked StoreCall)) Status
+no_asks why = Err (NotJsonMl why)
 
 -- what isn't asked for isn't an element
-no_element_asked : (name : Name) (r : Result Fragment FragmentError) (why : FragmentError) → put_asks_of name r ≡ Err why → r ≡ Err why
+no_element_asked : (name : Name) (r : Result Fragment FragmentError) (why : FragmentError) → put_asks_of name r ≡ no_asks why → r ≡ Err why
 no_element_asked name (Ok element) why is = absurd cc
 no_element_asked name (Err e) why is = let same : e ≡ why = cc in ap Err same
 
@@ -64,7 +64,7 @@ same_error : {e f : FragmentError} → no_asks e ≡ no_asks f → e ≡ f
 same_error is = cc
 
 -- what was asked
-abbrev asked_in : Result (List (Asked StoreCall)) FragmentError → List (Asked StoreCall)
+abbrev asked_in : Result (List (Asked StoreCall)) Status → List (Asked StoreCall)
 asked_in (Ok asked) = asked
 asked_in (Err why) = []
 
@@ -111,12 +111,12 @@ module _ (empty : StandFor [] [] empty_tree 0) (name : Name) (o : Outcome) (inpu
       ap element_in (sym (read_all (ran.whole refl))) ∙ no_element_asked name (element_in o.read) why ran.end
 
   module _ (why : FragmentError) (none : element_in input ≡ Err why) (short : length input ≤ whole_limit) where
-    asks_none : IsWhole o.left o.read → asks_of (put name) new_store o.read ≡ Err why
+    asks_none : IsWhole o.left o.read → asks_of (put name) new_store o.read ≡ no_asks why
     asks_none whole = ap (λ (read : List ℕ). put_asks_of name (element_in read)) (read_all whole) ∙ ap (put_asks_of name) none
 
     -- then nothing was asked
     not_asked : (asked : List (Asked StoreCall)) → IsWhole o.left o.read → asks_of (put name) new_store o.read ≡ Ok asked → ⊥
-    not_asked asked whole is = let no : Err why ≡ Ok asked = sym (asks_none whole) ∙ is in cc
+    not_asked asked whole is = let no : no_asks why ≡ Ok asked = sym (asks_none whole) ∙ is in cc
 
     judged : (status : Status) → OpenedStoreLeaves tx_limit (Some (put name)) status o → UnlessFailed status (status ≡ NotJsonMl why)
     judged ReadFault leaves = tt
