@@ -49,12 +49,12 @@ finished_over session old mid now before said same finished t opened allowed =
     let book = (asked_from (state_from store_meaning t old) session Commit).book in
     record {
       core = same ∙ ap (λ (v : CoreView StoreCall Entries). over v now.base) done.core ∙ (λ i. record old {
-            book = old.book ++ book;
-            base = now.base;
-            committed = sym (ap (λ (v : CoreView StoreCall Entries). v.committed) same) i;
-            prepared = sym (ap (λ (v : CoreView StoreCall Entries). v.prepared) same) i;
-            undrained = sym (ap (λ (v : CoreView StoreCall Entries). v.undrained) same) i;
-          });
+        book = old.book ++ book;
+        base = now.base;
+        committed = sym (ap (λ (v : CoreView StoreCall Entries). v.committed) same) i;
+        prepared = sym (ap (λ (v : CoreView StoreCall Entries). v.prepared) same) i;
+        undrained = sym (ap (λ (v : CoreView StoreCall Entries). v.undrained) same) i;
+      });
       lines = done.lines;
     }
 

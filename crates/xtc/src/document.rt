@@ -215,7 +215,11 @@ fn put_doings(alloc: Global, name: &str, element: Fragment) -> Result<Vec<Doing<
     ensures valid { IfOk result (λ doings. AreValidAsks (all_asks doings.items)) }
 {
     let create = DomCall::Create(Text::of(alloc, name)?, Some(element));
-    Ok(vec![in alloc; Doing::Begin, doing_of(StoreCall::Dom(create)), Doing::Commit]?)
+    Ok(vec![in alloc;
+        Doing::Begin,
+        doing_of(StoreCall::Dom(create)),
+        Doing::Commit,
+    ]?)
 }
 
 /// Asking a session for a call.
