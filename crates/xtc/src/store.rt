@@ -37,12 +37,13 @@ pub struct Store<J: Disk, P> {
 
 impl<J: Disk, P> Model for Store<J, P> {
     ghost use Rattle.std.specs.Coded.{codes};
+    ghost use Rattle.path_model.specs.contracts.path.XPath as path;
     ghost use Rattle.tree_model.specs.contracts.fragment.Fragment as fragment;
     ghost use Rattle.xtc.specs.StoreMachine.{KeptStore};
 
     ghost Value = { KeptStore P };
 
-    ghost coded = { Prim.hlevel (codes, fragment.the_row.coded) };
+    ghost coded = { Prim.hlevel (codes, fragment.the_row.coded, path.the_row.coded) };
 
     ghost view = { λ s. record { core = s.core; journal = s.journal; pages = s.pages } };
 }
