@@ -1,6 +1,6 @@
 -- A store that was opened may be asked, and its files hold what is committed.
 use Rattle.std.proofs.Common.{◌≡◌, ℕ, ◌+◌, List, [], Bool, false, ◌&&◌, IsTrue, refl, ap, subst, sym, ◌∙◌, add-zero}
-use Rattle.std.specs.Prelude.{None, Some, Ok}
+use Rattle.std.specs.Prelude.{Some, Ok}
 use Rattle.std.proofs.lemmas.Option.{same_Some}
 use Rattle.outside_traits.specs.CrashImages.{IsImage}
 use Rattle.outside_traits.specs.Disks.{DiskState, all_synced}

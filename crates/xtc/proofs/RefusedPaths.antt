@@ -1,5 +1,5 @@
 -- A path that is refused: nothing was asked.
-use Rattle.std.proofs.Common.{List, ℕ, Bool, [], ◌≡◌, ◌≢◌, ap, absurd, arith}
+use Rattle.std.proofs.Common.{List, ℕ, Bool, [], ◌≡◌, ◌≢◌, ap, arith}
 use Rattle.std.specs.Prelude.{Err}
 use Rattle.outside_traits.specs.Moments.{History}
 use Rattle.tree_model.specs.Names.{Name}

@@ -1,6 +1,6 @@
 -- What a command that shows something of a document leaves, by what its parts leave.
-use Rattle.std.proofs.Common.{List, ◌≡◌, ◌+◌, ℕ, Bool, [], refl, sym, ap, subst, absurd, ◌∙◌, add-zero, arith}
-use Rattle.std.specs.Prelude.{Some, Result, Ok, Err, IfOk, IfErr, IsTrue, true, false}
+use Rattle.std.proofs.Common.{List, ◌≡◌, ℕ, Bool, [], refl, sym, subst, add-zero, arith}
+use Rattle.std.specs.Prelude.{Some, Result, Err, IfOk, IfErr, IsTrue, false}
 use Rattle.outside_traits.specs.CrashImages.{IsImage}
 use Rattle.outside_traits.specs.DiskPairs.{Pair, pair_of}
 use Rattle.outside_traits.specs.Moments.{History}
@@ -12,12 +12,11 @@ use Rattle.call_contract.specs.States.{start}
 use Rattle.script_runs.specs.Counts as counts
 use Rattle.script_runs.specs.Counts.{CountedWhere}
 use Rattle.command_words.specs.Commands.{Command}
-use Rattle.xtc.specs.Commands.{reads_input}
-use Rattle.xtc.specs.TopCall.{Outcome, WroteWhole, tx_limit}
+use Rattle.xtc.specs.TopCall.{WroteWhole, tx_limit}
 use Rattle.xtc.specs.declared.status.Status.{Status}
-use Rattle.xtc.specs.declared.status.Status.TheVariants.{ReadFault, WriteFault, DiskFault}
+use Rattle.xtc.specs.declared.status.Status.TheVariants.{WriteFault, DiskFault}
 use Rattle.xtc.specs.inside.Asking.{DocumentDone, IsStop, IsUnwritten, IsWriteEnd}
-use Rattle.xtc.specs.inside.CommandRuns.{Input, Output, Disks, RunsCommand}
+use Rattle.xtc.specs.inside.CommandRuns.{Input, Output, RunsCommand}
 use Rattle.xtc.specs.inside.Showing.{IsOfShown}
 use Rattle.xtc.specs.inside.Stores.{Counts}
 use Rattle.xtc.proofs.CommandRunLaws.{document_runs, ends_by, read_never}
@@ -49,9 +48,9 @@ shown_runs known pages_known base number c shown text bytes status input output 
           let wrote = document_written known s c [] (Unit {0}) journal mid bytes output.held output_now.held text status all unwritten written none in
           shown.ran t number tx_limit status (pair_of journal pages) _
           (document_finished t number tx_limit is.valid known c _ (Unit {0}) journal pages mid status kj (opening_holds t number tx_limit is.valid journal base is synced opens) empty
-          wrote journal_is pages_is (of_journal kj) (of_pages kp) (λ no. refl) (λ reads w. absurd (subst IsTrue shown.unread reads))),
+          wrote journal_is pages_is (of_journal kj) (of_pages kp) (λ no. refl) (λ reads w. let no : IsTrue false = subst IsTrue shown.unread reads in absurd cc)),
     )
-    (λ reads. absurd (subst IsTrue shown.unread reads))
+    (λ reads. let no : IsTrue false = subst IsTrue shown.unread reads in absurd cc)
     (omega arith)
     (read_never _ _ _ (λ it. subst (λ r. IfErr r IsStop) it stops))
     write

@@ -162,12 +162,11 @@ fn tree_line(alloc: Global, replies: &[LineReply]) -> Result<Vec<u8>, NoMemory>
 {
     for reply in replies {
         if let LineReply::Said {
-            answer: LineAnswer::Reply(reply),
+            answer: LineAnswer::Reply(shown @ Reply::Tree(Some(_))),
             ..
         } = reply
-            && matches!(reply, Reply::Tree(Some(_)))
         {
-            return line_of(alloc, reply);
+            return line_of(alloc, shown);
         }
     }
     line_of(alloc, &Reply::Nothing)
@@ -179,12 +178,11 @@ fn hits_line(alloc: Global, replies: &[LineReply]) -> Result<Vec<u8>, NoMemory>
 {
     for reply in replies {
         if let LineReply::Said {
-            answer: LineAnswer::Reply(reply),
+            answer: LineAnswer::Reply(shown @ Reply::Found(_)),
             ..
         } = reply
-            && matches!(reply, Reply::Found(_))
         {
-            return line_of(alloc, reply);
+            return line_of(alloc, shown);
         }
     }
     line_of(alloc, &Reply::Nothing)

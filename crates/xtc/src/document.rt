@@ -15,11 +15,10 @@ ghost use Rattle.command_lines.specs.ValidCommands.{IsValidWhat};
 ghost use Rattle.command_lines.specs.declared.command.What.TheVariants.{Call};
 ghost use Rattle.session_driver.specs.Lines.{IsValidDoing};
 ghost use Rattle.session_driver.specs.declared.doing.Doing.TheVariants as asked;
-ghost use Rattle.command_lines.specs.declared.command.StoreCall.TheVariants.{Dom};
 ghost use Rattle.store_calls.specs.StoreCalls.{IsValidStoreCall};
 ghost use Rattle.jsonml_io.specs.declared.fragment_error.FragmentError.TheVariants as fragment_error;
-ghost use Rattle.command_words.specs.Commands.{put as put_command, get as get_command};
-ghost use Rattle.xtc.specs.Documents.{element_in, find_asks, dump_asks, put_asks, label_in, reason_in, tree_in, tree_line};
+ghost use Rattle.command_words.specs.Commands.{put as put_command};
+ghost use Rattle.xtc.specs.Documents.{element_in, put_asks};
 ghost use Rattle.xtc.specs.StoreMachine.{Stands};
 ghost use Rattle.tx_core.specs.Cores.{opened_over};
 ghost use Rattle.xtc.specs.TopCall.{IsWhole, WroteWhole, tx_limit, whole_limit};
@@ -27,11 +26,11 @@ ghost use Rattle.xtc.specs.inside.Asking.{all_asks, AreValidAsks, AskedInTurn, D
 ghost use Rattle.xtc.specs.inside.CommandRuns.{Input, RunsCommand};
 ghost use Rattle.xtc.specs.inside.Stores.{MayBeAsked, Counts};
 
-use crate::asking::{ask_in_turn, label_in, label_line, tree_line};
+use crate::asking::{ask_in_turn, label_line};
 use crate::status::Status;
 use crate::top_call::{Finish, TX_LIMIT, with_disks};
-use command_lines::{LineReply, StoreCall};
-use dewey_labels::{Label, NoMemory, Text};
+use command_lines::StoreCall;
+use dewey_labels::{NoMemory, Text};
 use journal::Journal;
 use jsonml_io::{FragmentError, read_fragment};
 use node_seq::SortedSeq;

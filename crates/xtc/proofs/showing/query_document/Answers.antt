@@ -1,4 +1,4 @@
-use Rattle.std.proofs.Common.{[], refl, ◌∙◌}
+use Rattle.std.proofs.Common.{[]}
 use Rattle.call_contract.specs.States.{start}
 use Rattle.command_words.specs.Commands.{query}
 use Rattle.xtc.specs.Statuses.{status_of_path}

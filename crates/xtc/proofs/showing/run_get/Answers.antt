@@ -1,4 +1,4 @@
-use Rattle.std.proofs.Common.{◌≡◌, ℕ, [], refl, sym, subst}
+use Rattle.std.proofs.Common.{◌≡◌, ℕ, refl, sym, subst}
 use Rattle.std.specs.Prelude.{Err}
 use Rattle.outside_traits.specs.DiskPairs.{pair_of}
 use Rattle.xtc.specs.declared.status.Status.TheVariants.{DiskFault}

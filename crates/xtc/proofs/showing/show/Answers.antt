@@ -3,7 +3,7 @@ use Rattle.std.specs.Prelude.{Option}
 use Rattle.std.proofs.lemmas.Result.{IfOk-weaker}
 use Rattle.dewey_labels.specs.Labels.{Label}
 use Rattle.command_lines.specs.declared.line_reply.LineReply.{LineReply}
-use Rattle.xtc.specs.Documents.{answer_line, find_asks, label_in, question_asks, show_asks}
+use Rattle.xtc.specs.Documents.{find_asks, label_in, question_asks, show_asks}
 use Rattle.xtc.specs.inside.Asking.{AllAnswered, AskedInTurn, after, said}
 use Rattle.xtc.proofs.AskingLaws.{asked_behind, stopped_wider}
 use Rattle.xtc.proofs.DocumentLaws.{document_done, document_stopped, done_err}
