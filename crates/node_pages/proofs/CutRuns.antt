@@ -1,5 +1,5 @@
 -- The entries of a map follow one another as the rules of entries want it, and hold the map.
-use Rattle.std.proofs.Common.{◌≡◌, ◌≤◌, ◌<◌, ◌==◌, ℕ, zero, suc, ◌+◌, ◌*◌, Bool, true, false, ◌&&◌, cond, ltb, nat_le, List, [], ◌∷◌, ◌++◌, length, take, drop, Option, Some, None, refl, sym, ap, subst, ◌∙◌, arith, append_assoc, length-append, length-take, length-drop}
+use Rattle.std.proofs.Common.{◌≡◌, ◌≤◌, ◌<◌, ◌==◌, ℕ, zero, suc, ◌+◌, ◌*◌, Bool, true, false, cond, ltb, nat_le, List, [], ◌∷◌, ◌++◌, length, take, drop, Option, Some, None, refl, sym, ap, subst, ◌∙◌, arith, append_assoc, length-append, length-take, length-drop}
 use Rattle.std.proofs.lemmas.Bool.{eq-eqb, leb-true, leb-false, lt-ltb, and_from}
 use Rattle.std.proofs.lemmas.List.{take-append-drop}
 use Rattle.std.specs.List.{AllByRecursion}
@@ -19,39 +19,9 @@ use Rattle.node_records.proofs.RecordLaws.{record_again}
 use Rattle.node_pages.specs.Chunks.{chunks_from, chunks_of, all_chunks, one_more, records_behind, records_in}
 use Rattle.node_pages.specs.CutReads.{IsCuttable}
 use Rattle.node_pages.specs.Filling.{room}
-use Rattle.node_pages.specs.Scanning.{Scanned, rises, stays, goes_on, with_chunk, after_chunk, after_entry, after_entries, and_then, broken}
+use Rattle.node_pages.specs.Following.{hand_of, bytes_of, chunks_in, goes, hand_after, IsWhole, Runs}
+use Rattle.node_pages.specs.Scanning.{Scanned, rises, goes_on, with_chunk, after_chunk, after_entry, after_entries, and_then, broken}
 use Rattle.node_pages.specs.declared.scan.Part.{Part}
-
--- ---- entries that follow one another, whatever their pages: what is in hand of a record are its bytes and how many chunks they are
-
-abbrev pub hand_of : Option Part → Option (List ℕ × ℕ)
-hand_of None = None
-hand_of (Some p) = Some (p.bytes, p.chunks)
-
-abbrev pub bytes_of : Option (List ℕ × ℕ) → List ℕ
-bytes_of None = []
-bytes_of (Some h) = h.0
-
-abbrev pub chunks_in : Option (List ℕ × ℕ) → ℕ
-chunks_in None = 0
-chunks_in (Some h) = h.1
-
-abbrev pub goes : Option Key → Option (List ℕ × ℕ) → Key → ℕ → Bool
-goes last None k c = rises last k && (c == 0)
-goes last (Some h) k c = stays last k && (c == h.1)
-
-abbrev pub hand_after : Option (List ℕ × ℕ) → Bool → List ℕ → Option (List ℕ × ℕ)
-hand_after h true bytes = None
-hand_after h false bytes = Some (bytes_of h ++ bytes, chunks_in h + 1)
-
-abbrev pub IsWhole : Option (List ℕ × ℕ) → Bool → List ℕ → Type 0
-IsWhole h true bytes = is_some (record_of (bytes_of h ++ bytes)) ≡ true
-IsWhole h false bytes = Unit {0}
-
--- these entries follow one another, and no record is in hand behind them
-abbrev pub Runs : Option Key → Option (List ℕ × ℕ) → List Entry → Type 0
-Runs last h [] = h ≡ None
-Runs last h (e ∷ es) = (goes last h e.key e.chunk ≡ true) × IsWhole h e.last e.bytes × Runs (Some e.key) (hand_after h e.last e.bytes) es
 
 -- ---- the scan goes over entries that follow one another
 
@@ -62,15 +32,15 @@ pub record Ran (s t : Scanned) (more : List Entry) : Type 0 where
   pub roomy : t.roomy ≡ s.roomy
   pub runs : Runs t.last (hand_of t.part) more
 
-goes_hand : (last : Option Key) (part : Option Part) (e : Entry) → goes_on last part e ≡ goes last (hand_of part) e.key e.chunk
+pub goes_hand : (last : Option Key) (part : Option Part) (e : Entry) → goes_on last part e ≡ goes last (hand_of part) e.key e.chunk
 goes_hand last None e = refl
 goes_hand last (Some p) e = refl
 
-chunk_bytes_hand : (n : ℕ) (part : Option Part) (bytes : List ℕ) → (with_chunk n part bytes).bytes ≡ bytes_of (hand_of part) ++ bytes
+pub chunk_bytes_hand : (n : ℕ) (part : Option Part) (bytes : List ℕ) → (with_chunk n part bytes).bytes ≡ bytes_of (hand_of part) ++ bytes
 chunk_bytes_hand n None bytes = refl
 chunk_bytes_hand n (Some p) bytes = refl
 
-chunk_hand : (n : ℕ) (part : Option Part) (bytes : List ℕ) → hand_of (Some (with_chunk n part bytes)) ≡ Some (bytes_of (hand_of part) ++ bytes, chunks_in (hand_of part) + 1)
+pub chunk_hand : (n : ℕ) (part : Option Part) (bytes : List ℕ) → hand_of (Some (with_chunk n part bytes)) ≡ Some (bytes_of (hand_of part) ++ bytes, chunks_in (hand_of part) + 1)
 chunk_hand n None bytes = refl
 chunk_hand n (Some p) bytes = refl
 

@@ -28,7 +28,8 @@ use Rattle.node_pages.specs.declared.cut.Cut.{Cut}
 use Rattle.node_pages.specs.declared.cut.Cut.TheVariants.{Pages, TooMany}
 use Rattle.node_pages.specs.declared.page_start.PageStart.{PageStart}
 use Rattle.node_pages.specs.declared.scan.Part.{Part}
-use Rattle.node_pages.proofs.CutRuns.{IsPlaced, Runs, hand_of, entries_run, map_held, map_placed, map_runs_first}
+use Rattle.node_pages.proofs.CutRuns.{IsPlaced, entries_run, map_held, map_placed, map_runs_first}
+use Rattle.node_pages.specs.Following.{Runs, hand_of}
 use Rattle.node_pages.proofs.ReadLaws.{ReadBack, page_read}
 use Rattle.node_pages.proofs.RuleLaws.{filled_keep, joined_filled}
 

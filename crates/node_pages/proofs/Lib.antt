@@ -8,6 +8,8 @@ pub mod CutRuns
 pub mod CutScan
 pub mod CuttableLaws
 pub mod FillLaws
+pub mod FileLaws
+pub mod RunLaws
 pub mod RuleLaws
 pub mod ReadLaws
 pub mod ItemLaws

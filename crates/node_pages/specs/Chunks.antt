@@ -1,5 +1,5 @@
 -- Records as the entries of their chunks, and entries as the records that they hold (docs/FILE_FORMAT.md, "Entries").
-use Rattle.std.specs.Prelude.{ℕ, zero, suc, ◌+◌, nat_le, true, false, if◌then◌else◌, List, [], ◌∷◌, ◌++◌, length, take, drop, Option, Some, None}
+use Rattle.std.specs.Prelude.{ℕ, zero, suc, ◌+◌, nat_le, Bool, true, false, if◌then◌else◌, List, [], ◌∷◌, ◌++◌, length, take, drop, Option, Some, None}
 use Rattle.std.specs.List.{flat_map}
 use Rattle.tree_model.specs.declared.key.Key.{Key}
 use Rattle.tree_model.specs.declared.record.Record.{Record}
@@ -32,6 +32,12 @@ one_more k (Some r) es = (k, r) ∷ es
 abbrev pub records_behind : List ℕ → List Entry → Entries
 records_behind bytes [] = []
 records_behind bytes (e ∷ es) = if e.last then one_more e.key (record_of (bytes ++ e.bytes)) (records_behind [] es) else records_behind (bytes ++ e.bytes) es
+
+-- the bytes of a record of which these were read, and the last entry was its last chunk or wasn't; None where the last one is missing
+abbrev pub whole_record : Bool → List ℕ → List Entry → Option (List ℕ)
+whole_record true bytes es = Some bytes
+whole_record false bytes [] = None
+whole_record false bytes (e ∷ es) = whole_record e.last (bytes ++ e.bytes) es
 
 -- the records that entries hold
 abbrev pub records_in : List Entry → Entries

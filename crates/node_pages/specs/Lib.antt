@@ -9,6 +9,8 @@ pub mod Cutting
 pub mod CutReads
 pub mod Scanning
 pub mod DirectoryPages
+pub mod Following
 pub mod PagesIn
+pub mod PageFiles
 pub mod ScanFaults
 pub mod Lengths

@@ -13,6 +13,7 @@ mod entry_form;
 mod filler;
 mod header;
 mod page_form;
+mod page_pass;
 mod page_start;
 mod page_zero;
 mod reader;
@@ -28,9 +29,13 @@ pub use entry_form::WholeEntries;
 pub use filler::Filler;
 pub use header::{Header, read_header};
 pub use page_form::{PAGE_BYTES, PageRead, PageWrite};
+pub use page_pass::PagePass;
 pub use page_start::{PageStart, Starts};
 pub use page_zero::MAGIC;
 pub use reader::read_items;
-pub use reading_laws::{pages_behind_the_count_are_not_read, pages_of_a_cut_are_read_again};
+pub use reading_laws::{
+    pages_behind_the_count_are_not_read, pages_of_a_cut_are_read_again,
+    pages_that_keep_the_rules_are_maps_in_order, where_data_pages_begin_is_told_by_the_file,
+};
 pub use scan::Scan;
 pub use scan_fault::ScanFault;

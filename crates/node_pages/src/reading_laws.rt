@@ -1,5 +1,5 @@
 //! What holds of pages that are read: laws over the definitions alone, each the contract of a function with nothing to do.
-ghost use Rattle.std.specs.Prelude.{◌≡◌, ◌<◌, ◌^◌, ℕ, List, IsTrue, Ok};
+ghost use Rattle.std.specs.Prelude.{◌≡◌, ◌<◌, ◌^◌, ℕ, List, IsTrue, Ok, Err, length};
 ghost use Rattle.std.specs.List.{AllByRecursion};
 ghost use Rattle.tree_model.specs.Entries.{Entries, Sorted};
 ghost use Rattle.tree_model.specs.Keys.{IsValidKey};
@@ -7,7 +7,9 @@ ghost use Rattle.tree_model.specs.Records.{record_fits};
 ghost use Rattle.node_pages.specs.CutReads.{IsCuttable, page_among};
 ghost use Rattle.node_pages.specs.Cuts.{cut_of, data_of};
 ghost use Rattle.node_pages.specs.PageZero.{count_of, header_of};
-ghost use Rattle.node_pages.specs.PagesIn.{pages_in};
+ghost use Rattle.node_pages.specs.Chunks.{records_in};
+ghost use Rattle.node_pages.specs.PageFiles.{Index, IsIndex, contents_of_file, file_page, index_of_file};
+ghost use Rattle.node_pages.specs.PagesIn.{entries_from, pages_in};
 ghost use Rattle.node_pages.specs.declared.cut.Cut.TheVariants.{Pages};
 
 use tree_model::{Key, Record};
@@ -23,4 +25,17 @@ pub fn pages_of_a_cut_are_read_again()
         → pages_in (page_among pages) ≡ Ok (es, number) }
     // Such are all records that a valid tree may have.
     ensures valid { (k : Key) (r : Record) → IsValidKey k → IsTrue (record_fits r) → IsCuttable (k, r) }
+{}
+
+/// Pages that break no rule hold a map in the order of its keys.
+pub fn pages_that_keep_the_rules_are_maps_in_order()
+    ensures { (page : ℕ → List ℕ) (es : Entries) (base : ℕ) → pages_in page ≡ Ok (es, base) → Sorted es }
+{}
+
+/// A file whose data pages begin so stands for the records of their entries, and one that breaks a rule breaks it at the same page.
+pub fn where_data_pages_begin_is_told_by_the_file()
+    ensures map { (file : List ℕ) (i : Index) → index_of_file file ≡ Ok i
+        → contents_of_file file ≡ Ok (records_in (entries_from (file_page file) 1 (length i.starts)), i.base) }
+    ensures pages { (file : List ℕ) (i : Index) → index_of_file file ≡ Ok i → IsIndex (file_page file) i.starts }
+    ensures broken { (file : List ℕ) (n : ℕ) → index_of_file file ≡ Err n → contents_of_file file ≡ Err n }
 {}
