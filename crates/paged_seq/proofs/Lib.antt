@@ -1,0 +1,5 @@
+pub mod CountLaws
+pub mod MapLaws
+pub mod OpenLaws
+pub mod PlaceLaws
+pub mod ValidLaws

@@ -1,0 +1,115 @@
+-- Places among the entries of data pages, and what a search finds there.
+use Rattle.std.specs.Prelude.{◌≡◌, ◌≤◌, ◌<◌, ℕ, ◌+◌, ◌*◌, ◌-◌, Bool, true, false, not, List, [], ◌∷◌, ◌++◌, length, drop, Option, Some, None, IfSome, is_some, option_and_then}
+use Rattle.std.specs.declared.cmp.Ordering.{Ordering}
+use Rattle.std.specs.declared.cmp.Ordering.TheVariants.{Less, Equal, Greater}
+use Rattle.tree_model.specs.Keys.{key_cmp}
+use Rattle.tree_model.specs.declared.key.Key.{Key}
+use Rattle.tree_model.specs.declared.record.Record.{Record}
+use Rattle.node_records.specs.Records.{record_of}
+use Rattle.node_records.specs.declared.entries.Entry.{Entry}
+use Rattle.node_pages.specs.Chunks.{whole_record}
+use Rattle.node_pages.specs.EntryForm.{entry_read}
+use Rattle.node_pages.specs.Filling.{last_behind}
+use Rattle.node_pages.specs.Following.{NonePass, HeadPasses}
+use Rattle.node_pages.specs.PagesIn.{entries_from}
+use Rattle.node_pages.specs.Reading.{items_in}
+use Rattle.node_pages.specs.declared.page_start.PageStart.{PageStart}
+use Rattle.paged_seq.specs.declared.place.Place.{Place}
+
+-- a place with these parts
+abbrev pub place_at : ℕ → ℕ → ℕ → Option Entry → Place
+place_at page at left before = record { page = page; at = at; left = left; before = before }
+
+-- an entry that compares so with the key that is looked for stands there or beyond it; only beyond it, where `beyond` says so
+abbrev pub comes : Bool → Ordering → Bool
+comes beyond Less = false
+comes beyond Equal = not beyond
+comes beyond Greater = true
+
+abbrev pub passes : Key → Bool → Key → Bool
+passes k beyond j = comes beyond (key_cmp j k)
+
+-- ---- where pages begin
+
+-- the first page from here on, if there is one, begins with a key that passes
+abbrev pub NextPasses : (Key → Bool) → List PageStart → Type 0
+NextPasses p [] = Unit {0}
+NextPasses p (s ∷ ss) = p s.key ≡ true
+
+-- the last page so far, if there is one, begins with a key that doesn't
+abbrev pub LastFails : (Key → Bool) → List PageStart → Type 0
+LastFails p ss = IfSome (last_behind None ss) (λ s. p s.key ≡ false)
+
+-- ---- on one page
+
+-- a search of a page with these entries has passed some, and stands at the others
+pub record HasPassed (test : Key → Bool) (page : List ℕ) (es : List Entry) (p : Place) : Type 0 where
+  pub passed : List Entry
+  pub ahead : List Entry
+  pub rest : List ℕ
+  pub parts : es ≡ passed ++ ahead
+  pub none : NonePass test passed
+  pub last : last_behind None passed ≡ p.before
+  pub items : items_in entry_read p.left p.before (drop p.at page) ≡ Some (ahead, rest)
+
+-- it has found the first that passes
+pub record HasFound (test : Key → Bool) (page : List ℕ) (es : List Entry) (p : Place) : Type 0 where
+  pub reached : HasPassed test page es p
+  pub first : HeadPasses test reached.ahead
+
+-- a chunk that isn't its record's last has 1,024 bytes
+abbrev pub IsFull : Option Entry → Type 0
+IsFull None = Unit {0}
+IsFull (Some e) = e.last ≡ false → length e.bytes ≡ 1_024
+
+-- the place went behind one entry of its page, where there is one
+abbrev pub Advances : List ℕ → Place → Place → Bool → Type 0
+Advances page old new read = (x : Entry) (here : List Entry) (rest : List ℕ) → items_in entry_read old.left old.before (drop old.at page) ≡ Some (x ∷ here, rest)
+    → (read ≡ true) × (new.before ≡ Some x) × (items_in entry_read new.left new.before (drop new.at page) ≡ Some (here, rest))
+
+-- ---- among all pages
+
+-- the items that were read, none where they couldn't be
+abbrev pub read_or_none : Option (List Entry × List ℕ) → List Entry
+read_or_none None = []
+read_or_none (Some r) = r.0
+
+-- the entries behind a place, where there are so many data pages
+abbrev pub rest_at : (ℕ → List ℕ) → ℕ → Place → List Entry
+rest_at page count p = read_or_none (items_in entry_read p.left p.before (drop p.at (page p.page))) ++ entries_from page (p.page + 1) (count - p.page)
+
+-- a place among the entries of so many data pages
+pub record IsPlace (page : ℕ → List ℕ) (count : ℕ) (p : Place) : Type 0 where
+  pub within : p.page ≤ count
+  pub first : 0 < p.left → 1 ≤ p.page
+  pub read : is_some (items_in entry_read p.left p.before (drop p.at (page p.page))) ≡ true
+
+-- an entry was arrived at, if one of these is left, and the same stand behind the place
+abbrev pub HasArrived : List Entry → Bool → List Entry → Type 0
+HasArrived [] arrived after = arrived ≡ false
+HasArrived (e ∷ es) arrived after = (arrived ≡ true) × (after ≡ e ∷ es)
+
+-- the first of these entries was read, if there is one, and the others stand behind the place
+abbrev pub HasRead : List Entry → Bool → Option Entry → List Entry → Type 0
+HasRead [] read last after = read ≡ false
+HasRead (e ∷ es) read last after = (read ≡ true) × (last ≡ Some e) × (after ≡ es)
+
+-- a place parts the entries where a test turns; before it stands the last one that doesn't pass
+pub record Parts (page : ℕ → List ℕ) (count : ℕ) (test : Key → Bool) (p : Place) : Type 0 where
+  pub place : IsPlace page count p
+  pub below : List Entry
+  pub parts : entries_from page 1 count ≡ below ++ rest_at page count p
+  pub none : NonePass test below
+  pub first : HeadPasses test (rest_at page count p)
+  pub last : last_behind None below ≡ p.before
+
+-- how many steps a place may still take, at most
+abbrev pub steps_left : ℕ → Place → ℕ
+steps_left count p = (count - p.page) * 65_536 + p.left
+
+-- ---- the record that was begun
+
+-- the record whose first chunk was read last, of which these entries follow
+abbrev pub begun_record : Option Entry → List Entry → Option Record
+begun_record None es = None
+begun_record (Some e) es = option_and_then record_of (whole_record e.last e.bytes es)

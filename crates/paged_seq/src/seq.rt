@@ -1,0 +1,224 @@
+//! The map over the pages of a file.
+ghost use Rattle.std.specs.Prelude.{◌≡◌, ◌≤◌, ◌<◌, ◌+◌, ◌*◌, ◌^◌, Ok, IsTrue, IfOk, IfErr, OnOk, MatchResult, length};
+ghost use Rattle.outside_traits.specs.Faults.{FaultCounted, HasCause};
+ghost use Rattle.page_store.specs.Pages.{ArePagesOf};
+ghost use Rattle.tree_model.specs.Entries.{Sorted, first_above, get, last_below};
+ghost use Rattle.node_pages.specs.PageFiles.{contents_of_file};
+ghost use Rattle.node_seq.specs.Reads.{IsEntryOfTrees, LiesAbove, LiesBelow};
+ghost use Rattle.node_seq.specs.declared.node_read.SeqError.TheVariants.{DiskFault};
+ghost use Rattle.paged_seq.specs.PagedFiles.{BreaksPages, HasReason};
+ghost use Rattle.paged_seq.specs.PagedMaps.{chunks_found, chunks_of_entry, file_entries, valid_entries};
+
+use crate::opening::{PagesFault, read_index};
+use crate::page_file::PageFile;
+use crate::valid::{pass_over, valid_at};
+use dewey_labels::List;
+use node_pages::PageStart;
+use node_seq::{NodeRead, SeqError};
+use outside_traits::Disk;
+use page_store::{PAGE_BYTES, Pool};
+use std::alloc::Global;
+use std::marker::Model;
+use tree_model::{Key, Record};
+
+/// The map over a file of pages that isn't written, seen as its disk, the pool of the pages that are kept, and where its data pages begin.
+/// As a `NodeRead` it has the entries that a valid tree may have; `record_at`, `entry_above` and `entry_below` read all.
+#[derive(Drop)]
+pub struct PagedSeq<P: Disk + Drop> {
+    file: PageFile<P>,
+    base: u32,
+    starts: List<PageStart>,
+}
+
+impl<P: Disk + Drop> Model for PagedSeq<P> {
+    ghost use Rattle.paged_seq.specs.PagedFiles.{IsIndexOf, PagedView, index_at};
+
+    ghost Value = { PagedView P };
+
+    ghost view = { λ s. record { disk = s.file.disk; pool = s.file.pool; index = index_at s.base s.starts } };
+
+    ghost invariant = { λ s. IsIndexOf P.is_known (P.history s.file.disk).now.reads (index_at s.base s.starts) };
+}
+
+impl<P: Disk + Drop> PagedSeq<P> {
+    /// The map of a file of pages. It reads each page once, and keeps those that the pool has room for and where each data page begins.
+    /// The pages that the pool has already are the disk's. The disk and the pool are handed back with a fault.
+    pub fn open(alloc: Global, disk: P, pool: Pool) -> Result<PagedSeq<P>, PagesFault<P>>
+        requires kept { IsTrue P.is_known → ArePagesOf (P.history disk).now.reads pool.kept }
+        ensures map { IfOk result (λ seq. IsTrue P.is_known → contents_of_file (P.history disk).now.reads ≡ Ok (file_entries (P.history disk).now.reads, seq.index.base)) }
+        // Damaged is a file of which `contents_of_file` is a page, the first that breaks a rule; the place is where it begins.
+        ensures reason { IfErr result (λ refused. HasReason (BreaksPages P.is_known (P.history disk).now.reads)
+            (FaultCounted (P.faults disk) (P.faults refused.disk)) refused.fault) }
+        ensures same { IsTrue P.is_known → MatchResult result (λ seq. P.history seq.disk ≡ P.history disk) (λ refused. P.history refused.disk ≡ P.history disk) }
+        ensures faults { MatchResult result (λ seq. P.faults seq.disk ≡ P.faults disk) (λ refused. P.faults disk ≤ P.faults refused.disk) }
+    {
+        let mut file = PageFile::new(disk, pool);
+        match read_index(alloc, &mut file) {
+            Ok((base, starts)) => Ok(PagedSeq { file, base, starts }),
+            Err(fault) => {
+                let (disk, pool) = file.into_parts();
+                Err(PagesFault { fault, disk, pool })
+            }
+        }
+    }
+
+    /// The disk, and the pool of its pages. It takes no memory.
+    pub fn into_parts(self) -> (P, Pool)
+        ensures disk { result.0 ≡ self.disk }
+        ensures pool { result.1 ≡ self.pool }
+        ensures kept { IsTrue P.is_known → ArePagesOf (P.history result.0).now.reads result.1.kept }
+    {
+        self.file.into_parts()
+    }
+
+    /// The number of the last commit that the pages hold.
+    pub fn number(&self) -> u32
+        ensures { result ≡ self.now.index.base }
+    {
+        self.base
+    }
+
+    /// How many pages were read for it; those that the pool has kept aren't read again.
+    pub fn page_reads(&self) -> u64
+        ensures { result ≡ self.now.pool.reads }
+    {
+        self.file.reads()
+    }
+
+    /// The record at a key, whether a valid tree may have it or not. At most two pages are read, and one a chunk of the record.
+    pub fn record_at(&mut self, alloc: Global, key: &Key) -> Result<Option<Record>, SeqError>
+        ensures value { IfOk result (λ found. IsTrue P.is_known → found ≡ get key.now (file_entries (P.history self.old.disk).now.reads)) }
+        ensures reads { IfOk result (λ found. IsTrue P.is_known → self.new.pool.reads ≤ self.old.pool.reads + 2 + chunks_found found) }
+        ensures same { IsTrue P.is_known → P.history self.new.disk ≡ P.history self.old.disk }
+        ensures index { self.new.index ≡ self.old.index }
+        ensures cause { HasCause DiskFault (P.faults self.old.disk) (P.faults self.new.disk) result }
+    {
+        let found = self.file.record_at(alloc, self.starts.as_slice(), key);
+        found
+    }
+
+    /// The entry with the least key above a key, of all. At most three pages are read, and one a chunk of the record.
+    pub fn entry_above(
+        &mut self,
+        alloc: Global,
+        key: &Key,
+    ) -> Result<Option<(Key, Record)>, SeqError>
+        ensures value { IfOk result (λ found. IsTrue P.is_known → found ≡ first_above key.now (file_entries (P.history self.old.disk).now.reads)) }
+        ensures above { IfOk result (LiesAbove key.now) }
+        ensures reads { IfOk result (λ found. IsTrue P.is_known → self.new.pool.reads ≤ self.old.pool.reads + 3 + chunks_of_entry found) }
+        ensures same { IsTrue P.is_known → P.history self.new.disk ≡ P.history self.old.disk }
+        ensures index { self.new.index ≡ self.old.index }
+        ensures cause { HasCause DiskFault (P.faults self.old.disk) (P.faults self.new.disk) result }
+    {
+        let found = self.file.entry_above(alloc, self.starts.as_slice(), key);
+        found
+    }
+
+    /// The entry with the greatest key below a key, of all. At most three pages are read, and one a chunk of the record.
+    pub fn entry_below(
+        &mut self,
+        alloc: Global,
+        key: &Key,
+    ) -> Result<Option<(Key, Record)>, SeqError>
+        ensures value { IfOk result (λ found. IsTrue P.is_known → found ≡ last_below key.now (file_entries (P.history self.old.disk).now.reads)) }
+        ensures below { IfOk result (LiesBelow key.now) }
+        ensures reads { IfOk result (λ found. IsTrue P.is_known → self.new.pool.reads ≤ self.old.pool.reads + 3 + chunks_of_entry found) }
+        ensures same { IsTrue P.is_known → P.history self.new.disk ≡ P.history self.old.disk }
+        ensures index { self.new.index ≡ self.old.index }
+        ensures cause { HasCause DiskFault (P.faults self.old.disk) (P.faults self.new.disk) result }
+    {
+        let found = self.file.entry_below(alloc, self.starts.as_slice(), key);
+        found
+    }
+}
+
+impl<P: Disk + Drop> PagedSeq<P> {
+    /// No more entries than so many stand on the pages, and they are in the order of their keys.
+    fn most_entries(&self) -> u64
+        ensures most { IsTrue P.is_known → length (file_entries (P.history self.now.disk).now.reads) ≤ result }
+        ensures sorted { IsTrue P.is_known → Sorted (file_entries (P.history self.now.disk).now.reads) }
+    {
+        PAGE_BYTES as u64 * self.starts.len() as u64
+    }
+
+    /// The entry with the least key above a key, of those that a valid tree may have. Each other one that is passed over costs as much again.
+    fn valid_above(&mut self, alloc: Global, key: &Key) -> Result<Option<(Key, Record)>, SeqError>
+        ensures value { IfOk result (λ found. IsTrue P.is_known → found ≡ first_above key.now (valid_entries (file_entries (P.history self.old.disk).now.reads))) }
+        ensures above { IfOk result (LiesAbove key.now) }
+        ensures valid { IfOk result IsEntryOfTrees }
+        ensures same { IsTrue P.is_known → P.history self.new.disk ≡ P.history self.old.disk }
+        ensures index { self.new.index ≡ self.old.index }
+        ensures cause { HasCause DiskFault (P.faults self.old.disk) (P.faults self.new.disk) result }
+    {
+        let most = self.most_entries();
+        let mut found = self.entry_above(alloc, key)?;
+        for _ in 0..most {
+            match pass_over(found) {
+                Ok(entry) => return Ok(entry),
+                Err(at) => found = self.entry_above(alloc, &at)?,
+            }
+        }
+        Ok(None)
+    }
+
+    /// The entry with the greatest key below a key, of those that a valid tree may have. Each other one that is passed over costs as much again.
+    fn valid_below(&mut self, alloc: Global, key: &Key) -> Result<Option<(Key, Record)>, SeqError>
+        ensures value { IfOk result (λ found. IsTrue P.is_known → found ≡ last_below key.now (valid_entries (file_entries (P.history self.old.disk).now.reads))) }
+        ensures below { IfOk result (LiesBelow key.now) }
+        ensures valid { IfOk result IsEntryOfTrees }
+        ensures same { IsTrue P.is_known → P.history self.new.disk ≡ P.history self.old.disk }
+        ensures index { self.new.index ≡ self.old.index }
+        ensures cause { HasCause DiskFault (P.faults self.old.disk) (P.faults self.new.disk) result }
+    {
+        let most = self.most_entries();
+        let mut found = self.entry_below(alloc, key)?;
+        for _ in 0..most {
+            match pass_over(found) {
+                Ok(entry) => return Ok(entry),
+                Err(at) => found = self.entry_below(alloc, &at)?,
+            }
+        }
+        Ok(None)
+    }
+}
+
+impl<P: Disk + Drop> NodeRead for PagedSeq<P> {
+    ghost use Rattle.std.specs.Prelude.{◌≡◌, ◌≤◌, IsTrue, refl};
+    ghost use Rattle.std.proofs.Common.{◌∙◌, le_refl, le_trans};
+    ghost use Rattle.paged_seq.specs.PagedFiles.{map_same};
+    ghost use Rattle.paged_seq.specs.PagedMaps.{map_of_file};
+
+    ghost contents = { λ s. map_of_file P.is_known (P.history s.disk).now.reads };
+
+    ghost count = { λ s. P.faults s.disk };
+
+    ghost unchanged = { λ s t. (IsTrue P.is_known → P.history t.disk ≡ P.history s.disk) × (P.faults s.disk ≤ P.faults t.disk) × (t.index ≡ s.index) };
+
+    fn get(&mut self, alloc: Global, key: &Key) -> Result<Option<Record>, SeqError> {
+        let _sorted = self.most_entries();
+        let found = self.record_at(alloc, key)?;
+        Ok(valid_at(key, found))
+    }
+
+    fn next_from(&mut self, alloc: Global, key: &Key) -> Result<Option<(Key, Record)>, SeqError> {
+        self.valid_above(alloc, key)
+    }
+
+    fn prev_from(&mut self, alloc: Global, key: &Key) -> Result<Option<(Key, Record)>, SeqError> {
+        self.valid_below(alloc, key)
+    }
+
+    fn faults(&self) -> u64 {
+        // It tells that the map is in order.
+        let _sorted = self.most_entries();
+        self.file.faults()
+    }
+
+    ghost unchanged_itself = { λ s. ((λ known. refl), le_refl (P.faults s.disk), refl) };
+
+    ghost unchanged_onward = { λ s t u a b. ((λ known. b.0 known ∙ a.0 known), le_trans a.1 b.1, b.2 ∙ a.2) };
+
+    ghost unchanged_contents = { λ s t a. map_same P.is_known (P.history s.disk) (P.history t.disk) a.0 };
+
+    ghost unchanged_count = { λ s t a. a.1 };
+}
