@@ -1,3 +1,4 @@
 pub mod Floats
 pub mod SaidTexts
+pub mod Sent
 pub mod Taken

@@ -6,6 +6,7 @@
 mod bad_line;
 mod calls;
 mod command;
+mod crossing;
 mod json_value;
 mod key;
 mod key_values;
@@ -20,6 +21,7 @@ mod writing;
 pub use bad_line::BadLine;
 pub use calls::{AtCall, AtDataCall, AtNameCall, AtRangeCall, CALLS, DomWord, OfNameCall, Word};
 pub use command::{Command, StoreCall, What};
+pub use crossing::crosses;
 pub use key::Key;
 pub use line_reply::{LineAnswer, LineReply, SessionRefusal};
 pub use reading::read_line;
