@@ -1,0 +1,4 @@
+pub mod Weaves
+pub mod Desks
+pub mod Done
+pub mod Sent

@@ -1,0 +1,15 @@
+use Rattle.std.proofs.Common.{ℕ, refl}
+use Rattle.shared_store.specs.Calls.{HasBegun}
+use Rattle.shared_store.proofs.Done.{done, grew_at, session_stays}
+use Rattle.shared_store.proofs.session.Session.begin.Goals as goal
+
+pub give-requires-clause-grew : goal.give-requires-clause-grew
+give-requires-clause-grew g c = grew_at c.self.inside.pass c.take-turn.new.pass c.self.inside.number _ _ c.take-turn.ensures.pass c.self.invariant.own c.begin-result.ensures.under
+
+pub invariant_of-self : goal.invariant_of-self
+invariant_of-self g c = session_stays c.self.inside.pass c.take-turn.new.pass c.give.new.pass c.self.inside.number _ _ c.self.invariant c.take-turn.ensures.pass c.give.ensures.pass refl
+
+pub returns : goal.returns
+returns g c =
+    done (λ (s : ℕ). λ before after. HasBegun before s c.begin-result.result after) c.args.self.now c.self.inside.pass c.take-turn.new.pass c.give.new.pass c.self.inside.number _ _ c.self.view_is c.take-turn.ensures.pass c.take-turn.ensures.goes_on c.give.ensures.pass
+    c.begin-result.ensures.told

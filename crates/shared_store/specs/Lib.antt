@@ -1,0 +1,5 @@
+pub mod Lists
+pub mod Calls
+pub mod Sessions
+-- words that only private functions and the proof use
+pub mod inside

@@ -1,0 +1,13 @@
+//! Why a session's call isn't answered.
+
+use tx_core::SessionError;
+
+/// Why a session's call isn't answered.
+#[derive(Clone, Copy, Debug, PartialEq, Eq, Drop)]
+pub enum StoreError {
+    /// The session is refused, and all stays as it was.
+    Session(SessionError),
+    /// A read of the base failed. It is noted in the list.
+    DiskFault,
+    NoMemory,
+}
