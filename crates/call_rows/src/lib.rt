@@ -1,7 +1,7 @@
 //! Worked rows of `call_contract`: small calls that keep its laws, books of two sessions that are legal, and calls, joins and books that are wrong.
 //! Each book is legal or not by computation, entry by entry (`worked_books_are_legal`, `wrong_books_are_not_legal`); a call that misses a request breaks the first law, which it keeps with its requests (`missing_requests_break_the_first_law`).
 //! What the books' calls ask is written here once more, by hand; of all but `append` it is shown to be what `lock_plans` has them ask (`rows_ask_what_calls_ask`).
-//! All of it is definitions and rows; the toys as types stand in `toy_calls`.
+//! All of it is definitions and rows; the toys as types stand in `call_tests`.
 #![tactic(auto)]
 
 ghost use Rattle.std.specs.Prelude.{◌≡◌};

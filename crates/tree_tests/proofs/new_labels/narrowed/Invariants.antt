@@ -1,7 +1,7 @@
 use Rattle.std.proofs.Common.{IsTrue, ◌≡◌, Less, nat_cmp}
 use Rattle.std.specs.Cmp.Lexicographic.{slice_cmp}
 use Rattle.dewey_labels.specs.Labels.{is_child}
-use Rattle.model_tests.proofs.new_labels.narrowed.Given as goal
+use Rattle.tree_tests.proofs.new_labels.narrowed.Given as goal
 
 abbrev pub invariant-loop : goal.invariant-loop
 invariant-loop l = record {

@@ -2,8 +2,8 @@ use Rattle.std.proofs.Common.{sym, ap, ◌∙◌}
 use Rattle.tree_model.specs.Tree.{map_of}
 use Rattle.tree_model.specs.Entries.{get}
 use Rattle.call_rows.proofs.LookLaws.{answer_of, looked}
-use Rattle.toy_calls.proofs.Changes.{nothing_changed}
-use Rattle.toy_calls.proofs.toys.LookTreeCall.apply.Goals as goal
+use Rattle.call_tests.proofs.Changes.{nothing_changed}
+use Rattle.call_tests.proofs.toys.LookTreeCall.apply.Goals as goal
 
 pub returns-in-Some-clause-reply : goal.returns-in-Some-clause-reply
 returns-in-Some-clause-reply g c = λ t stands.

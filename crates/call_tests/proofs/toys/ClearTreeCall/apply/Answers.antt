@@ -3,8 +3,8 @@ use Rattle.tree_model.specs.Tree.{map_of}
 use Rattle.tree_model.specs.Entries.{get}
 use Rattle.call_rows.specs.Toys.{cleared_reply, cleared_changes}
 use Rattle.call_rows.proofs.ClearLaws.{reply_is}
-use Rattle.toy_calls.proofs.Changes.{changes_are}
-use Rattle.toy_calls.proofs.toys.ClearTreeCall.apply.Goals as goal
+use Rattle.call_tests.proofs.Changes.{changes_are}
+use Rattle.call_tests.proofs.toys.ClearTreeCall.apply.Goals as goal
 
 pub returns-clause-reply : goal.returns-clause-reply
 returns-clause-reply g c = λ t stands.
