@@ -1,5 +1,6 @@
 pub mod Fragments
 pub mod KeptCalls
+pub mod PlainRunLaws
 pub mod Reading
 pub mod StoreCallLaws
 pub mod ValidParts

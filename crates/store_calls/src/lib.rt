@@ -2,7 +2,9 @@
 //! DOM calls and finds keep the laws of calls, so every legal book of them is serial.
 #![tactic(auto)]
 
+mod laws;
 mod parts;
 mod store_op;
 
+pub use laws::serial_runs_are_plain;
 pub use store_op::StoreOp;
