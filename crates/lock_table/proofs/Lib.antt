@@ -1,5 +1,6 @@
 mod Again
 pub mod Granted
+pub mod GroupModes
 mod Holders
 pub mod Listing
 pub mod Maps

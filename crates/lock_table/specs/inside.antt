@@ -1,3 +1,4 @@
 -- Words of private functions and of the proof: no public clause has them.
 pub mod Barring
+pub mod GroupModes
 pub mod Rows

@@ -6,7 +6,7 @@ ghost use Rattle.lock_table.specs.Asks.{join_asks, join_with, is_barred_by, Cove
 use lock_modes::{Ask, Mode};
 
 /// The join of two modes.
-fn join(one: Ask, other: Ask) -> Ask
+pub fn join(one: Ask, other: Ask) -> Ask
     ensures { result ≡ join_asks one other }
 {
     match (one, other) {

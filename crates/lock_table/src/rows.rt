@@ -1,13 +1,13 @@
 //! The rows: for each resource the owners that hold a mode there.
 
-ghost use Rattle.std.specs.Prelude.{◌≡◌, ℕ, ◌&&◌, ◌==◌, not, cond, None, Some, IfOk, OnOk, OnErr, IsTrue};
+ghost use Rattle.std.specs.Prelude.{◌≡◌, ℕ, ◌&&◌, ◌==◌, not, cond, None, Some, option_copied, IfOk, OnOk, OnErr, IsTrue};
 ghost use Rattle.std.specs.List.{list_any};
 ghost use Rattle.std.specs.List.Sorted.{IsStrictlySortedBy};
 ghost use Rattle.std.specs.Ordering.{nat_cmp};
 ghost use Rattle.std.specs.BTreeMap.{get};
 ghost use Rattle.lock_resources.specs.declared.resource.Resource.{Resource};
 ghost use Rattle.lock_table.specs.Asks.{is_barred_by};
-ghost use Rattle.lock_table.specs.inside.Rows.{held_in};
+ghost use Rattle.lock_table.specs.inside.Rows.{held_in, in_row};
 ghost use Rattle.lock_table.specs.Resources.{same_resource};
 
 use crate::asks::is_barred;
@@ -95,7 +95,7 @@ fn leave(row: &mut Row, owner: u32) -> bool
 }
 
 /// Takes the owner out of the resource's row and answers whether nobody is left there.
-fn leave_at(rows: &mut Rows, owner: u32, resource: &Resource) -> bool
+pub fn leave_at(rows: &mut Rows, owner: u32, resource: &Resource) -> bool
     ensures rows { (o : ℕ) (r : Resource) → held_in rows.new o r ≡ cond ((owner == o) && same_resource resource.now r) None (held_in rows.old o r) }
     ensures empty { IsTrue result → (o : ℕ) → held_in rows.new o resource.now ≡ None }
 {
@@ -106,20 +106,11 @@ fn leave_at(rows: &mut Rows, owner: u32, resource: &Resource) -> bool
 }
 
 /// Takes a row out at which nobody holds anything.
-fn drop_row(rows: &mut Rows, resource: &Resource)
+pub fn drop_row(rows: &mut Rows, resource: &Resource)
     requires { (o : ℕ) → held_in rows.old o resource.now ≡ None }
     ensures { (o : ℕ) (r : Resource) → held_in rows.new o r ≡ held_in rows.old o r }
 {
     rows.remove(resource);
-}
-
-/// Takes the owner out of the resource's row. It takes no memory.
-pub fn take_out(rows: &mut Rows, owner: u32, resource: &Resource)
-    ensures { (o : ℕ) (r : Resource) → held_in rows.new o r ≡ cond ((owner == o) && same_resource resource.now r) None (held_in rows.old o r) }
-{
-    if leave_at(rows, owner, resource) {
-        drop_row(rows, resource);
-    }
 }
 
 /// The owners other than this one that hold a mode at the resource which bars this one, ascending.
@@ -134,7 +125,21 @@ pub fn barring_at(
     ensures each { IfOk result (λ holders. (o : ℕ) → list_any (λ h. h == o) holders
         ≡ (not (o == owner) && is_barred_by ask (held_in rows.now o resource.now))) }
 {
-    match rows.get(resource) {
+    barring_there(alloc, rows.get(resource), owner, ask)
+}
+
+/// The same in a row that may be missing.
+pub fn barring_there(
+    alloc: Global,
+    row: Option<&Row>,
+    owner: u32,
+    ask: Ask,
+) -> Result<List<u32>, NoMemory>
+    ensures rising { IfOk result (λ holders. IsStrictlySortedBy nat_cmp holders) }
+    ensures each { IfOk result (λ holders. (o : ℕ) → list_any (λ h. h == o) holders
+        ≡ (not (o == owner) && is_barred_by ask (in_row (option_copied row.entry) o))) }
+{
+    match row {
         Some(row) => barring_in(alloc, row, owner, ask),
         None => Ok(List::new(alloc)),
     }

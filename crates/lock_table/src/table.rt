@@ -1,16 +1,18 @@
 //! The table: asking for a mode, and releasing all that an owner holds.
 
-ghost use Rattle.std.specs.Prelude.{◌≡◌, ℕ, ◌&&◌, ◌==◌, cond, false, [], None, Ok, IfOk, OnOk, OnErr, IsTrue, IsSome};
+ghost use Rattle.std.specs.Prelude.{◌≡◌, ℕ, ◌&&◌, ◌==◌, cond, false, None, Some, Ok, IfOk, OnOk, OnErr, IsTrue};
 ghost use Rattle.lock_resources.specs.declared.resource.Resource.{Resource};
-ghost use Rattle.lock_table.specs.Asks.{Covers, is_barred};
-ghost use Rattle.lock_table.specs.inside.Rows.{held_in, is_listed};
+ghost use Rattle.lock_table.specs.Asks.{Covers, join_with, is_barred_by, is_barred};
+ghost use Rattle.lock_table.specs.inside.Rows.{held_in, is_listed, IsKept};
+ghost use Rattle.lock_table.specs.inside.GroupModes.{AreGroupModes};
 ghost use Rattle.lock_table.specs.Resources.{same_resource};
 ghost use Rattle.lock_table.specs.declared.table.Asked.TheVariants.{Granted};
 ghost use Rattle.lock_table.specs.Tables.{held as held_by, AreHolders, IsGranted, IsSame, IsReleased, Answers};
 
 use crate::asks::{covers, join_held};
+use crate::group_modes::{GroupModes, admitted, take_out};
 use crate::owned::{Owned, make_listed, take_list};
-use crate::rows::{Rows, barring_at, held, put, take_out};
+use crate::rows::{Rows, barring_at, held, put};
 use dewey_labels::{List, NoMemory};
 use lock_modes::Ask;
 use lock_resources::{Request, Resource};
@@ -32,17 +34,19 @@ pub enum Asked {
 pub struct LockTable {
     rows: Rows,
     owned: Owned,
+    groups: GroupModes,
 }
 
 impl Model for LockTable {
     ghost use Rattle.lock_table.specs.Tables.{Table};
     ghost use Rattle.lock_table.specs.inside.Rows.{table_of, IsKept};
+    ghost use Rattle.lock_table.specs.inside.GroupModes.{AreGroupModes};
 
     ghost Value = { Table };
 
     ghost view = { λ t. table_of t.rows };
 
-    ghost invariant = { λ t. IsKept t.rows t.owned };
+    ghost invariant = { λ t. IsKept t.rows t.owned × AreGroupModes t.groups t.rows };
 }
 
 impl LockTable {
@@ -53,12 +57,14 @@ impl LockTable {
         Ok(LockTable {
             rows: BTreeMap::new(alloc),
             owned: BTreeMap::new(alloc),
+            groups: BTreeMap::new(alloc),
         })
     }
 
     /// Asks for a mode. It is granted where no other owner holds an incompatible one there, and the owner then holds the join.
     /// Otherwise all such owners are named and nothing is changed.
-    /// Where the owner has the mode already, this is one look-up and takes no memory; otherwise the time grows with the number of owners at the resource.
+    /// Where the owner has the mode already, this is one look-up and takes no memory. Where several owners hold modes at the resource, and one like this that
+    /// goes with all of them was granted there before, it is granted without a look at any of them; otherwise the time grows with their number.
     pub fn ask(&mut self, alloc: Global, owner: u32, request: &Request) -> Result<Asked, NoMemory>
         ensures answer { IfOk result (Answers self.old owner request.now self.new) }
         ensures again { Covers (held_by self.old owner request.now.resource) request.now.ask → result ≡ Ok Granted }
@@ -68,11 +74,18 @@ impl LockTable {
         if covers(before, request.ask) {
             return Ok(Asked::Granted);
         }
-        let holders = barring_at(alloc, &self.rows, owner, &request.resource, request.ask)?;
+        let holders = admitted(alloc, &mut self.groups, &self.rows, owner, request)?;
         if !holders.is_empty() {
             return Ok(Asked::Conflict { holders });
         }
-        self.grant(alloc, owner, request, before)?;
+        grant(
+            alloc,
+            &mut self.rows,
+            &mut self.owned,
+            owner,
+            request,
+            before,
+        )?;
         Ok(Asked::Granted)
     }
 
@@ -89,41 +102,17 @@ impl LockTable {
         Ok(holders)
     }
 
-    /// Gives the owner, whom nobody bars, the join of what it holds there and of what it asks.
-    fn grant(
-        &mut self,
-        alloc: Global,
-        owner: u32,
-        request: &Request,
-        before: Option<Ask>,
-    ) -> Result<(), NoMemory>
-        requires before { before ≡ held_by self.old owner request.now.resource }
-        requires free { AreHolders self.old owner request.now [] }
-        ensures ok { OnOk result (IsGranted self.old owner request.now self.new) }
-        ensures err { OnErr result (IsSame self.old self.new) }
-    {
-        make_listed(
-            alloc,
-            &mut self.owned,
-            owner,
-            &request.resource,
-            before.is_some(),
-        )?;
-        put(
-            alloc,
-            &mut self.rows,
-            owner,
-            &request.resource,
-            join_held(request.ask, before),
-        )
-    }
-
     /// Removes an owner: it holds nothing then. It takes no memory, and visits the owner's resources alone.
     pub fn release_all(&mut self, owner: u32)
         ensures { IsReleased self.old owner self.new }
     {
         if let Some(resources) = take_list(&mut self.owned, owner) {
-            take_out_all(&mut self.rows, owner, resources.as_slice());
+            take_out_all(
+                &mut self.rows,
+                &mut self.groups,
+                owner,
+                resources.as_slice(),
+            );
         }
     }
 
@@ -136,11 +125,35 @@ impl LockTable {
     }
 }
 
+/// Gives the owner, whom nobody bars, the join of what it holds there and of what it asks.
+fn grant(
+    alloc: Global,
+    rows: &mut Rows,
+    owned: &mut Owned,
+    owner: u32,
+    request: &Request,
+    before: Option<Ask>,
+) -> Result<(), NoMemory>
+    requires kept { IsKept rows.old owned.old }
+    requires before { before ≡ held_in rows.old owner request.now.resource }
+    requires free { (p : ℕ) → (p == owner) ≡ false → is_barred_by request.now.ask (held_in rows.old p request.now.resource) ≡ false }
+    ensures kept { IsKept rows.new owned.new }
+    ensures ok { OnOk result ((o : ℕ) (r : Resource) → held_in rows.new o r
+        ≡ cond ((owner == o) && same_resource request.now.resource r) (Some (join_with request.now.ask before)) (held_in rows.old o r)) }
+    ensures err { OnErr result ((o : ℕ) (r : Resource) → held_in rows.new o r ≡ held_in rows.old o r) }
+{
+    make_listed(alloc, owned, owner, &request.resource, before.is_some())?;
+    let ask = join_held(request.ask, before);
+    put(alloc, rows, owner, &request.resource, ask)
+}
+
 /// Takes the owner out of the rows of these resources.
-fn take_out_all(rows: &mut Rows, owner: u32, resources: &[Resource])
-    ensures { (o : ℕ) (r : Resource) → held_in rows.new o r ≡ cond ((owner == o) && is_listed r resources.now) None (held_in rows.old o r) }
+fn take_out_all(rows: &mut Rows, groups: &mut GroupModes, owner: u32, resources: &[Resource])
+    requires { AreGroupModes groups.old rows.old }
+    ensures rows { (o : ℕ) (r : Resource) → held_in rows.new o r ≡ cond ((owner == o) && is_listed r resources.now) None (held_in rows.old o r) }
+    ensures groups { AreGroupModes groups.new rows.new }
 {
     for resource in resources {
-        take_out(rows, owner, resource);
+        take_out(rows, groups, owner, resource);
     }
 }

@@ -1,6 +1,7 @@
 pub mod DeletionLaws
 pub mod Directions
 pub mod Ends
+pub mod FewLaws
 pub mod Laying
 pub mod MergeLaws
 pub mod NearestLaws

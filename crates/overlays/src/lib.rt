@@ -5,7 +5,7 @@
 //! Which changes may be committed is left to the crates above.
 //!
 //! A deletion is kept as a change without a record, so changes may be laid over any map. They stand in sorted runs, each but the newest at least four
-//! times as long as the next, as in a log-structured merge tree: a read searches few runs, and each change is moved a logarithm of times in all.
+//! times as long as the next of these, as in a log-structured merge tree: a read searches few runs, and each change is moved a logarithm of times in all.
 #![tactic(auto)]
 
 mod direction;

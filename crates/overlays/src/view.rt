@@ -53,9 +53,22 @@ pub(crate) fn seen_at<S: NodeRead>(
     ensures cause { HasCause DiskFault (S.count base.old) (S.count base.new) result }
 {
     let _faults = base.faults();
-    match own.at(key, layers.at(key)) {
+    match change_at(layers, own, key) {
         Some(change) => Ok(change.now.copy(alloc)?),
         None => base.get(alloc, key),
+    }
+}
+
+/// The change of a key in the overlay, or else in the layers.
+fn change_at<'o>(layers: &'o Layers, own: &'o Overlay, key: &Key) -> Option<&'o Change>
+    ensures value { option_map (λ c. c.now) (option_copied result) ≡ now_at key.now (laid own.now layers.now.changes) }
+    ensures own { IsChangeList own.now }
+    ensures layers { IsChangeList layers.now.changes }
+{
+    layers.is_list();
+    match own.at(key) {
+        Some(change) => Some(change),
+        None => layers.at(key),
     }
 }
 

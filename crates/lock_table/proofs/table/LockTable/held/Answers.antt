@@ -10,4 +10,4 @@ returns-clause-held c = c.held.ensures ∙ sym (shown_as c.self.inside.rows c.ar
 
 pub returns-clause-together : goal.returns-clause-together
 returns-clause-together c = λ o apart. ap (λ h. is_barred h (held c.args.self.now o c.args.resource.now)) (c.held.ensures ∙ sym (shown_as c.self.inside.rows c.args.self.now c.self.view_is c.args.owner c.args.resource.now))
-    ∙ together_held c.self.inside.rows c.args.self.now c.self.view_is c.self.invariant.together c.args.owner o c.args.resource.now apart
+    ∙ together_held c.self.inside.rows c.args.self.now c.self.view_is c.self.invariant.0.together c.args.owner o c.args.resource.now apart
