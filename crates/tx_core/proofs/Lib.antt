@@ -5,6 +5,7 @@ pub mod Bodies
 pub mod Committed
 pub mod Counted
 pub mod CommitsKept
+pub mod Copies
 pub mod Cycles
 pub mod Drained
 pub mod Granted

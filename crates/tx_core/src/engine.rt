@@ -23,6 +23,7 @@ ghost use Rattle.tx_core.specs.Truths.{LiveStand, ShowsCycle};
 
 use crate::attempts::attempt;
 use crate::commits::{Prepared, commit, merge, prepare, rebase};
+use crate::copying::copy_committed;
 use crate::ends::{abort, begin};
 use crate::errors::{CallError, SessionError};
 use crate::parts::Parts;
@@ -32,7 +33,7 @@ use call_contract::{Answer, Noted, TreeCall};
 use dewey_labels::{List, NoMemory};
 use lock_table::LockTable;
 use node_records::Pending;
-use node_seq::{NodeRead, SortedSeq};
+use node_seq::{NodeRead, SeqError, SortedSeq};
 use overlays::Layers;
 use std::alloc::Global;
 use std::collections::BTreeMap;
@@ -233,6 +234,38 @@ impl<C: TreeCall + Drop, B: NodeRead + Drop> Core<C, B> {
         ensures same { self.new ≡ with_committed (over self.old base) self.new.committed }
     {
         rebase(alloc, &mut self.parts, base)
+    }
+
+    /// A copy of the committed map in memory. It reads the base once an entry, and a few times more where it passes deletions; it is no entry of the book.
+    pub fn copy_committed(&mut self, alloc: Global) -> Result<SortedSeq, SeqError>
+        ensures map { IfOk result (λ map. (t : Tree) → StandsFor (B.contents self.old.opening) t → map ≡ map_of (state_from C.meaning t self.old).tree) }
+        ensures same { self.new ≡ over self.old self.new.base }
+        ensures unchanged { B.unchanged self.old.base self.new.base }
+        ensures cause { HasCause SeqError.DiskFault (B.count self.old.base) (B.count self.new.base) result }
+    {
+        copy_committed(alloc, &mut self.parts)
+    }
+
+    /// The base; all else is let go. It takes no memory.
+    pub fn into_base(self) -> B
+        ensures { result ≡ self.base }
+    {
+        let parts = self.parts;
+        parts.base
+    }
+
+    /// The number of the last commit; the opening's where none was made since.
+    pub fn number(&self) -> u32
+        ensures { result ≡ self.now.number + commits_in self.now.book }
+    {
+        self.parts.number
+    }
+
+    /// The base's count of faults.
+    pub fn faults(&self) -> u64
+        ensures { result ≡ B.count self.now.base }
+    {
+        self.parts.base.faults()
     }
 
     /// The number of the last commit that was handed out; the opening's where none was.

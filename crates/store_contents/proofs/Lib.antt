@@ -1,0 +1,4 @@
+pub mod CommitLaws
+pub mod ContentsLaws
+pub mod ContentsRows
+pub mod TreeLaws
