@@ -4,6 +4,10 @@ pub mod GroupLaws
 pub mod ReadLaws
 pub mod JournalRows
 pub mod AppendSteps
+pub mod BatchSteps
+pub mod BatchWrites
+pub mod BatchRuns
+pub mod PendingLaws
 pub mod FreshSteps
 pub mod DecodeLaws
 pub mod PieceLaws

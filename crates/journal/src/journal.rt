@@ -1,9 +1,10 @@
 // A store's journal: it is opened on a disk, takes commits until a call of the disk fails, and hands the disk out.
-ghost use Rattle.std.specs.Prelude.{◌≡◌, ◌≤◌, false, true, not, Ok, IfOk, IfErr, MatchResult, IsTrue, OnOk, OnErr, length};
+ghost use Rattle.std.specs.Prelude.{◌≡◌, ◌≤◌, ◌<◌, false, true, not, Ok, IfOk, IfErr, MatchResult, IsTrue, OnOk, OnErr, length};
 ghost use Rattle.outside_traits.specs.Faults.{HasCause, FaultCounted};
 ghost use Rattle.outside_traits.specs.Moments.{IsAllSynced};
 ghost use Rattle.journal.specs.DiskFaults.{disk_fault};
-ghost use Rattle.journal.specs.Groups.{IsCommit};
+ghost use Rattle.journal.specs.Batches.{AddsCommits, HasAddedAll, LeavesAllOrNone, batch_steps, pairs_of};
+ghost use Rattle.journal.specs.Groups.{AreCommits, IsCommit};
 ghost use Rattle.journal.specs.Journals.{is_fresh, read};
 ghost use Rattle.journal.specs.Openings.{LeavesSameGroups, Opens, TakesCommits};
 ghost use Rattle.journal.specs.Refusals.{BreaksJournal, HasReason, UnlessFault};
@@ -17,7 +18,7 @@ use crate::frame::FRAME;
 use crate::group::Groups;
 use crate::opening::open_file;
 use dewey_labels::NoMemory;
-use node_records::{File, OpenError};
+use node_records::{File, OpenError, Pending};
 use outside_traits::Disk;
 use std::alloc::Global;
 use std::marker::Model;
@@ -130,6 +131,32 @@ impl<J: Disk> Journal<J> {
     {
         self.failed = true;
         self.file.append(&mut self.buffer, number, body)?;
+        self.failed = false;
+        Ok(())
+    }
+
+    /// Adds commits behind the last one, all of them or none, with one pair of syncs. It takes no memory, and needs no room.
+    /// After an error the journal isn't used again; the disk is opened anew.
+    pub fn append_groups(&mut self, commits: &[Pending]) -> Result<(), DiskFault>
+        requires usable { self.old.failed ≡ false }
+        requires commits { AreCommits self.old.last (pairs_of commits.now) }
+        requires some { 0 < length commits.now }
+
+        // After Ok every crash leaves all of the new commits; after an error the journal isn't to be used.
+        ensures durable { OnOk result (IsTrue J.is_known → AddsCommits self.old.gate (pairs_of commits.now) self.old.history self.new.history) }
+        ensures ok { OnOk result (HasAddedAll (pairs_of commits.now) self.old self.new) }
+        ensures err { OnErr result (self.new.failed ≡ true) }
+
+        // A crash at any moment of the call leaves the groups from before it, with all of the new ones or with none.
+        ensures any_moment { IsTrue J.is_known → LeavesAllOrNone (pairs_of commits.now) self.old.history self.new.history }
+
+        // After an error the first of the calls were made, up to one that failed: what stands behind the last gate stays.
+        ensures stops { OnErr result (IsTrue J.is_known → StopsIn (batch_steps self.old.gate (pairs_of commits.now)) self.old.history self.new.history) }
+        ensures room { self.new.room ≡ self.old.room }
+        ensures cause { HasCause disk_fault self.old.faults self.new.faults result }
+    {
+        self.failed = true;
+        self.file.append_all(commits)?;
         self.failed = false;
         Ok(())
     }
