@@ -15,8 +15,9 @@ use Rattle.journal.specs.Appends.{groups_in, last_number}
 use Rattle.journal.specs.Batches.{AddsCommits, LeavesAllOrNone, batch_steps}
 use Rattle.journal.specs.Groups.{commits_of}
 use Rattle.journal.specs.inside.Settled.{IsSettled}
-use Rattle.journal.proofs.AppendSteps.{within}
-use Rattle.journal.proofs.BatchSteps.{does-append, stops-behind, stops-before, does-reads, batch-reads, behind_first_gate, batch_stopped, batch_leaves, batch_adds, batch_settled}
+use Rattle.journal.proofs.StandLaws.{within}
+use Rattle.journal.proofs.StepRuns.{does-append, stops-behind, stops-before, does-reads}
+use Rattle.journal.proofs.BatchSteps.{batch-reads, behind_first_gate, batch_stopped, batch_leaves, batch_adds, batch_settled}
 
 -- some of the commits are written, up to this place, and the rest is to come
 pub record HasWritten (start at : ℕ) (all rest : List (ℕ × List ℕ)) (old new : History) : Type 0 where

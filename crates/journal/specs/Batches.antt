@@ -1,13 +1,13 @@
 -- What an append of many commits at once leaves of a journal (docs/FILE_FORMAT.md, "Appending").
-use Rattle.std.specs.Prelude.{◌≡◌, ◌⊎◌, ℕ, ◌+◌, ◌≤◌, false, List, [], ◌∷◌, ◌++◌, length, map, take, Ok}
+use Rattle.std.specs.Prelude.{◌≡◌, ℕ, ◌+◌, ◌≤◌, List, [], ◌∷◌, ◌++◌, length, map, take, Ok}
 use Rattle.outside_traits.specs.CrashImages.{IsImage}
 use Rattle.outside_traits.specs.Moments.{History, IsAllSynced, LeavesOnly}
-use Rattle.journal.specs.Appends.{groups_in, last_number}
+use Rattle.journal.specs.Appends.{IsOneOf, groups_in, last_number}
 use Rattle.journal.specs.Groups.{commits_of, only_commits, open_groups, word}
 use Rattle.journal.specs.Journals.{read}
 use Rattle.journal.specs.Steps.{DiskStep, Does}
 use Rattle.journal.specs.Steps.DiskStep.{write, sync}
-use Rattle.journal.specs.Views.{JournalView}
+use Rattle.journal.specs.Views.{JournalView, TakesGroups}
 use Rattle.journal.specs.declared.group.Group.{Group}
 use Rattle.journal.specs.declared.group.Groups.{Groups}
 use Rattle.node_records.specs.declared.pending.Pending.{Pending}
@@ -40,7 +40,7 @@ with_commits groups commits = only_commits (groups.commits ++ commits)
 
 -- the bytes stand for these groups, with all of these commits behind them or with none
 abbrev pub IsAllOrNone : Groups → List Group → List ℕ → Type 0
-IsAllOrNone groups commits bytes = (read bytes ≡ Ok groups) ⊎ (read bytes ≡ Ok (with_commits groups commits))
+IsAllOrNone groups commits = IsOneOf groups (with_commits groups commits)
 
 -- after each call of an append a crash leaves the groups from before it, with all of these commits or with none
 abbrev pub LeavesAllOrNone : List (ℕ × List ℕ) → History → History → Type 0
@@ -57,7 +57,7 @@ pub record AddsCommits (gate : ℕ) (commits : List (ℕ × List ℕ)) (old new 
 
 -- the journal may be used again, behind the commits that were added
 pub record HasAddedAll (commits : List (ℕ × List ℕ)) (old new : JournalView) : Type 0 where
-  pub usable : new.failed ≡ false
+  pub usable : TakesGroups new
   pub last : new.last ≡ last_number old.last (commits_of commits)
   pub gate : new.gate ≡ old.gate + length (open_groups commits)
 

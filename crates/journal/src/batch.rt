@@ -8,6 +8,7 @@ ghost use Rattle.journal.specs.Steps.{Does, StopsIn};
 
 use crate::file::OPEN;
 use crate::frame::head;
+use crate::head::COMMIT;
 use node_records::Pending;
 use outside_traits::{Disk, Failed};
 
@@ -56,7 +57,7 @@ fn write_commit<J: Disk>(
     ensures stops { OnErr result (IsTrue J.is_known → StopsIn (commit_writes at number body.now gate) (J.history disk.old) (J.history disk.new)) }
     ensures cause { HasCause failed (J.faults disk.old) (J.faults disk.new) result }
 {
-    disk.write_at(at, &head(number, body.len() as u32))?;
+    disk.write_at(at, &head(COMMIT, number, body.len() as u32))?;
     let body_at = at + 9;
     disk.write_at(body_at, body)?;
     let gate_at = body_at + body.len() as u64;

@@ -1,5 +1,5 @@
 // Laws over the definitions alone, each the contract of a function with nothing to do.
-ghost use Rattle.std.specs.Prelude.{◌≡◌, ◌≢◌, ◌+◌, ◌∷◌, ◌++◌, length, ℕ, List, Option, IsTrue, None, Some, Ok};
+ghost use Rattle.std.specs.Prelude.{◌≡◌, ◌≢◌, ◌<◌, ◌+◌, ◌^◌, ◌∷◌, ◌++◌, length, ℕ, List, Option, IsTrue, None, Some, Ok};
 ghost use Rattle.std.specs.List.{AllByRecursion};
 ghost use Rattle.tree_model.specs.declared.change.Change.{Change};
 ghost use Rattle.node_records.specs.Changes.{IsWritableChange, changes_bytes};
@@ -11,6 +11,7 @@ ghost use Rattle.journal.specs.Batches.{AddsCommits, HasAddedSince, HasFirst, Le
 ghost use Rattle.journal.specs.Bodies.{changes_in};
 ghost use Rattle.journal.specs.Groups.{AreCommits, commits_of, is_next, only_commits, open_groups};
 ghost use Rattle.journal.specs.Journals.{header, read};
+ghost use Rattle.journal.specs.PageImages.{IsPageImage, images_body, images_in, numbers_rise};
 ghost use Rattle.journal.specs.declared.group.Groups.{Groups};
 
 /// Changes with rising keys, written one behind the other, are a commit's body, and are read from it again.
@@ -45,4 +46,11 @@ pub fn appends_follow_one_another()
         → LeavesAllOrNone more mid new → LeavesOnly (HasFirst groups (commits ++ more) 0) old new }
     ensures added { (groups : Groups) (commits more : List (ℕ × List ℕ)) (old mid new : History) (gate : ℕ) → HasAddedSince groups commits old mid
         → AddsCommits gate more mid new → LeavesAllOrNone more mid new → HasAddedSince groups (commits ++ more) old new }
+{}
+
+/// Images of whole pages with rising numbers, written one behind the other behind their count, are a body of images, and are read again.
+#[tactic(auto, using(crate::proofs::ImageLaws::body_again))]
+pub fn images_are_read_again()
+    ensures { (images : List (ℕ × List ℕ)) → AllByRecursion IsPageImage images → IsTrue (numbers_rise images) → length images < 2 ^ 32
+        → images_in (images_body images) ≡ Some images }
 {}

@@ -12,6 +12,7 @@ mod file;
 mod frame;
 mod group;
 mod head;
+mod images;
 mod journal;
 mod laws;
 mod new_journal;
@@ -19,10 +20,10 @@ mod opening;
 mod reading;
 
 pub use disk_fault::DiskFault;
-pub use group::{Group, Groups};
+pub use group::{Group, Groups, Images};
 pub use head::{FIRST_GATE, IMAGES, first_number, is_fresh, kind_at};
 pub use journal::{Journal, OpenFault};
 pub use laws::{
     a_body_is_read_again, appends_follow_one_another, commits_are_read_again,
-    pending_commits_may_be_appended,
+    images_are_read_again, pending_commits_may_be_appended,
 };
