@@ -1,13 +1,17 @@
 // A store's journal: it is opened on a disk, takes commits until a call of the disk fails, and hands the disk out.
-ghost use Rattle.std.specs.Prelude.{◌≡◌, ◌≤◌, false, true, not, Ok, IfOk, IfErr, MatchResult, IsTrue, OnOk, OnErr, length};
+ghost use Rattle.std.specs.Prelude.{◌≡◌, ◌≤◌, ◌<◌, false, true, not, Ok, IfOk, IfErr, MatchResult, IsTrue, OnOk, OnErr, length};
 ghost use Rattle.outside_traits.specs.Faults.{HasCause, FaultCounted};
 ghost use Rattle.outside_traits.specs.Moments.{IsAllSynced};
 ghost use Rattle.journal.specs.DiskFaults.{disk_fault};
-ghost use Rattle.journal.specs.Groups.{IsCommit};
+ghost use Rattle.journal.specs.Batches.{AddsCommits, HasAddedAll, LeavesAllOrNone, batch_steps, pairs_of};
+ghost use Rattle.journal.specs.Groups.{AreCommits, AreImages, IsCommit};
+ghost use Rattle.journal.specs.ImageAppends.{AddsImages, HoldsImages, LeavesWithOrWithoutImages};
 ghost use Rattle.journal.specs.Journals.{is_fresh, read};
 ghost use Rattle.journal.specs.Openings.{LeavesSameGroups, Opens, TakesCommits};
 ghost use Rattle.journal.specs.Refusals.{BreaksJournal, HasReason, UnlessFault};
-ghost use Rattle.journal.specs.Steps.{StopsIn, append_steps};
+ghost use Rattle.journal.specs.Resets.{Clears, HasReset, LeavesGroupsOrNone};
+ghost use Rattle.journal.specs.Steps.{StopsIn, append_steps, images_steps, reset_steps};
+ghost use Rattle.journal.specs.Views.{TakesGroups};
 ghost use Rattle.journal.specs.Appends.{AddsCommit, HasAdded, LeavesWithOrWithout, groups_in};
 
 use crate::decoding::Found;
@@ -17,13 +21,13 @@ use crate::frame::FRAME;
 use crate::group::Groups;
 use crate::opening::open_file;
 use dewey_labels::NoMemory;
-use node_records::{File, OpenError};
+use node_records::{File, OpenError, Pending};
 use outside_traits::Disk;
 use std::alloc::Global;
 use std::marker::Model;
 
-/// A journal on a disk, seen as its disk's states and count of faults, the place of its closed gate, the number of its last group,
-/// whether a call has failed, and how long a body it has room for.
+/// A journal on a disk, seen as its disk's states and count of faults, the place of its closed gate, the number of the last group
+/// that it has read or written, whether a call has failed, whether images are its last open group, and how long a body it has room for.
 /// Until a call fails, a crash between two calls leaves what a read gives (clause `settled` of `is_usable`).
 #[derive(Drop)]
 pub struct Journal<J: Disk> {
@@ -45,10 +49,11 @@ impl<J: Disk> Model for Journal<J> {
       gate = j.file.gate;
       last = j.file.last;
       failed = j.failed;
+      has_images = j.file.has_images;
       room = vec_capacity j.buffer - 10;
     } };
 
-    ghost invariant = { λ j. IsUsable J.is_known (J.history j.file.disk) j.file.gate j.file.last j.failed (vec_capacity j.buffer) };
+    ghost invariant = { λ j. IsUsable J.is_known (J.history j.file.disk) j.file.gate j.file.last j.failed j.file.has_images (vec_capacity j.buffer) };
 }
 
 /// A journal that wasn't opened: why, and the disk.
@@ -98,11 +103,12 @@ impl<J: Disk> Journal<J> {
                         disk,
                         gate: gate as u64,
                         last,
+                        has_images: groups.images.is_some(),
                     },
                     failed: false,
                     buffer,
                 },
-                Groups { commits: groups },
+                groups,
             )),
             Err(fault) => Err(OpenFault { fault, disk }),
         }
@@ -111,7 +117,7 @@ impl<J: Disk> Journal<J> {
     /// Adds a commit behind the last one, by four calls of the disk. It takes no memory.
     /// After an error the journal isn't used again; the disk is opened anew.
     pub fn append_group(&mut self, number: u32, body: &[u8]) -> Result<(), DiskFault>
-        requires usable { self.old.failed ≡ false }
+        requires usable { TakesGroups self.old }
         requires commit { IsCommit self.old.last number body.now }
         requires room { length body.now ≤ self.old.room }
 
@@ -130,6 +136,84 @@ impl<J: Disk> Journal<J> {
     {
         self.failed = true;
         self.file.append(&mut self.buffer, number, body)?;
+        self.failed = false;
+        Ok(())
+    }
+
+    /// Adds commits behind the last one, all of them or none, with one pair of syncs. It takes no memory, and needs no room.
+    /// After an error the journal isn't used again; the disk is opened anew.
+    pub fn append_groups(&mut self, commits: &[Pending]) -> Result<(), DiskFault>
+        requires usable { TakesGroups self.old }
+        requires commits { AreCommits self.old.last (pairs_of commits.now) }
+        requires some { 0 < length commits.now }
+
+        // After Ok every crash leaves all of the new commits; after an error the journal isn't to be used.
+        ensures durable { OnOk result (IsTrue J.is_known → AddsCommits self.old.gate (pairs_of commits.now) self.old.history self.new.history) }
+        ensures ok { OnOk result (HasAddedAll (pairs_of commits.now) self.old self.new) }
+        ensures err { OnErr result (self.new.failed ≡ true) }
+
+        // A crash at any moment of the call leaves the groups from before it, with all of the new ones or with none.
+        ensures any_moment { IsTrue J.is_known → LeavesAllOrNone (pairs_of commits.now) self.old.history self.new.history }
+
+        // After an error the first of the calls were made, up to one that failed: what stands behind the last gate stays.
+        ensures stops { OnErr result (IsTrue J.is_known → StopsIn (batch_steps self.old.gate (pairs_of commits.now)) self.old.history self.new.history) }
+        ensures room { self.new.room ≡ self.old.room }
+        ensures cause { HasCause disk_fault self.old.faults self.new.faults result }
+    {
+        self.failed = true;
+        self.file.append_all(commits)?;
+        self.failed = false;
+        Ok(())
+    }
+
+    /// Adds images of pages behind the commits, by four calls of the disk. It takes no memory. Their number is that of the last group
+    /// which this journal has read or written, and any where there is none; then nothing is appended until `reset`.
+    /// After an error the journal isn't used again; the disk is opened anew.
+    pub fn append_images(&mut self, number: u32, body: &[u8]) -> Result<(), DiskFault>
+        requires usable { TakesGroups self.old }
+        requires images { AreImages self.old.last number body.now }
+        requires room { length body.now ≤ self.old.room }
+
+        // After Ok every crash leaves the images; after an error the journal isn't to be used.
+        ensures durable { OnOk result (IsTrue J.is_known → AddsImages self.old.gate number body.now self.old.history self.new.history) }
+        ensures ok { OnOk result (HoldsImages number body.now self.old self.new) }
+        ensures err { OnErr result (self.new.failed ≡ true) }
+
+        // A crash at any moment of the call leaves the groups from before it, with the images or without.
+        ensures any_moment { IsTrue J.is_known → LeavesWithOrWithoutImages number body.now self.old.history self.new.history }
+
+        // After an error the first of the four calls were made, up to one that failed: what stands behind the next gate stays.
+        ensures stops { OnErr result (IsTrue J.is_known → StopsIn (images_steps self.old.gate number body.now) self.old.history self.new.history) }
+        ensures room { self.old.room ≤ self.new.room }
+        ensures cause { HasCause disk_fault self.old.faults self.new.faults result }
+    {
+        self.failed = true;
+        self.file.append_images(&mut self.buffer, number, body)?;
+        self.failed = false;
+        Ok(())
+    }
+
+    /// Lets go of all groups: the journal is empty afterwards, and its last number stays. It takes no memory, and makes two calls of
+    /// the disk, or none where no group is open.
+    /// After an error the journal isn't used again; the disk is opened anew.
+    pub fn reset(&mut self) -> Result<(), DiskFault>
+        requires usable { self.old.failed ≡ false }
+
+        // After Ok every crash leaves a journal without groups; after an error the journal isn't to be used.
+        ensures durable { OnOk result (IsTrue J.is_known → Clears self.old.gate self.old.history self.new.history) }
+        ensures ok { OnOk result (HasReset self.old self.new) }
+        ensures err { OnErr result (self.new.failed ≡ true) }
+
+        // A crash at any moment of the call leaves the groups from before it, or none.
+        ensures any_moment { IsTrue J.is_known → LeavesGroupsOrNone self.old.history self.new.history }
+
+        // After an error the first of the calls were made, up to one that failed.
+        ensures stops { OnErr result (IsTrue J.is_known → StopsIn (reset_steps self.old.gate) self.old.history self.new.history) }
+        ensures room { self.new.room ≡ self.old.room }
+        ensures cause { HasCause disk_fault self.old.faults self.new.faults result }
+    {
+        self.failed = true;
+        self.file.reset()?;
         self.failed = false;
         Ok(())
     }
@@ -159,7 +243,7 @@ impl<J: Disk> Journal<J> {
         disk
     }
 
-    /// Whether it takes commits: no append has failed. Then all is synced, and the bytes are read as groups.
+    /// Whether no call has failed. Then all is synced, and the bytes are read as groups.
     pub fn is_usable(&self) -> bool
         ensures answer { result ≡ not self.now.failed }
         ensures settled { IsTrue J.is_known → self.now.failed ≡ false → IsAllSynced self.now.history }

@@ -1,5 +1,5 @@
 -- The keys that are read from a journal have labels, so what two files stand for is a tree.
-use Rattle.std.proofs.Common.{◌≡◌, ℕ, zero, suc, ◌+◌, ◌==◌, Bool, true, false, ◌&&◌, nat_eq, nat_lt, List, [], ◌∷◌, length, take, drop, Option, Some, None, unwrap_or, option_map, Result, Ok, Err, if◌then◌else◌, refl, sym, ap, subst}
+use Rattle.std.proofs.Common.{◌≡◌, ℕ, zero, suc, ◌+◌, ◌==◌, Bool, true, false, ◌&&◌, nat_eq, nat_lt, List, [], ◌∷◌, length, drop, Option, Some, None, unwrap_or, option_map, Result, Ok, Err, if◌then◌else◌, refl, sym, ap, subst}
 use Rattle.std.specs.Prelude.{option_and_then}
 use Rattle.std.specs.List.{AllByRecursion, starts_with}
 use Rattle.dewey_labels.specs.Labels.{IsLabel}
@@ -19,13 +19,14 @@ use Rattle.node_records.specs.declared.open_error.Place.{Place}
 use Rattle.node_records.specs.declared.open_error.File.TheVariants.{Journal, Tree}
 use Rattle.node_records.proofs.BodyLaws.{changes_written}
 use Rattle.journal.specs.Bodies.{changes_in}
-use Rattle.journal.specs.Groups.{group_at, is_framed, body_at, number_at, size_at, word_of, only_commits}
-use Rattle.journal.specs.Journals.{header, is_fresh, with_first, groups_from, read}
+use Rattle.journal.specs.Groups.{group_at, images_at, is_framed, body_at, number_at, size_at, word_of, only_commits, only_images}
+use Rattle.journal.specs.Journals.{header, is_fresh, last_group, with_first, groups_from, read}
 use Rattle.journal.specs.Appends.{groups_read}
 use Rattle.journal.specs.Heads.{first_gate}
 use Rattle.journal.specs.declared.group.Group.{Group}
 use Rattle.journal.specs.declared.group.Groups.{Groups}
-use Rattle.recovery.specs.Opened.{Contents, after_commits, contents_of, checked, first_is_one, first_broken, contents_of_files, contents_beside, contents_from, place_in}
+use Rattle.journal.specs.declared.group.Images.{Images}
+use Rattle.recovery.specs.Opened.{Contents, after_commits, contents_of, checked, first_is_one, first_broken, contents_of_files, contents_beside, contents_from, has_no_pages, place_in}
 use Rattle.recovery.specs.Trees.{StandForOne}
 use Rattle.recovery.proofs.GatherLaws.{sorted_after}
 use Rattle.recovery.proofs.OpenedLaws.{contents_are, stand_for_one}
@@ -68,14 +69,21 @@ group_labelled last rest found bytes h = elim (is_framed last rest) as (λ (b : 
   | false ↦ λ g. cc
 ] h
 
+-- images have no commit behind them
+last_labelled : (at : ℕ) (last : Option ℕ) (rest : List ℕ) (groups : Groups) → last_group at last rest ≡ Ok groups → AllLabelled groups.commits
+last_labelled at last rest groups h = elim (images_at last rest) as (λ (o : Option (Images × ℕ)). elim o as (λ _. Result Groups ℕ) [ None ↦ Err at | Some found ↦ Ok (only_images found.0) ] ≡ Ok groups → AllLabelled groups.commits) [
+  | None ↦ λ g. cc
+  | Some found ↦ λ g. subst (λ (gs : Groups). AllLabelled gs.commits) (ap groups_read g) tt
+] h
+
 groups_labelled : (n at : ℕ) (last : Option ℕ) (bytes : List ℕ) (groups : Groups) → IsBytes bytes → groups_from n at last bytes ≡ Ok groups → AllLabelled groups.commits
 unfolding groups_from
 groups_labelled zero at last bytes groups b h = cc
 groups_labelled (suc n) at last [] groups b h = cc
 groups_labelled (suc n) at last (gate ∷ rest) groups b h =
-    elim (gate == 1) as (λ (t : Bool). (if t then elim (group_at last rest) as (λ _. Result Groups ℕ) [ None ↦ Err at | Some found ↦ with_first found.0 (groups_from n (at + 1 + found.1) (Some found.0.number) (drop found.1 rest)) ] else Ok (only_commits [])) ≡ Ok groups → AllLabelled groups.commits) [
-      | true ↦ λ g. elim (group_at last rest) as (λ (o : Option (Group × ℕ)). group_at last rest ≡ o → elim o as (λ _. Result Groups ℕ) [ None ↦ Err at | Some found ↦ with_first found.0 (groups_from n (at + 1 + found.1) (Some found.0.number) (drop found.1 rest)) ] ≡ Ok groups → AllLabelled groups.commits) [
-        | None ↦ λ _ e. cc
+    elim (gate == 1) as (λ (t : Bool). (if t then elim (group_at last rest) as (λ _. Result Groups ℕ) [ None ↦ last_group at last rest | Some found ↦ with_first found.0 (groups_from n (at + 1 + found.1) (Some found.0.number) (drop found.1 rest)) ] else Ok (only_commits [])) ≡ Ok groups → AllLabelled groups.commits) [
+      | true ↦ λ g. elim (group_at last rest) as (λ (o : Option (Group × ℕ)). group_at last rest ≡ o → elim o as (λ _. Result Groups ℕ) [ None ↦ last_group at last rest | Some found ↦ with_first found.0 (groups_from n (at + 1 + found.1) (Some found.0.number) (drop found.1 rest)) ] ≡ Ok groups → AllLabelled groups.commits) [
+        | None ↦ λ _ e. last_labelled at last rest groups e
         | Some found ↦ λ is e. elim (groups_from n (at + 1 + found.1) (Some found.0.number) (drop found.1 rest)) as (λ (r : Result Groups ℕ). groups_from n (at + 1 + found.1) (Some found.0.number) (drop found.1 rest) ≡ r → with_first found.0 r ≡ Ok groups → AllLabelled groups.commits) [
           | Ok more ↦ λ more_is k. subst (λ (gs : Groups). AllLabelled gs.commits) (ap groups_read k) (group_labelled last rest found b.1 is, groups_labelled n (at + 1 + found.1) (Some found.0.number) (drop found.1 rest) more (bytes-drop found.1 rest b.1) more_is)
           | Err p ↦ λ _ k. cc
@@ -130,8 +138,8 @@ tree_of_groups empty groups c labelled h =
 tree_beside : (empty : Bool) (journal : List ℕ) (c : Contents) → IsBytes journal → contents_beside empty journal ≡ Ok c → IsStoredTree c.entries
 unfolding contents_beside
 tree_beside empty journal c bytes h =
-    elim (read journal) as (λ (r : Result Groups ℕ). read journal ≡ r → elim r as (λ _. Result Contents Place) [ Ok groups ↦ contents_from empty groups | Err at ↦ Err (place_in Journal (first_broken empty journal at)) ] ≡ Ok c → IsStoredTree c.entries) [
-      | Ok groups ↦ λ is g. tree_of_groups empty groups c (read_labelled journal groups bytes is) g
+    elim (read journal) as (λ (r : Result Groups ℕ). read journal ≡ r → elim r as (λ _. Result Contents Place) [ Ok groups ↦ contents_from (has_no_pages empty groups) groups | Err at ↦ Err (place_in Journal (first_broken empty journal at)) ] ≡ Ok c → IsStoredTree c.entries) [
+      | Ok groups ↦ λ is g. tree_of_groups (has_no_pages empty groups) groups c (read_labelled journal groups bytes is) g
       | Err at ↦ λ _ g. cc
     ] refl h
 

@@ -17,31 +17,33 @@ use Rattle.node_records.specs.declared.open_error.File.TheVariants.{Journal, Pag
 use Rattle.journal.specs.Groups.{is_next}
 use Rattle.journal.specs.Heads.{first_gate}
 use Rattle.journal.specs.Journals.{header, read, is_fresh}
-use Rattle.journal.specs.Appends.{groups_read, last_number}
+use Rattle.std.specs.Prelude.{is_some}
+use Rattle.journal.specs.Appends.{groups_read, last_number, number_of}
 use Rattle.journal.specs.Groups.{only_commits}
 use Rattle.journal.specs.Openings.{LeavesSameGroups}
 use Rattle.journal.specs.Refusals.{BreaksJournal, HasReason, UnlessFault}
 use Rattle.journal.specs.declared.group.Group.{Group}
 use Rattle.journal.specs.declared.group.Groups.{Groups}
+use Rattle.journal.specs.declared.group.Images.{Images}
 use Rattle.journal.proofs.FreshSteps.{fresh_reads}
 use Rattle.recovery.specs.Causes.{IsFirst, IsPlaceOf}
-use Rattle.recovery.specs.Opened.{Contents, place_in, after_commits, last_of, first_is_one, contents_of, checked, contents_from, first_broken, contents_beside, contents_of_files, journal_made, KeepsJournal, LeavesSameContents}
+use Rattle.recovery.specs.Opened.{Contents, place_in, after_commits, last_of, first_is_one, contents_of, checked, contents_from, has_no_pages, first_broken, contents_beside, contents_of_files, journal_made, LeavesSameContents}
 use Rattle.recovery.specs.Openings.{FoundDamaged}
 use Rattle.recovery.specs.Trees.{StandForOne}
 
 -- where a journal is read, what it stands for hangs on its groups alone
-pub by_groups : (empty : Bool) (journal : List ℕ) (groups : Groups) → read journal ≡ Ok groups → contents_beside empty journal ≡ contents_from empty groups
+pub by_groups : (empty : Bool) (journal : List ℕ) (groups : Groups) → read journal ≡ Ok groups → contents_beside empty journal ≡ contents_from (has_no_pages empty groups) groups
 unfolding contents_beside
-by_groups empty journal groups h = ap (λ (r : Result Groups ℕ). elim r [ Ok gs ↦ contents_from empty gs | Err at ↦ Err (place_in Journal (first_broken empty journal at)) ]) h
+by_groups empty journal groups h = ap (λ (r : Result Groups ℕ). elim r [ Ok gs ↦ contents_from (has_no_pages empty gs) gs | Err at ↦ Err (place_in Journal (first_broken empty journal at)) ]) h
 
 -- where a rule of the journal is broken, it stands for a place
 pub by_damage : (empty : Bool) (journal : List ℕ) (at : ℕ) → read journal ≡ Err at → contents_beside empty journal ≡ Err (place_in Journal (first_broken empty journal at))
 unfolding contents_beside
-by_damage empty journal at h = ap (λ (r : Result Groups ℕ). elim r [ Ok gs ↦ contents_from empty gs | Err at ↦ Err (place_in Journal (first_broken empty journal at)) ]) h
+by_damage empty journal at h = ap (λ (r : Result Groups ℕ). elim r [ Ok gs ↦ contents_from (has_no_pages empty gs) gs | Err at ↦ Err (place_in Journal (first_broken empty journal at)) ]) h
 
 -- a page file that isn't empty is damaged beside a fresh journal
 pub fresh_beside : (journal : List ℕ) (empty : Bool) → is_fresh journal ≡ true → empty ≡ false → contents_beside empty journal ≡ Err (place_in Pages 0)
-fresh_beside journal empty fresh not_empty = by_groups empty journal (only_commits []) (fresh_reads journal fresh) ∙ ap (λ (b : Bool). contents_from b (only_commits [])) not_empty
+fresh_beside journal empty fresh not_empty = by_groups empty journal (only_commits []) (fresh_reads journal fresh) ∙ ap (λ (b : Bool). contents_from (has_no_pages b (only_commits [])) (only_commits [])) not_empty
 
 -- two fresh files stand for the same
 pub both_fresh : (empty : Bool) (a b : List ℕ) (groups : Groups) → read a ≡ Ok groups → read b ≡ Ok groups → contents_beside empty a ≡ contents_beside empty b
@@ -68,6 +70,18 @@ contents_are true groups c h = elim (first_is_one groups.commits) as (λ (b : Bo
     found_in other (Ok found) = found
     found_in other (Err place) = other
 
+-- beside pages commits stand for nothing
+pub beside_none : (no_pages : Bool) (groups : Groups) (c : Contents) → contents_from no_pages groups ≡ Ok c → contents_from true groups ≡ Ok c
+beside_none true groups c h = h
+beside_none false groups c h = cc
+
+-- without images the last number is that of the last commit
+pub unheld_number : (groups : Groups) → is_some groups.images ≡ false → number_of groups ≡ last_number None groups.commits
+unheld_number groups none = elim groups.images as (λ (o : Option Images). is_some o ≡ false → elim o as (λ _. Option ℕ) [ None ↦ last_number None groups.commits | Some images ↦ Some images.number ] ≡ last_number None groups.commits) [
+  | None ↦ λ _. refl
+  | Some images ↦ λ h. cc
+] none
+
 last_same : (groups : List Group) (n : ℕ) → last_number (Some n) groups ≡ Some (last_of groups n)
 last_same [] n = refl
 last_same (g ∷ groups) n = last_same groups g.number
@@ -78,15 +92,15 @@ follows [] = refl
 follows (g ∷ groups) = ap (λ (o : Option ℕ). is_next o (last_of groups g.number + 1)) (last_same groups g.number) ∙ eq-eqb (last_of groups g.number + 1) (last_of groups g.number + 1) refl
 
 -- a fresh journal beside an empty page file breaks no rule
-pub not_fresh : (empty : Bool) (journal : List ℕ) (groups : Groups) (place : Place) → read journal ≡ Ok groups → (empty ≡ false → is_fresh journal ≡ false) → contents_from empty groups ≡ Err place → is_fresh journal ≡ false
+pub not_fresh : (empty : Bool) (journal : List ℕ) (groups : Groups) (place : Place) → read journal ≡ Ok groups → (empty ≡ false → is_fresh journal ≡ false) → contents_from (has_no_pages empty groups) groups ≡ Err place → is_fresh journal ≡ false
 not_fresh empty journal groups place h made broken = elim (is_fresh journal) as (λ (b : Bool). is_fresh journal ≡ b → b ≡ false) [
   | true ↦ λ fresh.
       let none : only_commits [] ≡ groups = ap groups_read (sym (fresh_reads journal fresh) ∙ h) in
-      by_pages empty fresh made (ap (contents_from empty) none ∙ broken)
+      by_pages empty fresh made (ap (λ (gs : Groups). contents_from (has_no_pages empty gs) gs) none ∙ broken)
   | false ↦ λ _. refl
 ] refl
   where
-    by_pages : (b : Bool) → is_fresh journal ≡ true → (b ≡ false → is_fresh journal ≡ false) → contents_from b (only_commits []) ≡ Err place → true ≡ false
+    by_pages : (b : Bool) → is_fresh journal ≡ true → (b ≡ false → is_fresh journal ≡ false) → contents_from (has_no_pages b (only_commits [])) (only_commits []) ≡ Err place → true ≡ false
     by_pages true fresh made broken = cc
     by_pages false fresh made broken = sym fresh ∙ made refl
 

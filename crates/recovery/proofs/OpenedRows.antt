@@ -9,7 +9,7 @@ use Rattle.tree_model.specs.Names.{is_name, is_start_char, is_name_char}
 use Rattle.tree_model.specs.Tree.{empty_tree}
 use Rattle.node_records.specs.declared.open_error.File.TheVariants.{Journal, Pages}
 use Rattle.journal.specs.Bodies.{changes_in}
-use Rattle.journal.specs.Groups.{word_of, group_at}
+use Rattle.journal.specs.Groups.{word_of, group_at, images_at}
 use Rattle.journal.specs.Journals.{read, groups_from}
 use Rattle.journal.proofs.JournalRows.{new_journal, one_commit}
 use Rattle.recovery.specs.Opened.{Contents, place_in, contents_of_files, contents_beside}
@@ -54,9 +54,9 @@ unfolding contents_beside read groups_from group_at changes_in word_of is_utf8 c
 number_2 = refl
 
 last_gate_open : contents_of_files (slice_set one_commit 59 1) [] ≡ Err (place_in Journal 59)
-unfolding contents_beside read groups_from group_at changes_in word_of is_utf8 chars encode
+unfolding contents_beside read groups_from group_at images_at changes_in word_of is_utf8 chars encode
 last_gate_open = refl
 
 both : contents_of_files (slice_set (slice_set one_commit 13 2) 59 1) [] ≡ Err (place_in Journal 8)
-unfolding contents_beside read groups_from group_at changes_in word_of is_utf8 chars encode
+unfolding contents_beside read groups_from group_at images_at changes_in word_of is_utf8 chars encode
 both = refl

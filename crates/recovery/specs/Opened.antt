@@ -1,6 +1,6 @@
 -- What the two files of a store stand for, as long as the page file is empty (docs/FILE_FORMAT.md, "Opening").
-use Rattle.std.specs.Prelude.{◌≡◌, ◌⊎◌, ℕ, Bool, true, false, ◌&&◌, not, ◌==◌, nat_lt, if◌then◌else◌}
-use Rattle.std.specs.Prelude.{List, [], ◌∷◌, ◌++◌, Option, Some, None, Result, Ok, Err}
+use Rattle.std.specs.Prelude.{◌≡◌, ◌⊎◌, ℕ, Bool, true, ◌&&◌, not, ◌==◌, nat_lt, if◌then◌else◌}
+use Rattle.std.specs.Prelude.{List, [], ◌∷◌, ◌++◌, Some, None, is_some, Result, Ok, Err}
 use Rattle.dewey_labels.specs.Lists.{is_empty, is_one}
 use Rattle.outside_traits.specs.Moments.{History, LeavesOnly}
 use Rattle.tree_model.specs.Entries.{Entries, changed}
@@ -38,6 +38,11 @@ abbrev pub first_is_one : List Group → Bool
 first_is_one [] = true
 first_is_one (group ∷ groups) = group.number == 1
 
+-- the first of these commits, if there is one, has this number
+abbrev pub Begins : ℕ → List Group → Type 0
+Begins number [] = Unit {0}
+Begins number (group ∷ groups) = group.number ≡ number
+
 -- all commits of a store, from the empty one on
 abbrev pub contents_of : List Group → Contents
 contents_of groups = record { entries = after_commits groups []; number = last_of groups 0 }
@@ -49,12 +54,16 @@ checked contents = elim (broken_at contents.entries) [
   | Some at ↦ Err (place_in Tree at)
 ]
 
--- what a journal's groups stand for beside a page file that is empty or isn't
+-- what a journal's commits stand for where no pages stand beside them, or some do
 abbrev pub contents_from : Bool → Groups → Result Contents Place
-contents_from is_empty groups =
-    if not is_empty then Err (place_in Pages 0)
+contents_from no_pages groups =
+    if not no_pages then Err (place_in Pages 0)
     else if first_is_one groups.commits then checked (contents_of groups.commits)
     else Err (place_in Journal first_gate)
+
+-- no pages stand beside the commits: the page file is empty, and no images are to be put into it
+abbrev pub has_no_pages : Bool → Groups → Bool
+has_no_pages is_empty groups = is_empty && not (is_some groups.images)
 
 -- ---- a journal that breaks a rule
 
@@ -72,7 +81,7 @@ first_broken is_empty journal at = if is_empty && starts_wrong journal at then f
 -- or the place of the first rule that they break
 unfoldable pub contents_beside : Bool → List ℕ → Result Contents Place
 contents_beside is_empty journal = elim (read journal) [
-  | Ok groups ↦ contents_from is_empty groups
+  | Ok groups ↦ contents_from (has_no_pages is_empty groups) groups
   | Err at ↦ Err (place_in Journal (first_broken is_empty journal at))
 ]
 

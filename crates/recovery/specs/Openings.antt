@@ -1,12 +1,12 @@
 -- What the opening of a store leaves of its two disks (docs/FILE_FORMAT.md, "Opening").
-use Rattle.std.specs.Prelude.{◌≡◌, ◌+◌, ℕ, Bool, false, IsTrue, Ok, Err}
+use Rattle.std.specs.Prelude.{◌≡◌, ◌+◌, ℕ, Bool, IsTrue, Ok, Err}
 use Rattle.outside_traits.specs.DiskPairs.{Pair, PairsHave}
 use Rattle.outside_traits.specs.Disks.{Synced}
 use Rattle.outside_traits.specs.Moments.{History, IsAllSynced}
 use Rattle.tree_model.specs.Entries.{Entries}
 use Rattle.node_records.specs.declared.open_error.Place.{Place}
 use Rattle.journal.specs.Groups.{is_next}
-use Rattle.journal.specs.Views.{JournalView}
+use Rattle.journal.specs.Views.{JournalView, TakesGroups}
 use Rattle.recovery.specs.Opened.{contents_of_files, journal_made, KeepsJournal}
 use Rattle.recovery.specs.Trees.{StandForOne, StoodFor, LeaveWhatStood}
 
@@ -28,7 +28,7 @@ pub record AreOpened (journal_known pages_known : Bool) (old new : Pair) : Type 
 
 -- the journal takes the commit behind this number
 pub record TakesBehind (journal : JournalView) (number : ℕ) : Type 0 where
-  pub usable : journal.failed ≡ false
+  pub usable : TakesGroups journal
   pub next : IsTrue (is_next journal.last (number + 1))
 
 -- ---- a store that isn't opened

@@ -4,10 +4,11 @@ ghost use Rattle.tree_model.specs.Entries.{changed};
 ghost use Rattle.tree_model.specs.StoredTree.{broken_at};
 ghost use Rattle.outside_traits.specs.Bytes.{IsBytes};
 ghost use Rattle.journal.specs.Journals.{read};
+ghost use Rattle.journal.specs.Batches.{with_commits};
 ghost use Rattle.journal.specs.Groups.{with_commit};
 ghost use Rattle.journal.specs.declared.group.Group.{Group};
 ghost use Rattle.journal.specs.declared.group.Groups.{Groups};
-ghost use Rattle.recovery.specs.Opened.{Contents, contents_of_files};
+ghost use Rattle.recovery.specs.Opened.{Begins, Contents, after_commits, contents_of_files, last_of};
 ghost use Rattle.recovery.specs.Trees.{StandFor, StandForOne};
 ghost use Rattle.tree_model.specs.Tree.{empty_tree};
 
@@ -28,6 +29,16 @@ pub fn a_commit_more_is_opened()
     // Journals that are read as the same groups stand for the same.
     ensures same { (journal other pages : List ℕ) (groups : Groups) → read journal ≡ Ok groups → read other ≡ Ok groups
         → contents_of_files other pages ≡ contents_of_files journal pages }
+{}
+
+/// Many commits more, read at once, make of what two files stood for the map with all their changes and the last one's number.
+/// Nothing is asked of the states between.
+#[tactic(auto, using(crate::proofs::CommitLaws::many_more))]
+pub fn commits_more_are_opened()
+    ensures { (journal longer pages : List ℕ) (groups : Groups) (commits : List Group) (contents : Contents)
+        → read journal ≡ Ok groups → read longer ≡ Ok (with_commits groups commits) → contents_of_files journal pages ≡ Ok contents
+        → Begins (contents.number + 1) commits → broken_at (after_commits commits contents.entries) ≡ None
+        → contents_of_files longer pages ≡ Ok (record { entries = after_commits commits contents.entries; number = last_of commits contents.number }) }
 {}
 
 /// Where a store opens, its page file is empty.

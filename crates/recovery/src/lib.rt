@@ -17,7 +17,7 @@ mod rules;
 mod syncing;
 
 pub use laws::{
-    a_commit_more_is_opened, empty_files_stand_for_the_empty_tree, opened_files_are_trees,
-    pages_of_an_opened_store_are_empty,
+    a_commit_more_is_opened, commits_more_are_opened, empty_files_stand_for_the_empty_tree,
+    opened_files_are_trees, pages_of_an_opened_store_are_empty,
 };
 pub use opening::{Opened, StoreFault, open_store};

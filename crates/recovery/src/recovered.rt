@@ -6,6 +6,7 @@ ghost use Rattle.tree_model.specs.StoredTree.{IsStoredTree};
 ghost use Rattle.journal.specs.Groups.{is_next};
 ghost use Rattle.journal.specs.Journals.{is_fresh};
 ghost use Rattle.journal.specs.Refusals.{HasReason, UnlessFault};
+ghost use Rattle.journal.specs.Views.{TakesGroups};
 ghost use Rattle.recovery.specs.Opened.{KeepsJournal, LeavesSameContents, journal_made, contents_beside};
 
 use crate::contents::contents;
@@ -36,7 +37,7 @@ pub fn recover<J: Disk>(
     ensures opens_now { IfOk result (λ found. IsTrue J.is_known
         → contents_beside is_empty found.journal.history.now.reads ≡ Ok (record { entries = found.gathered.base; number = found.gathered.number })) }
     ensures tree { IfOk result (λ found. IsStoredTree found.gathered.base) }
-    ensures ok { IfOk result (λ found. found.journal.failed ≡ false) }
+    ensures ok { IfOk result (λ found. TakesGroups found.journal) }
     ensures next { IfOk result (λ found. IsTrue (is_next found.journal.last (found.gathered.number + 1))) }
     ensures synced { IfOk result (λ found. IsTrue J.is_known → IsAllSynced found.journal.history) }
     ensures bytes { IfOk result (λ found. IsTrue J.is_known → found.journal.history.now.reads ≡ journal_made (J.history journal).now.reads) }

@@ -1,10 +1,11 @@
 //! Journals byte by byte, stopped and failing at each call of their disk.
-ghost use Rattle.std.specs.Prelude.{◌≡◌, ◌++◌, [], false, None, Some, IsSome, IsTrue, IfOk, OnOk};
+ghost use Rattle.std.specs.Prelude.{◌≡◌, ◌++◌, [], false, is_some, None, Some, IsSome, IsTrue, IfOk, OnOk};
 ghost use Rattle.std.specs.List.{AllByRecursion};
 ghost use Rattle.tree_model.specs.Changes.{keys_rise};
 ghost use Rattle.node_records.specs.Changes.{IsWritableChange, changes_bytes};
 ghost use Rattle.journal.specs.Bodies.{changes_in};
 ghost use Rattle.journal.specs.Groups.{is_next};
+ghost use Rattle.journal.specs.Views.{TakesGroups};
 
 use dewey_labels::{List, NoMemory};
 use journal::{DiskFault, Groups, Journal, a_body_is_read_again};
@@ -39,7 +40,7 @@ const DUMP: &str = "
 ";
 
 /// A journal without commits.
-const NEW: &[u8] = b"\x01XTCJRN1\x00";
+pub const NEW: &[u8] = b"\x01XTCJRN1\x00";
 
 /// How wide the part of a line is that has bytes.
 const BYTES_WIDE: usize = 28;
@@ -72,13 +73,14 @@ fn bytes_of(alloc: Global, dump: &str) -> Result<List<u8>, NoMemory> {
 }
 
 /// The journal in a file, and its groups, on a disk that fails at the listed calls.
-fn opened(
+pub fn opened(
     alloc: Global,
     file: &[u8],
     fails: &[u64],
 ) -> Result<(Journal<MemDisk>, Groups), OpenError>
     ensures usable { IfOk result (λ opened. opened.0.failed ≡ false) }
-    ensures none { IfOk result (λ opened. opened.1.commits ≡ [] → opened.0.last ≡ None) }
+    ensures has_images { IfOk result (λ opened. opened.0.has_images ≡ is_some opened.1.images) }
+    ensures none { IfOk result (λ opened. opened.1.commits ≡ [] → is_some opened.1.images ≡ false → opened.0.last ≡ None) }
 {
     let file = List::from_vec(Vec::from_slice(alloc, file)?);
     let calls = List::from_vec(Vec::from_slice(alloc, fails)?);
@@ -89,12 +91,16 @@ fn opened(
 }
 
 /// The journal in a file without commits, on a disk that fails at the listed calls.
-fn empty_journal(alloc: Global, file: &[u8], fails: &[u64]) -> Result<Journal<MemDisk>, OpenError>
-    ensures usable { IfOk result (λ journal. journal.failed ≡ false) }
+pub fn empty_journal(
+    alloc: Global,
+    file: &[u8],
+    fails: &[u64],
+) -> Result<Journal<MemDisk>, OpenError>
+    ensures usable { IfOk result (λ journal. TakesGroups journal) }
     ensures last { IfOk result (λ journal. journal.last ≡ None) }
 {
     let (journal, groups) = opened(alloc, file, fails)?;
-    if groups.commits.is_empty() {
+    if groups.commits.is_empty() && groups.images.is_none() {
         Ok(journal)
     } else {
         Err(OpenError::NoMemory)
@@ -102,7 +108,7 @@ fn empty_journal(alloc: Global, file: &[u8], fails: &[u64]) -> Result<Journal<Me
 }
 
 /// The changes of the dump's commit.
-fn dumped_changes(alloc: Global) -> Result<Changes, Fail> {
+pub fn dumped_changes(alloc: Global) -> Result<Changes, Fail> {
     let bytes = bytes_of(alloc, DUMP)?;
     match opened(alloc, bytes.as_slice(), &[]) {
         Ok((_, groups)) => changes_of_last(groups),
@@ -137,7 +143,7 @@ fn write_changes(alloc: Global, changes: &[Change], out: &mut List<u8>) -> Resul
 }
 
 /// The body of a commit of these changes.
-fn body_of(alloc: Global, changes: &[Change]) -> Result<List<u8>, NoMemory>
+pub fn body_of(alloc: Global, changes: &[Change]) -> Result<List<u8>, NoMemory>
     ensures { IfOk result (λ body. IsSome (changes_in body)) }
 {
     let mut body = List::new(alloc);
@@ -147,15 +153,15 @@ fn body_of(alloc: Global, changes: &[Change]) -> Result<List<u8>, NoMemory>
 }
 
 /// Adds a commit of these changes.
-fn commit(
+pub fn commit(
     alloc: Global,
     journal: &mut Journal<MemDisk>,
     number: u32,
     changes: &[Change],
 ) -> Result<(), OpenError>
-    requires usable { journal.old.failed ≡ false }
+    requires usable { TakesGroups journal.old }
     requires next { IsTrue (is_next journal.old.last number) }
-    ensures usable { OnOk result (journal.new.failed ≡ false) }
+    ensures usable { OnOk result (TakesGroups journal.new) }
     ensures last { OnOk result (journal.new.last ≡ Some number) }
 {
     let body = body_of(alloc, changes)?;
@@ -170,7 +176,7 @@ fn commit(
 }
 
 /// How many commits a file has, or why it isn't opened.
-fn commits_in(alloc: Global, file: &[u8]) -> Result<usize, OpenError> {
+pub fn commits_in(alloc: Global, file: &[u8]) -> Result<usize, OpenError> {
     let (_, groups) = opened(alloc, file, &[])?;
     Ok(groups.commits.len())
 }
@@ -192,7 +198,7 @@ fn commits_after_stop(
 }
 
 /// The first bytes of the dump, with the byte at one place changed.
-fn changed(alloc: Global, keep: usize, at: usize, byte: u8) -> Result<List<u8>, NoMemory> {
+pub fn changed(alloc: Global, keep: usize, at: usize, byte: u8) -> Result<List<u8>, NoMemory> {
     let mut bytes = bytes_of(alloc, DUMP)?.into_vec();
     bytes.truncate(keep);
     if at < bytes.len() {
@@ -339,10 +345,10 @@ const STOPS: [(u64, (usize, usize)); 13] = [
 ];
 
 /// A call, and the fewest and the most commits that a stop in it leaves, or why one of its images isn't opened.
-type WrongStop = (u64, Result<(usize, usize), OpenError>);
+pub type WrongStop = (u64, Result<(usize, usize), OpenError>);
 
 /// The first of these calls in which a stop leaves other counts of commits than the row says, and what it leaves.
-fn first_wrong_stop(
+pub fn first_wrong_stop(
     alloc: Global,
     disk: &MemDisk,
     stops: &[(u64, (usize, usize))],

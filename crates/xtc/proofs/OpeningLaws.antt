@@ -1,5 +1,5 @@
 -- A store that was opened may be asked, and its files hold what is committed.
-use Rattle.std.proofs.Common.{◌≡◌, ℕ, ◌+◌, List, [], Bool, false, ◌&&◌, IsTrue, refl, ap, subst, sym, ◌∙◌, add-zero}
+use Rattle.std.proofs.Common.{◌≡◌, ℕ, ◌+◌, List, [], Bool, ◌&&◌, IsTrue, refl, ap, subst, sym, ◌∙◌, add-zero}
 use Rattle.std.specs.Prelude.{Some, Ok}
 use Rattle.std.proofs.lemmas.Option.{same_Some}
 use Rattle.outside_traits.specs.CrashImages.{IsImage}
@@ -10,7 +10,7 @@ use Rattle.tree_model.specs.Entries.{Entries}
 use Rattle.tree_model.specs.Tree.{Tree}
 use Rattle.node_seq.specs.Trees.{StandsFor}
 use Rattle.journal.specs.Groups.{is_next}
-use Rattle.journal.specs.Views.{JournalView}
+use Rattle.journal.specs.Views.{JournalView, TakesGroups}
 use Rattle.recovery.specs.Opened.{contents_of_files}
 use Rattle.script_runs.specs.Machine.{IsReady, IsSettled}
 use Rattle.call_contract.specs.States.{State, start}
@@ -34,7 +34,7 @@ module _ {P : Type 0} (is_known : Bool) (history : P → History) (faults : P �
   pub opened_stands : (t : Tree) → StandsFor (Some base) t → Stands (opened_core base n limit) (start t n limit)
   opened_stands t stands = record { tree = t; opened = stands; state = refl }
 
-  pub opened_ready : (t : Tree) → StandsFor (Some base) t → journal.failed ≡ false → IsTrue (is_next journal.last (n + 1)) → IsReady (store_machine is_known history faults) opened
+  pub opened_ready : (t : Tree) → StandsFor (Some base) t → TakesGroups journal → IsTrue (is_next journal.last (n + 1)) → IsReady (store_machine is_known history faults) opened
   opened_ready t is usable next = record {
     state = start t n limit;
     stands = opened_stands t is;

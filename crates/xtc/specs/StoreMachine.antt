@@ -1,5 +1,5 @@
 -- A store's sessions over its two disks as a machine that does the lines of a script.
-use Rattle.std.specs.Prelude.{◌≡◌, ℕ, Bool, false, [], Some, IsTrue}
+use Rattle.std.specs.Prelude.{◌≡◌, ℕ, Bool, [], Some, IsTrue}
 use Rattle.outside_traits.specs.Disks.{all_synced}
 use Rattle.outside_traits.specs.DiskPairs.{pair_of}
 use Rattle.outside_traits.specs.Moments.{History, IsAllSynced}
@@ -7,7 +7,7 @@ use Rattle.tree_model.specs.Entries.{Entries}
 use Rattle.tree_model.specs.Tree.{Tree}
 use Rattle.node_seq.specs.Trees.{StandsFor}
 use Rattle.journal.specs.Groups.{is_next}
-use Rattle.journal.specs.Views.{JournalView}
+use Rattle.journal.specs.Views.{JournalView, TakesGroups}
 use Rattle.script_runs.specs.Machine.{Machine}
 use Rattle.call_contract.specs.States.{State}
 use Rattle.command_lines.specs.declared.command.StoreCall.{StoreCall}
@@ -31,7 +31,7 @@ pub record Stands (core : CoreView StoreCall Entries) (s : State StoreCall) : Ty
 
 -- the journal takes the next commit
 pub record IsUsable {P : Type 0} (k : KeptStore P) : Type 0 where
-  pub usable : k.journal.failed ≡ false
+  pub usable : TakesGroups k.journal
   pub next : IsTrue (is_next k.journal.last (next_number k.core))
 
 -- a crash leaves of each file what a read gives: the journal stands for what is committed in the core's state, and the pages are empty

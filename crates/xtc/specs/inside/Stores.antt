@@ -1,11 +1,11 @@
 -- What a line leaves of the core and the journal of a store.
-use Rattle.std.specs.Prelude.{◌≡◌, ◌⊎◌, ◌≤◌, ℕ, Bool, false, List, [], None, Some, IsTrue}
+use Rattle.std.specs.Prelude.{◌≡◌, ◌⊎◌, ◌≤◌, ℕ, Bool, List, [], None, Some, IsTrue}
 use Rattle.outside_traits.specs.Moments.{History, IsAllSynced, LeavesOnly}
 use Rattle.tree_model.specs.Entries.{Entries}
 use Rattle.tree_model.specs.Tree.{Tree}
 use Rattle.node_seq.specs.Trees.{StandsFor}
 use Rattle.journal.specs.Groups.{is_next}
-use Rattle.journal.specs.Views.{JournalView}
+use Rattle.journal.specs.Views.{JournalView, TakesGroups}
 use Rattle.script_runs.specs.Counts.{CountedWhere}
 use Rattle.call_contract.specs.Books.{IsBookFrom}
 use Rattle.call_contract.specs.States.{State}
@@ -30,7 +30,7 @@ IsLegalCore core = (t : Tree) → StandsFor (Some core.opening) t → IsBookFrom
 
 -- the journal takes the core's next commit
 pub record TakesNext (core : CoreView StoreCall Entries) (journal : JournalView) : Type 0 where
-  pub usable : journal.failed ≡ false
+  pub usable : TakesGroups journal
   pub next : IsTrue (is_next journal.last (next_number core))
 
 -- and the core stands in some state

@@ -1,8 +1,8 @@
 use Rattle.std.proofs.Common.{◌≡◌, ◌+◌, ◌∙◌, IsTrue, inl, inr, sym, ap, subst}
 use Rattle.outside_traits.specs.Moments.{History}
 use Rattle.journal.specs.Groups.{is_next}
-use Rattle.recovery.specs.Opened.{Contents, LeavesSameContents, contents_from}
-use Rattle.recovery.proofs.OpenedLaws.{by_groups, contents_are, follows, not_fresh, journal_moments, reason_of, untouched_of, damage_of, first_reason, made_or_same, unless_of, unless_then, unless_both, unless_first}
+use Rattle.recovery.specs.Opened.{Contents, LeavesSameContents, contents_from, has_no_pages}
+use Rattle.recovery.proofs.OpenedLaws.{by_groups, contents_are, follows, not_fresh, journal_moments, reason_of, untouched_of, damage_of, first_reason, made_or_same, unheld_number, unless_of, unless_then, unless_both, unless_first}
 use Rattle.recovery.proofs.recovered.recover.Goals as goal
 
 pub returns-in-Ok-contents-clause-opens : goal.returns-in-Ok-contents-clause-opens
@@ -15,8 +15,8 @@ returns-in-Ok-contents-clause-opens_now g c is_known =
 
 pub returns-in-Ok-contents-clause-next : goal.returns-in-Ok-contents-clause-next
 returns-in-Ok-contents-clause-next g c =
-    let number = ap (λ (found : Contents). found.number) (contents_are c.args.is_empty c.in-Ok.groups _ c.in-Ok-contents.ensures.opens) in
-    let last = c.in-Ok.ensures.ready.last in
+    let number = ap (λ (found : Contents). found.number) (contents_are (has_no_pages c.args.is_empty c.in-Ok.groups) c.in-Ok.groups _ c.in-Ok-contents.ensures.opens) in
+    let last = c.in-Ok.ensures.ready.last ∙ unheld_number c.in-Ok.groups c.in-Ok-contents.ensures.alone in
     (λ i. is_next (last i) (number i + 1)) ∙ follows c.in-Ok.groups.commits
 
 pub returns-in-Ok-contents-clause-any_moment : goal.returns-in-Ok-contents-clause-any_moment
@@ -31,7 +31,7 @@ returns-in-Err-contents-clause-any_moment g c is_known =
 
 pub returns-in-Err-contents-clause-reason : goal.returns-in-Err-contents-clause-reason
 returns-in-Err-contents-clause-reason g c =
-    reason_of (IsTrue g.J.Disk.is_known) _ (contents_from c.args.is_empty c.in-Ok.groups) _ c.in-Err-contents.fault c.in-Err-contents.ensures.damage
+    reason_of (IsTrue g.J.Disk.is_known) _ (contents_from (has_no_pages c.args.is_empty c.in-Ok.groups) c.in-Ok.groups) _ c.in-Err-contents.fault c.in-Err-contents.ensures.damage
     (λ is_known. by_groups c.args.is_empty (g.J.Disk.history c.args.journal).now.reads c.in-Ok.groups (c.in-Ok.ensures.opens is_known).stood)
 
 pub returns-in-Err-contents-clause-untouched : goal.returns-in-Err-contents-clause-untouched
@@ -39,7 +39,7 @@ returns-in-Err-contents-clause-untouched g c =
     untouched_of _ c.in-Err-contents.fault (λ place is is_known.
     c.into_disk.ensures.history ∙ (c.in-Ok.ensures.opens is_known).same
     (not_fresh c.args.is_empty (g.J.Disk.history c.args.journal).now.reads c.in-Ok.groups place (c.in-Ok.ensures.opens is_known).stood (c.requires.made is_known)
-    (damage_of (contents_from c.args.is_empty c.in-Ok.groups) c.in-Err-contents.fault place c.in-Err-contents.ensures.damage is)))
+    (damage_of (contents_from (has_no_pages c.args.is_empty c.in-Ok.groups) c.in-Ok.groups) c.in-Err-contents.fault place c.in-Err-contents.ensures.damage is)))
 
 pub returns-in-Err-clause-any_moment : goal.returns-in-Err-clause-any_moment
 returns-in-Err-clause-any_moment g c is_known =
@@ -74,3 +74,6 @@ pub returns-in-Err-clause-uncounted : goal.returns-in-Err-clause-uncounted
 returns-in-Err-clause-uncounted g c =
     let before = unless_first (g.J.Disk.faults c.in-Err.refused.disk ≡ g.J.Disk.faults c.args.journal) (IsTrue g.J.Disk.is_known) c.args.is_empty (g.J.Disk.history c.in-Err.refused.disk).now.reads _ c.in-Err.refused.fault c.first_fault-fault.result c.first_fault-fault.ensures.first c.in-Err.ensures.uncounted in
     unless_both _ _ _ c.first_fault-fault.result (λ last first. last ∙ first) c.first_fault-fault.ensures.uncounted before
+
+pub returns-in-Ok-contents-clause-ok : goal.returns-in-Ok-contents-clause-ok
+returns-in-Ok-contents-clause-ok g c = record { unfailed = c.in-Ok.ensures.ready.usable; unheld = c.in-Ok.ensures.ready.has_images ∙ c.in-Ok-contents.ensures.alone }
