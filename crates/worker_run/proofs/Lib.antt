@@ -1,0 +1,5 @@
+mod WorkLaws
+mod MergeLaws
+mod RunLaws
+mod SeatLaws
+mod Sent

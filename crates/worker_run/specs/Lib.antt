@@ -1,0 +1,4 @@
+pub mod Ports
+pub mod Workers
+-- words that private functions alone use
+pub mod inside

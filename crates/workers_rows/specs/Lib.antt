@@ -1,0 +1,2 @@
+-- the worked text
+pub mod Rows

@@ -1,0 +1,2 @@
+mod SessionLaws
+mod OtherSessions
