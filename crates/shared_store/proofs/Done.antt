@@ -15,7 +15,7 @@ use Rattle.shared_store.specs.inside.Desks.{AddsUnder, IsSession}
 use Rattle.shared_store.proofs.Desks.{grew}
 
 module _ {C B : Type 0} where
-  abbrev seen_as : PassView (Entry C B) → ℕ → SessionView C B
+  abbrev pub seen_as : PassView (Entry C B) → ℕ → SessionView C B
   seen_as p under = record { lock = p.lock; seen = p.seen; has = p.has; under = under }
 
   -- what was added under the session's number may be given back
@@ -54,7 +54,7 @@ module _ {C B : Type 0} where
   no_book has all (kind.Noted n ∷ es) f a = let l = f.0 in absurd (true≢false (sym (all n.session (omega arith)) ∙ a.0))
   no_book has all (kind.Drained k ∷ es) f a = no_book has all es f a.1
 
-  book_append : (xs ys : List (Entry C B)) → book_of (xs ++ ys) ≡ book_of xs ++ book_of ys
+  pub book_append : (xs ys : List (Entry C B)) → book_of (xs ++ ys) ≡ book_of xs ++ book_of ys
   book_append [] ys = refl
   book_append (kind.Opening o n l b d ∷ xs) ys = book_append xs ys
   book_append (kind.Noted n ∷ xs) ys = λ i. n ∷ book_append xs ys i

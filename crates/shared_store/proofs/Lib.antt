@@ -2,3 +2,4 @@ pub mod Weaves
 pub mod Desks
 pub mod Done
 pub mod Sent
+pub mod Waiting

@@ -3,3 +3,4 @@ pub mod Calls
 pub mod Sessions
 -- words that only private functions and the proof use
 pub mod inside
+pub mod Waits

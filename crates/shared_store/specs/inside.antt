@@ -1,2 +1,3 @@
 -- Words of private functions and of the proof.
 pub mod Desks
+pub mod Ends

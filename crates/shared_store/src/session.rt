@@ -1,13 +1,16 @@
 //! The store and its sessions.
 
-ghost use Rattle.std.specs.Prelude.{◌≡◌, ◌≢◌, ◌<◌, [], false, true, None, IfOk, IfErr, slice_set};
+ghost use Rattle.std.specs.Prelude.{◌≡◌, ◌≢◌, ◌<◌, [], false, true, None, IfOk, IfErr, OnOk, slice_set};
 ghost use Rattle.call_contract.specs.Sessions.{live_in};
+ghost use Rattle.tx_core.specs.Cores.{waits_in};
 ghost use Rattle.turn_lock.specs.Turns.{all_numbers, GoesOn, HasAll, has_number, longer, merged, only_number};
 ghost use Rattle.shared_store.specs.Calls.{HasAborted, HasBegun, HasCommitted, HasDrained, HasTried, HasTriedAgain};
+ghost use Rattle.shared_store.specs.Waits.{HasCalled, HasCalledAgain};
 ghost use Rattle.shared_store.specs.Lists.{book_of, list_of, number_of, SessionsFit};
 ghost use Rattle.shared_store.specs.Sessions.{HasDone, having_seen, IsOpenedAs};
 
 use crate::desk::Desk;
+use crate::ended::{Ended, first_end, later_end};
 use crate::errors::StoreError;
 use call_contract::{Answer, TreeCall};
 use dewey_labels::List;
@@ -122,6 +125,54 @@ impl<C: TreeCall + Drop, B: NodeRead + Drop> Session<C, B> {
         result
     }
 
+    /// Makes a call, and tries it again until it needn't wait: each time once the list has grown since this session saw it.
+    /// It waits without the turn, as long as others take to end their transactions. It answers a deadlock, which ends the transaction, and it doesn't begin it anew.
+    pub fn call<R: Wait>(
+        &mut self,
+        rt: &R,
+        alloc: Global,
+        store: &Store<C, B>,
+        call: C,
+    ) -> Result<Ended, StoreError>
+        requires { self.old.lock ≡ store.now }
+        ensures { HasDone self.old self.new (λ before after. HasCalled B.count B.contents C.meaning self.old.has before self.old.under call result after) }
+    {
+        match first_end(self.try_call(rt, alloc, store, call)) {
+            Some(result) => result,
+            None => self.try_until_ended(rt, alloc, store),
+        }
+    }
+
+    // Tries the call that waits again, each time after the list has grown, until it needn't wait.
+    fn try_until_ended<R: Wait>(
+        &mut self,
+        rt: &R,
+        alloc: Global,
+        store: &Store<C, B>,
+    ) -> Result<Ended, StoreError>
+        requires store { self.old.lock ≡ store.now }
+        requires waits { waits_in (live_in (book_of self.old.seen) self.old.under) ≡ true }
+        ensures same { self.new ≡ having_seen self.new.seen self.old }
+        ensures ended { HasCalledAgain B.count B.contents C.meaning self.old.has self.old.seen self.old.under result self.new.seen }
+    {
+        for _ in rt.forever() {
+            self.await_growth(rt, store);
+            if let Some(result) = later_end(self.try_again(rt, alloc, store)) {
+                return result;
+            }
+        }
+        unreachable!()
+    }
+
+    // Sleeps until the list is longer than what the session has seen.
+    fn await_growth<R: Wait>(&mut self, rt: &R, store: &Store<C, B>)
+        requires { self.old.lock ≡ store.now }
+        ensures same { self.new ≡ self.old }
+        ensures own { has_number self.new.has self.new.under ≡ true }
+    {
+        store.lock.await_growth(rt, &mut self.pass);
+    }
+
     /// Commits, and answers the commit's number.
     pub fn commit<R: Wait>(
         &mut self,
@@ -130,7 +181,8 @@ impl<C: TreeCall + Drop, B: NodeRead + Drop> Session<C, B> {
         store: &Store<C, B>,
     ) -> Result<u32, StoreError>
         requires { self.old.lock ≡ store.now }
-        ensures { HasDone self.old self.new (λ before after. HasCommitted B.contents C.meaning before self.old.under result after) }
+        ensures done { HasDone self.old self.new (λ before after. HasCommitted B.contents C.meaning before self.old.under result after) }
+        ensures ended { OnOk result (live_in (book_of self.new.seen) self.new.under ≡ None) }
     {
         let mut turn = store.lock.take(rt, &mut self.pass);
         let result = turn.value.commit(alloc, self.number);
@@ -138,10 +190,11 @@ impl<C: TreeCall + Drop, B: NodeRead + Drop> Session<C, B> {
         result
     }
 
-    /// Ends the transaction, a waiting call with it. It takes no memory.
+    /// Ends the transaction, a waiting call with it. The session then has none, whatever the answer. It takes no memory.
     pub fn abort<R: Wait>(&mut self, rt: &R, store: &Store<C, B>) -> Result<(), StoreError>
         requires { self.old.lock ≡ store.now }
-        ensures { HasDone self.old self.new (λ before after. HasAborted before self.old.under result after) }
+        ensures done { HasDone self.old self.new (λ before after. HasAborted before self.old.under result after) }
+        ensures ended { live_in (book_of self.new.seen) self.new.under ≡ None }
     {
         let mut turn = store.lock.take(rt, &mut self.pass);
         let result = turn.value.abort(self.number);

@@ -1,6 +1,7 @@
 use Rattle.std.proofs.Common.{ℕ, refl}
 use Rattle.shared_store.specs.Calls.{HasAborted}
 use Rattle.shared_store.proofs.Done.{done, grew_at, session_stays}
+use Rattle.shared_store.proofs.Waiting.{aborted_ended}
 use Rattle.shared_store.proofs.session.Session.abort.Goals as goal
 
 pub give-requires-clause-grew : goal.give-requires-clause-grew
@@ -9,7 +10,10 @@ give-requires-clause-grew g c = grew_at c.self.inside.pass c.take-turn.new.pass 
 pub invariant_of-self : goal.invariant_of-self
 invariant_of-self g c = session_stays c.self.inside.pass c.take-turn.new.pass c.give.new.pass c.self.inside.number _ _ c.self.invariant c.take-turn.ensures.pass c.give.ensures.pass refl
 
-pub returns : goal.returns
-returns g c =
+pub returns-clause-done : goal.returns-clause-done
+returns-clause-done g c =
     done (λ (s : ℕ). λ before after. HasAborted before s c.abort-result.result after) c.args.self.now c.self.inside.pass c.take-turn.new.pass c.give.new.pass c.self.inside.number _ _ c.self.view_is c.take-turn.ensures.pass c.take-turn.ensures.goes_on c.give.ensures.pass
     c.abort-result.ensures.told
+
+pub returns-clause-ended : goal.returns-clause-ended
+returns-clause-ended g c = aborted_ended c.args.self.now _ c.abort-result.result (returns-clause-done g c)
