@@ -261,7 +261,7 @@ some_last x [] none = cc
 some_last x (y ∷ ys) none = some_last y ys none
 
 -- each of these keys is that of the last entry, or lies below it; more entries may follow
-to_last : (xs more : List Entry) (start : Option Entry) (e : Entry) (last : Option Key) (h : Option (List ℕ × ℕ)) → Runs last h (xs ++ more) → last_behind start xs ≡ Some e → AllByRecursion (λ x. IsFrom x.key e.key) xs
+pub to_last : (xs more : List Entry) (start : Option Entry) (e : Entry) (last : Option Key) (h : Option (List ℕ × ℕ)) → Runs last h (xs ++ more) → last_behind start xs ≡ Some e → AllByRecursion (λ x. IsFrom x.key e.key) xs
 to_last [] more start e last h runs is = tt
 to_last (x ∷ xs) more start e last h runs is =
     let follow = keys_follow x.key (hand_after h x.last x.bytes) (xs ++ more) runs.2 in

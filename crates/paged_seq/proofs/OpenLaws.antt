@@ -4,9 +4,7 @@ use Rattle.std.specs.Prelude.{Option, Some, None, Result, Ok, Err}
 use Rattle.std.specs.Result.{IfErr, IsErrAnd}
 use Rattle.std.proofs.lemmas.Option.{none-some, same_Some}
 use Rattle.std.proofs.lemmas.Result.{err_from_is_err_and}
-use Rattle.node_pages.specs.DirectoryPages.{Compared, at_end, at_directory_end}
 use Rattle.tree_model.specs.Entries.{Entries}
-use Rattle.outside_traits.specs.Moments.{History}
 use Rattle.node_pages.proofs.FileLaws.{indexed}
 use Rattle.node_pages.specs.PageFiles.{Index, IsIndex, contents_of_file, file_page, index_behind, index_of_file}
 use Rattle.paged_seq.specs.PagedMaps.{entries_or_none, file_entries, map_of_file, records_of, valid_entries}
@@ -15,8 +13,8 @@ use Rattle.node_pages.specs.declared.page_start.PageStart.{PageStart}
 use Rattle.node_records.specs.declared.open_error.OpenError.{OpenError}
 use Rattle.node_records.specs.declared.open_error.OpenError.TheVariants.{Damaged, DiskFault, NoMemory}
 use Rattle.page_store.specs.Pages.{page_of}
-use Rattle.node_pages.specs.PagesIn.{after_pages, compared, starts_in}
-use Rattle.node_pages.specs.Scanning.{Scanned, no_pages, after_page, and_then}
+use Rattle.node_pages.specs.PagesIn.{after_pages, starts_in}
+use Rattle.node_pages.specs.Scanning.{and_then}
 use Rattle.paged_seq.specs.PagedFiles.{HasReason, IsIndexOf, IsPageWith, index_at}
 
 take_whole : (n : ℕ) (bytes : List ℕ) → length bytes ≤ n → take n bytes ≡ bytes

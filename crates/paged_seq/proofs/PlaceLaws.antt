@@ -4,32 +4,33 @@ use Rattle.std.proofs.lemmas.Bool.{eqb-true}
 use Rattle.std.proofs.lemmas.List.{drop-drop}
 use Rattle.std.proofs.lemmas.Option.{cond_some, none-some, same_Some}
 use Rattle.std.specs.List.{AllByRecursion}
-use Rattle.std.specs.Prelude.{if◌then◌else◌, is_some, option_map}
+use Rattle.std.specs.Prelude.{if◌then◌else◌, is_some, IsSome, IsTrue, option_map}
 use Rattle.byteorder.specs.Endian.{big_number}
 use Rattle.tree_model.specs.declared.key.Key.{Key}
 use Rattle.tree_model.specs.Keys.{key_cmp}
-use Rattle.tree_model.proofs.Keys.{key_total, key_tied}
+use Rattle.tree_model.proofs.Keys.{key_itself, key_total, key_tied, key_turned}
 use Rattle.node_records.specs.declared.entries.Entry.{Entry}
 use Rattle.node_records.specs.Entries.{flag_of, is_chunk}
 use Rattle.page_store.specs.Pages.{page_of}
 use Rattle.outside_traits.specs.Bytes.{IsBytes}
+use Rattle.outside_traits.specs.Moments.{History}
 use Rattle.node_records.proofs.EntryLaws.{entry_written}
 use Rattle.node_records.proofs.ReadLaws.{bind_some}
 use Rattle.node_pages.specs.Chunks.{whole_record}
 use Rattle.node_pages.specs.EntryForm.{entry_read}
 use Rattle.node_pages.specs.Filling.{joined, last_behind}
 use Rattle.node_pages.specs.Following.{Runs, hand_after, NonePass, HeadPasses}
-use Rattle.node_pages.specs.PageFiles.{EachHas, IsIndex}
+use Rattle.node_pages.specs.PageFiles.{EachHas, IsIndex, file_page}
 use Rattle.node_pages.specs.PageStarts.{start_of, starts_from}
 use Rattle.node_pages.specs.PagesIn.{items_or_none, data_pages_from, entries_from}
 use Rattle.node_pages.specs.Reading.{are_zeros, items_in, items_and_zeros, page_in}
 use Rattle.node_pages.specs.declared.page_start.PageStart.{PageStart}
-use Rattle.node_pages.proofs.RunLaws.{IsFrom, keys_follow}
+use Rattle.node_pages.proofs.RunLaws.{IsFrom, all_mapped, hand_behind, keys_follow, keys_rise, last_key, runs_behind}
 use Rattle.tree_model.specs.declared.record.Record.{Record}
 use Rattle.node_records.specs.Records.{record_bytes}
 use Rattle.paged_seq.specs.PagedMaps.{chunk_count, chunks_found, chunks_of_entry}
-use Rattle.paged_seq.proofs.MapLaws.{IsSplit}
-use Rattle.paged_seq.specs.Places.{comes, passes, NextPasses, LastFails, HasPassed, HasFound, Advances, read_or_none, rest_at, IsPlace, HasArrived, HasRead, IsFull, Parts}
+use Rattle.paged_seq.proofs.MapLaws.{IsSplit, to_last}
+use Rattle.paged_seq.specs.Places.{comes, passes, NextPasses, LastFails, HasPassed, HasFound, Advances, read_or_none, rest_at, IsPlace, HasArrived, HasRead, IsFull, Parts, IsBehind, MayBeKept, EndsRecord}
 use Rattle.paged_seq.specs.declared.place.Place.{Place}
 
 -- ---- the items of a page
@@ -463,6 +464,71 @@ full_next before next full is = subst IsFull is full
 pub split_of : (page : ℕ → List ℕ) (index : List PageStart) (k : Key) (b : Bool) (p : Place) → IsIndex page index → (s : Parts page (length index) (passes k b) p)
     → IsSplit k b (entries_from page 1 (length index)) s.below (rest_at page (length index) p)
 split_of page index k b p is s = record { runs = is.runs; parts = s.parts; none = s.none; first = s.first }
+
+-- ---- a place behind some of the entries
+
+pub parts_behind : (page : ℕ → List ℕ) (count : ℕ) (test : Key → Bool) (p : Place) → Parts page count test p → IsBehind page count p
+parts_behind page count test p s = record { place = s.place; below = s.below; parts = s.parts; last = s.last }
+
+behind_read : (page : ℕ → List ℕ) (count : ℕ) (below rest : List Entry) (q : Place) (read : Bool) → read ≡ true → entries_from page 1 count ≡ below ++ rest → IsPlace page count q → HasRead rest read q.before (rest_at page count q) → IsBehind page count q
+behind_read page count below [] q read some parts place h = cc (some, h)
+behind_read page count below (e ∷ es) q read some parts place h = record {
+  place = place;
+  below = below ++ e ∷ [];
+  parts = parts ∙ sym (append_assoc below (e ∷ []) es) ∙ ap (λ (l : List Entry). (below ++ e ∷ []) ++ l) (sym h.2);
+  last = last_more None below e ∙ sym h.1;
+}
+
+-- the entry behind it was read
+pub behind_on : (page : ℕ → List ℕ) (count : ℕ) (p q : Place) (read : Bool) → read ≡ true → IsBehind page count p → IsPlace page count q → HasRead (rest_at page count p) read q.before (rest_at page count q) → IsBehind page count q
+behind_on page count p q read some b place h = behind_read page count b.below (rest_at page count p) q read some b.parts place h
+
+last_key_of : (xs : List Entry) (start : Option Entry) (last : Option Key) (e : Entry) → last ≡ option_map (λ (x : Entry). x.key) start → last_behind start xs ≡ Some e → last_key last xs ≡ Some e.key
+last_key_of [] start last e is found = is ∙ ap (λ (o : Option Entry). option_map (λ (x : Entry). x.key) o) found
+last_key_of (x ∷ xs) start last e is found = last_key_of xs (Some x) (Some x.key) e refl found
+
+-- behind a last chunk no record is in hand
+no_hand : (xs : List Entry) (start : Option Entry) (h : Option (List ℕ × ℕ)) (e : Entry) → ((x : Entry) → start ≡ Some x → x.last ≡ true → h ≡ None) → last_behind start xs ≡ Some e → e.last ≡ true → hand_behind h xs ≡ None
+no_hand [] start h e none is ends = none e is ends
+no_hand (x ∷ xs) start h e none is ends =
+    no_hand xs (Some x) (hand_after h x.last x.bytes) e (λ y same last. ap (λ (b : Bool). hand_after h b x.bytes) (ap (λ (z : Entry). z.last) (same_Some x y same) ∙ last)) is ends
+
+head_rises : (k : Key) (rest : List Entry) (last : Option Key) (h : Option (List ℕ × ℕ)) → last ≡ Some k → h ≡ None → Runs last h rest → HeadPasses (passes k true) rest
+head_rises k [] last h is none runs = tt
+head_rises k (x ∷ xs) last h is none runs =
+    let all = keys_rise k (x ∷ xs) (subst (λ (l : Option Key). Runs l None (x ∷ xs)) is (subst (λ (g : Option (List ℕ × ℕ)). Runs last g (x ∷ xs)) none runs)) in
+    ap (comes true) (key_turned k x.key all.0)
+
+-- where the record at a key ends before it, it parts the entries beyond the key from the others
+pub parts_behind_record : (page : ℕ → List ℕ) (index : List PageStart) (k : Key) (p : Place) → IsIndex page index → IsBehind page (length index) p → EndsRecord k p → Parts page (length index) (passes k true) p
+parts_behind_record page index k p is b ends =
+    let e : Entry = ends.chunk in
+    let rest = rest_at page (length index) p in
+    let last : last_behind None b.below ≡ Some e = b.last ∙ ends.before in
+    let runs : Runs None None (b.below ++ rest) = subst (Runs None None) b.parts is.runs in
+    let key : last_key None b.below ≡ Some k = last_key_of b.below None None e refl last ∙ ap Some ends.key in
+    let none : hand_behind None b.below ≡ None = no_hand b.below None None e (λ x same ended. refl) last ends.last in
+    let fails : passes k true e.key ≡ false = ap (λ (x : Key). passes k true x) ends.key ∙ ap (comes true) (key_itself k) in
+    record {
+      place = b.place;
+      below = b.below;
+      parts = b.parts;
+      none =
+          all_mapped (λ (x : Entry). IsFrom x.key e.key) (λ (x : Entry). passes k true x.key ≡ false) (λ x from. fails_before k true x.key e.key from fails) b.below (to_last b.below rest None e None None runs last);
+      first = head_rises k rest (last_key None b.below) (hand_behind None b.below) key none (runs_behind b.below rest None None runs);
+      last = b.last;
+    }
+
+-- a place behind a record may be kept
+pub may_keep : (is_known : Bool) (file : List ℕ) (count : ℕ) (kept : Option Place) (p : Place) (found : Option Record) → IfSome kept (λ q. (q ≡ p) × IsSome found) → p.at ≤ 8_192
+    → (IsSome found → IsTrue is_known → IsBehind (file_page file) count p) → IfSome kept (MayBeKept is_known file count)
+may_keep is_known file count None p found kept within behind = tt
+may_keep is_known file count (Some q) p found kept within behind = subst (MayBeKept is_known file count) (sym kept.0) (record { within = within; behind = behind kept.1 })
+
+-- what is kept of a file may be kept of one that is the same where it is known
+pub kept_on : (is_known : Bool) (a b : History) (count : ℕ) (kept : Option Place) → (IsTrue is_known → b ≡ a) → IfSome kept (MayBeKept is_known a.now.reads count) → IfSome kept (MayBeKept is_known b.now.reads count)
+kept_on is_known a b count None same may = tt
+kept_on is_known a b count (Some p) same may = record { within = may.within; behind = λ known. subst (λ (h : History). IsBehind (file_page h.now.reads) count p) (sym (same known)) (may.behind known) }
 
 -- what the chunks of a record cost behind so many reads
 pub cost_of : (old mid new : ℕ) (found : Option Record) (r : Record) → mid ≤ old + 2 → found ≡ Some r → IfSome found (λ x. 1_024 * new ≤ 1_024 * mid + length (record_bytes x)) → new ≤ old + 2 + chunks_found found

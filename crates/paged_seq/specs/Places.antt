@@ -1,5 +1,5 @@
 -- Places among the entries of data pages, and what a search finds there.
-use Rattle.std.specs.Prelude.{◌≡◌, ◌≤◌, ◌<◌, ℕ, ◌+◌, ◌*◌, ◌-◌, Bool, true, false, not, List, [], ◌∷◌, ◌++◌, length, drop, Option, Some, None, IfSome, is_some, option_and_then}
+use Rattle.std.specs.Prelude.{◌≡◌, ◌≤◌, ◌<◌, ℕ, ◌+◌, ◌*◌, ◌-◌, Bool, true, false, not, IsTrue, List, [], ◌∷◌, ◌++◌, length, drop, Option, Some, None, IfSome, is_some, option_and_then}
 use Rattle.std.specs.declared.cmp.Ordering.{Ordering}
 use Rattle.std.specs.declared.cmp.Ordering.TheVariants.{Less, Equal, Greater}
 use Rattle.tree_model.specs.Keys.{key_cmp}
@@ -11,9 +11,11 @@ use Rattle.node_pages.specs.Chunks.{whole_record}
 use Rattle.node_pages.specs.EntryForm.{entry_read}
 use Rattle.node_pages.specs.Filling.{last_behind}
 use Rattle.node_pages.specs.Following.{NonePass, HeadPasses}
+use Rattle.node_pages.specs.PageFiles.{Index, file_page}
 use Rattle.node_pages.specs.PagesIn.{entries_from}
 use Rattle.node_pages.specs.Reading.{items_in}
 use Rattle.node_pages.specs.declared.page_start.PageStart.{PageStart}
+use Rattle.paged_seq.specs.PagedFiles.{IsIndexOf}
 use Rattle.paged_seq.specs.declared.place.Place.{Place}
 
 -- a place with these parts
@@ -106,6 +108,32 @@ pub record Parts (page : ℕ → List ℕ) (count : ℕ) (test : Key → Bool) (
 -- how many steps a place may still take, at most
 abbrev pub steps_left : ℕ → Place → ℕ
 steps_left count p = (count - p.page) * 65_536 + p.left
+
+-- ---- a place that is kept between reads
+
+-- a place behind some of the entries, the last of which stands before it
+pub record IsBehind (page : ℕ → List ℕ) (count : ℕ) (p : Place) : Type 0 where
+  pub place : IsPlace page count p
+  pub below : List Entry
+  pub parts : entries_from page 1 count ≡ below ++ rest_at page count p
+  pub last : last_behind None below ≡ p.before
+
+-- a place may be kept: of a known file it lies behind some of the entries
+pub record MayBeKept (is_known : Bool) (file : List ℕ) (count : ℕ) (p : Place) : Type 0 where
+  pub within : p.at ≤ 8_192
+  pub behind : IsTrue is_known → IsBehind (file_page file) count p
+
+-- before a place stands the last chunk of the record at a key
+pub record EndsRecord (k : Key) (p : Place) : Type 0 where
+  pub chunk : Entry
+  pub before : p.before ≡ Some chunk
+  pub last : chunk.last ≡ true
+  pub key : chunk.key ≡ k
+
+-- the index of an open file, and a place that may be kept of it
+pub record IsOpenAt (is_known : Bool) (file : List ℕ) (i : Index) (kept : Option Place) : Type 0 where
+  pub index : IsIndexOf is_known file i
+  pub passed : IfSome kept (MayBeKept is_known file (length i.starts))
 
 -- ---- the record that was begun
 

@@ -8,7 +8,7 @@ ghost use Rattle.node_seq.specs.declared.node_read.SeqError.TheVariants.{DiskFau
 ghost use Rattle.node_seq.specs.Reads.{LiesAbove, LiesBelow};
 ghost use Rattle.tree_model.specs.Entries.{first_above, get, last_below};
 ghost use Rattle.paged_seq.specs.PagedMaps.{chunks_found, chunks_of_entry, records_of};
-ghost use Rattle.paged_seq.specs.Places.{HasArrived, HasRead, IsFull, IsPlace, Parts, begun_record, passes, rest_at, steps_left};
+ghost use Rattle.paged_seq.specs.Places.{HasArrived, HasRead, IsBehind, IsFull, IsPlace, MayBeKept, Parts, begun_record, passes, rest_at, steps_left};
 
 use crate::place::Place;
 use crate::search::{COUNT_BYTES, advance, pages_before, seek};
@@ -210,6 +210,9 @@ impl<P: Disk + Drop> PageFile<P> {
             read place.new.before (rest_at (file_page (P.history self.old.disk).now.reads) (length starts.now) place.new)) }
         ensures within { OnOk result (place.new.at ≤ 8_192) }
         ensures place { OnOk result (IsTrue P.is_known → IsPlace (file_page (P.history self.old.disk).now.reads) (length starts.now) place.new) }
+        ensures behind { IfOk result (λ read. IsTrue read → IsTrue P.is_known
+            → IsBehind (file_page (P.history self.old.disk).now.reads) (length starts.now) place.old
+            → IsBehind (file_page (P.history self.old.disk).now.reads) (length starts.now) place.new) }
         ensures full { IfOk result (λ read. IsTrue read → IsFull place.new.before) }
         ensures shorter { IfOk result (λ read. IsTrue read → steps_left (length starts.now) place.new < steps_left (length starts.now) place.old) }
         ensures reads { self.new.pool.reads ≤ self.old.pool.reads + 1 }
@@ -239,6 +242,10 @@ impl<P: Disk + Drop> PageFile<P> {
         requires full { IsFull place.old.before }
         ensures record { IfOk result (λ found. IsTrue P.is_known
             → found ≡ begun_record place.old.before (rest_at (file_page (P.history self.old.disk).now.reads) (length starts.now) place.old)) }
+        ensures within { OnOk result (place.new.at ≤ 8_192) }
+        ensures behind { IfOk result (λ found. IsSome found → IsTrue P.is_known
+            → IsBehind (file_page (P.history self.old.disk).now.reads) (length starts.now) place.old
+            → IsBehind (file_page (P.history self.old.disk).now.reads) (length starts.now) place.new) }
         ensures reads { IfOk result (λ found. IfSome found (λ r. 1_024 * self.new.pool.reads ≤ 1_024 * self.old.pool.reads + length (record_bytes r))) }
         ensures same { IsTrue P.is_known → P.history self.new.disk ≡ P.history self.old.disk }
         ensures cause { HasCause DiskFault (P.faults self.old.disk) (P.faults self.new.disk) result }
@@ -294,22 +301,50 @@ impl<P: Disk + Drop> PageFile<P> {
         Ok(found)
     }
 
+    /// The place before the first entry beyond the key. The one that is kept is it where the key's record ends there; another one is looked for.
+    fn place_above(
+        &mut self,
+        alloc: Global,
+        starts: &[PageStart],
+        passed: Option<Place>,
+        key: &Key,
+    ) -> Result<Place, SeqError>
+        requires few { length starts.now < 2 ^ 32 }
+        requires index { IsTrue P.is_known → IsIndex (file_page (P.history self.old.disk).now.reads) starts.now }
+        requires passed { IfSome passed (MayBeKept P.is_known (P.history self.old.disk).now.reads (length starts.now)) }
+        ensures within { IfOk result (λ p. p.at ≤ 8_192) }
+        ensures parts { IfOk result (λ p. IsTrue P.is_known
+            → Parts (file_page (P.history self.old.disk).now.reads) (length starts.now) (passes key.now true) p) }
+        ensures reads { self.new.pool.reads ≤ self.old.pool.reads + 1 }
+        ensures same { IsTrue P.is_known → P.history self.new.disk ≡ P.history self.old.disk }
+        ensures cause { HasCause DiskFault (P.faults self.old.disk) (P.faults self.new.disk) result }
+    {
+        match passed {
+            Some(place) if place.ends_record(key) => Ok(place),
+            _ => self.find(alloc, starts, key, true),
+        }
+    }
+
     /// The entry with the least key above a key. At most three pages are read, and one a chunk of the record.
+    /// It goes on at the place behind the record that was answered last, where the key is that one's.
     pub fn entry_above(
         &mut self,
         alloc: Global,
         starts: &[PageStart],
+        passed: &mut Option<Place>,
         key: &Key,
     ) -> Result<Option<(Key, Record)>, SeqError>
         requires few { length starts.now < 2 ^ 32 }
         requires index { IsTrue P.is_known → IsIndex (file_page (P.history self.old.disk).now.reads) starts.now }
+        requires passed { IfSome passed.old (MayBeKept P.is_known (P.history self.old.disk).now.reads (length starts.now)) }
+        ensures passed { IfSome passed.new (MayBeKept P.is_known (P.history self.old.disk).now.reads (length starts.now)) }
         ensures value { IfOk result (λ found. IsTrue P.is_known → found ≡ first_above key.now (records_of (file_page (P.history self.old.disk).now.reads) (length starts.now))) }
         ensures above { IfOk result (LiesAbove key.now) }
         ensures reads { IfOk result (λ found. IsTrue P.is_known → self.new.pool.reads ≤ self.old.pool.reads + 3 + chunks_of_entry found) }
         ensures same { IsTrue P.is_known → P.history self.new.disk ≡ P.history self.old.disk }
         ensures cause { HasCause DiskFault (P.faults self.old.disk) (P.faults self.new.disk) result }
     {
-        let mut place = self.find(alloc, starts, key, true)?;
+        let mut place = self.place_above(alloc, starts, passed.take(), key)?;
         if !self.step(alloc, starts, &mut place)? {
             return Ok(None);
         }
@@ -321,6 +356,7 @@ impl<P: Disk + Drop> PageFile<P> {
         }
         let at = entry.key.copy(alloc)?;
         let found = self.rest_of_record(alloc, starts, &mut place)?;
+        *passed = place_behind(&found, place);
         Ok(at_key(at, found))
     }
 
@@ -350,6 +386,16 @@ impl<P: Disk + Drop> PageFile<P> {
             }
             None => Ok(None),
         }
+    }
+}
+
+/// The place, if it is behind a record.
+fn place_behind(found: &Option<Record>, place: Place) -> Option<Place>
+    ensures { IfSome result (λ p. (p ≡ place) × IsSome found.now) }
+{
+    match found {
+        Some(_) => Some(place),
+        None => None,
     }
 }
 

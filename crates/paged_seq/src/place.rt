@@ -1,7 +1,9 @@
 //! Places among the entries of a file's data pages.
-ghost use Rattle.std.specs.Prelude.{◌≡◌, None};
+ghost use Rattle.std.specs.Prelude.{◌≡◌, None, IsTrue};
+ghost use Rattle.paged_seq.specs.Places.{EndsRecord};
 
 use node_records::Entry;
+use tree_model::Key;
 
 /// A place among the entries of data pages: before an entry, or behind the last one of a page.
 #[derive(Drop)]
@@ -29,6 +31,16 @@ impl Place {
             at: 0,
             left: 0,
             before: None,
+        }
+    }
+
+    /// Whether the last chunk of the record at a key stands before it.
+    pub fn ends_record(&self, key: &Key) -> bool
+        ensures { IsTrue result → EndsRecord key.now self.now }
+    {
+        match &self.before {
+            Some(chunk) => chunk.last && chunk.key.cmp(key).is_eq(),
+            None => false,
         }
     }
 }

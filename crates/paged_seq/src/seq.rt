@@ -11,6 +11,7 @@ ghost use Rattle.paged_seq.specs.PagedMaps.{chunks_found, chunks_of_entry, file_
 
 use crate::opening::{PagesFault, read_index};
 use crate::page_file::PageFile;
+use crate::place::Place;
 use crate::valid::{pass_over, valid_at};
 use dewey_labels::List;
 use node_pages::PageStart;
@@ -28,16 +29,19 @@ pub struct PagedSeq<P: Disk + Drop> {
     file: PageFile<P>,
     base: u32,
     starts: List<PageStart>,
+    /// Behind the record that was answered last by `entry_above`: a walk goes on there.
+    passed: Option<Place>,
 }
 
 impl<P: Disk + Drop> Model for PagedSeq<P> {
-    ghost use Rattle.paged_seq.specs.PagedFiles.{IsIndexOf, PagedView, index_at};
+    ghost use Rattle.paged_seq.specs.PagedFiles.{PagedView, index_at};
+    ghost use Rattle.paged_seq.specs.Places.{IsOpenAt};
 
     ghost Value = { PagedView P };
 
     ghost view = { λ s. record { disk = s.file.disk; pool = s.file.pool; index = index_at s.base s.starts } };
 
-    ghost invariant = { λ s. IsIndexOf P.is_known (P.history s.file.disk).now.reads (index_at s.base s.starts) };
+    ghost invariant = { λ s. IsOpenAt P.is_known (P.history s.file.disk).now.reads (index_at s.base s.starts) s.passed };
 }
 
 impl<P: Disk + Drop> PagedSeq<P> {
@@ -54,7 +58,12 @@ impl<P: Disk + Drop> PagedSeq<P> {
     {
         let mut file = PageFile::new(disk, pool);
         match read_index(alloc, &mut file) {
-            Ok((base, starts)) => Ok(PagedSeq { file, base, starts }),
+            Ok((base, starts)) => Ok(PagedSeq {
+                file,
+                base,
+                starts,
+                passed: None,
+            }),
             Err(fault) => {
                 let (disk, pool) = file.into_parts();
                 Err(PagesFault { fault, disk, pool })
@@ -98,6 +107,7 @@ impl<P: Disk + Drop> PagedSeq<P> {
     }
 
     /// The entry with the least key above a key, of all. At most three pages are read, and one a chunk of the record.
+    /// Above the key that it answered last it goes on at its place, so a walk takes each entry once.
     pub fn entry_above(
         &mut self,
         alloc: Global,
@@ -110,7 +120,9 @@ impl<P: Disk + Drop> PagedSeq<P> {
         ensures index { self.new.index ≡ self.old.index }
         ensures cause { HasCause DiskFault (P.faults self.old.disk) (P.faults self.new.disk) result }
     {
-        let found = self.file.entry_above(alloc, self.starts.as_slice(), key);
+        let found = self
+            .file
+            .entry_above(alloc, self.starts.as_slice(), &mut self.passed, key);
         found
     }
 

@@ -4,7 +4,7 @@ use Rattle.node_records.specs.Records.{record_of}
 use Rattle.node_records.specs.declared.entries.Entry.{Entry}
 use Rattle.node_pages.specs.Chunks.{whole_record}
 use Rattle.node_pages.specs.PageFiles.{file_page}
-use Rattle.paged_seq.specs.Places.{HasRead, IsPlace, rest_at}
+use Rattle.paged_seq.specs.Places.{HasRead, IsBehind, IsPlace, rest_at}
 use Rattle.paged_seq.proofs.PlaceLaws.{full_next, none_whole, read_none, whole_on}
 use Rattle.paged_seq.proofs.page_file.PageFile.rest_of_record.Goals as goal
 
@@ -39,6 +39,9 @@ loop-last-preserved g c =
       same = λ known. c.step.ensures.same known ∙ inv.same known;
       faults = c.in_ok-step.ensures.cause.exact ∙ inv.faults;
       place = λ known. subst (λ (h : History). IsPlace (file_page h.now.reads) count c.step.new.place) (inv.same known) (c.in_ok-step.ensures.place known);
+      behind = λ known b.
+          subst (λ (h : History). IsBehind (file_page h.now.reads) count c.loop-last.place → IsBehind (file_page h.now.reads) count c.step.new.place) (inv.same known)
+          (c.in_ok-step.ensures.behind c.if-not-branch.false known) (inv.behind known b);
       whole = λ known.
           let page = file_page (g.P.Disk.history c.args.self.now.disk).now.reads in
           let read : HasRead (rest_at page count c.loop-last.place) c.in_ok-step.field-0 c.step.new.place.before (rest_at page count c.step.new.place) =

@@ -2,7 +2,7 @@ use Rattle.std.proofs.Common.{◌≡◌, ◌≤◌, ◌+◌, ◌*◌, false, IsT
 use Rattle.node_records.specs.Records.{record_of}
 use Rattle.node_pages.specs.Chunks.{whole_record}
 use Rattle.node_pages.specs.PageFiles.{file_page}
-use Rattle.paged_seq.specs.Places.{IsPlace, begun_record, rest_at, steps_left}
+use Rattle.paged_seq.specs.Places.{IsBehind, IsPlace, begun_record, rest_at, steps_left}
 use Rattle.paged_seq.proofs.page_file.PageFile.rest_of_record.Given as goal
 
 abbrev pub invariant-loop-last : goal.invariant-loop-last
@@ -11,6 +11,8 @@ invariant-loop-last g l = record {
   same : IsTrue g.P.Disk.is_known → g.P.Disk.history l.self.disk ≡ g.P.Disk.history l.fn.self.disk;
   faults : g.P.Disk.faults l.self.disk ≡ g.P.Disk.faults l.fn.self.disk;
   place : IsTrue g.P.Disk.is_known → IsPlace (file_page (g.P.Disk.history l.fn.self.disk).now.reads) (length l.starts) l.place;
+  behind : IsTrue g.P.Disk.is_known → IsBehind (file_page (g.P.Disk.history l.fn.self.disk).now.reads) (length l.starts) l.fn.place
+      → IsBehind (file_page (g.P.Disk.history l.fn.self.disk).now.reads) (length l.starts) l.place;
   whole : IsTrue g.P.Disk.is_known
       → begun_record l.fn.place.before (rest_at (file_page (g.P.Disk.history l.fn.self.disk).now.reads) (length l.starts) l.fn.place)
       ≡ option_and_then record_of (whole_record l.last l.bytes (rest_at (file_page (g.P.Disk.history l.fn.self.disk).now.reads) (length l.starts) l.place));

@@ -11,12 +11,12 @@ use Rattle.paged_seq.proofs.seq.PagedSeq.entry_above.Goals as goal
 pub entry_above-found-requires-clause-index : goal.entry_above-found-requires-clause-index
 entry_above-found-requires-clause-index g c known =
     let file = (g.P.Disk.history c.self.inside.file.disk).now.reads in
-    subst (λ (ss : List PageStart). IsIndex (file_page file) ss) (sym c.as_slice.ensures) (open_pages g.P.Disk.is_known file (index_at c.self.inside.base c.self.inside.starts) c.self.invariant known)
+    subst (λ (ss : List PageStart). IsIndex (file_page file) ss) (sym c.as_slice.ensures) (open_pages g.P.Disk.is_known file (index_at c.self.inside.base c.self.inside.starts) c.self.invariant.index known)
 
 pub returns-clause-value : goal.returns-clause-value
 returns-clause-value g c =
     let file = (g.P.Disk.history c.self.inside.file.disk).now.reads in
     MatchResult-weaker c.entry_above-found.result c.entry_above-found.ensures.value (λ found value known.
     value known ∙ ap (λ (ss : List PageStart). first_above c.args.key.now (records_of (file_page file) (length ss))) c.as_slice.ensures
-    ∙ ap (first_above c.args.key.now) (sym (open_entries g.P.Disk.is_known file (index_at c.self.inside.base c.self.inside.starts) c.self.invariant known))
+    ∙ ap (first_above c.args.key.now) (sym (open_entries g.P.Disk.is_known file (index_at c.self.inside.base c.self.inside.starts) c.self.invariant.index known))
     ∙ (λ i. first_above c.args.key.now (file_entries (g.P.Disk.history (c.self.view_is i).disk).now.reads))) (λ e other. other)

@@ -11,12 +11,12 @@ use Rattle.paged_seq.proofs.seq.PagedSeq.record_at.Goals as goal
 pub record_at-found-requires-clause-index : goal.record_at-found-requires-clause-index
 record_at-found-requires-clause-index g c known =
     let file = (g.P.Disk.history c.self.inside.file.disk).now.reads in
-    subst (λ (ss : List PageStart). IsIndex (file_page file) ss) (sym c.as_slice.ensures) (open_pages g.P.Disk.is_known file (index_at c.self.inside.base c.self.inside.starts) c.self.invariant known)
+    subst (λ (ss : List PageStart). IsIndex (file_page file) ss) (sym c.as_slice.ensures) (open_pages g.P.Disk.is_known file (index_at c.self.inside.base c.self.inside.starts) c.self.invariant.index known)
 
 pub returns-clause-value : goal.returns-clause-value
 returns-clause-value g c =
     let file = (g.P.Disk.history c.self.inside.file.disk).now.reads in
     MatchResult-weaker c.record_at-found.result c.record_at-found.ensures.value (λ found value known.
     value known ∙ ap (λ (ss : List PageStart). get c.args.key.now (records_of (file_page file) (length ss))) c.as_slice.ensures
-    ∙ ap (get c.args.key.now) (sym (open_entries g.P.Disk.is_known file (index_at c.self.inside.base c.self.inside.starts) c.self.invariant known))
+    ∙ ap (get c.args.key.now) (sym (open_entries g.P.Disk.is_known file (index_at c.self.inside.base c.self.inside.starts) c.self.invariant.index known))
     ∙ (λ i. get c.args.key.now (file_entries (g.P.Disk.history (c.self.view_is i).disk).now.reads))) (λ e other. other)
