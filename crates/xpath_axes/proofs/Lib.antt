@@ -8,3 +8,4 @@ mod ReadCounts
 mod TreeLooks
 pub mod Running
 mod LabelWays
+pub mod RowsAhead

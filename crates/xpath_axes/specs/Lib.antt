@@ -3,5 +3,6 @@ pub mod LookReads
 pub mod Looks
 pub mod Positions
 pub mod Runs
+pub mod Wholes
 -- words that only private clauses use
 pub mod inside

@@ -11,6 +11,7 @@ mod looks;
 mod nodes;
 mod noted;
 mod position;
+mod wholes;
 
 pub use attributes::{at_attribute, at_attributes};
 pub use axes::{axis, put_behind};
@@ -20,3 +21,4 @@ pub use looks::{Looks, NoLooks};
 pub use nodes::{at_node, at_row, at_tree};
 pub use noted::{see_node, see_row, see_tree};
 pub use position::Position;
+pub use wholes::{keep_if, row_ahead};
