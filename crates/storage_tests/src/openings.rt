@@ -214,6 +214,16 @@ fn a_wrong_first_number_comes_before_a_later_group_but_not_before_one_of_images(
     Ok(())
 }
 
+/// Images of no page behind the commit, with its number.
+const IMAGES: &[u8] = b"\x01\x01\0\0\0\x01\0\0\0\x04\0\0\0\0\0";
+
+#[test]
+fn a_store_with_images_is_damaged_in_its_pages(rt: HostRuntime) -> Result<(), Fail> {
+    let found = opens_with_number(rt.alloc(), 1, IMAGES);
+    assert_eq!(rt; found, damaged(File::Pages, 0));
+    Ok(())
+}
+
 /// The same of a journal before pages.
 const BEFORE_PAGES: [(usize, usize, u8, Stands); 6] = [
     (0, 0, 0, Err((File::Pages, 0))),
