@@ -1,11 +1,11 @@
 -- From what each worker has done to what the run of all of them leaves.
-use Rattle.std.proofs.Common.{◌≡◌, ◌∙◌, ◌<◌, ◌≤◌, ◌+◌, ◌==◌, ℕ, Bool, cond, true, false, zero, suc, refl, sym, ap, ap₂, subst, arith, List, [], ◌∷◌, ◌++◌, map, length, Option, Some, None}
+use Rattle.std.proofs.Common.{◌≡◌, ◌∙◌, ◌<◌, ◌==◌, ℕ, Bool, cond, true, false, suc, refl, sym, ap, ap₂, subst, arith, List, [], ◌∷◌, ◌++◌, length, Option, Some, None}
 use Rattle.std.specs.List.{AllByRecursion, AllZip, slice_index_or}
 use Rattle.command_lines.specs.declared.command.Command.{Command}
 use Rattle.command_lines.specs.declared.line_reply.LineReply.{LineReply}
 use Rattle.worker_run.specs.declared.port.PortFault.{PortFault}
 use Rattle.worker_run.specs.declared.worker.Worker.{Worker}
-use Rattle.worker_run.specs.Ports.{Ended, Exchange, Ports}
+use Rattle.worker_run.specs.Ports.{Exchange, Ports}
 use Rattle.worker_run.specs.Workers.{DidAll, DoesLines, HasReplied, HasWorked, HaveOnePort, Went, commands_given, own_exchanges, first_fault, own_lines, or_fault, ports_of}
 use Rattle.worker_run.specs.inside.Merging.{AllServed, AreFull, AreMerged, HaveOneSeat, IsSeated, Seat, own_replies, ports_in, seats, seats_of}
 use Rattle.worker_run.specs.inside.Working.{HasServed, replies_given}

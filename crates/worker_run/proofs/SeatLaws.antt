@@ -1,5 +1,5 @@
 -- How ports go into workers and come out again, from the last to the first.
-use Rattle.std.proofs.Common.{◌≡◌, ◌∙◌, ◌<◌, ◌+◌, ℕ, suc, refl, sym, ap, subst, arith, List, [], ◌∷◌, ◌++◌, map, length, take, append_assoc, append-nil, length-append}
+use Rattle.std.proofs.Common.{◌≡◌, ◌∙◌, ◌<◌, ◌+◌, ℕ, suc, sym, ap, subst, arith, List, [], ◌∷◌, ◌++◌, map, length, take, append_assoc}
 use Rattle.std.specs.Prelude.{reverse}
 use Rattle.std.specs.List.{AllByRecursion, AllZip, slice_index_or}
 use Rattle.std.proofs.lemmas.List.{map-append, reverse-append}

@@ -6,7 +6,7 @@ use Rattle.command_lines.specs.declared.command.Command.{Command}
 use Rattle.command_lines.specs.declared.line_reply.LineReply.{LineReply}
 use Rattle.worker_run.specs.declared.port.PortFault.{PortFault}
 use Rattle.worker_run.specs.Ports.{Ended, Exchange, LineDone, Ports}
-use Rattle.worker_run.specs.Workers.{DoesLines, HasWorked, Went, own_lines}
+use Rattle.worker_run.specs.Workers.{DoesLines, Went, own_lines}
 use Rattle.worker_run.specs.inside.Working.{HasAnswered, RoomFor, HasServed, SoFar}
 
 -- ---- the next line

@@ -1,10 +1,9 @@
 -- How far a worker has come.
-use Rattle.std.specs.Prelude.{◌≡◌, ◌+◌, ◌≤◌, ℕ, List, ◌++◌, map, length, drop, Option, Some, None}
+use Rattle.std.specs.Prelude.{◌≡◌, ◌+◌, ◌≤◌, ℕ, List, ◌++◌, map, length, drop, None}
 use Rattle.command_lines.specs.declared.command.Command.{Command}
 use Rattle.command_lines.specs.declared.line_reply.LineReply.{LineReply}
-use Rattle.worker_run.specs.declared.port.PortFault.{PortFault}
-use Rattle.worker_run.specs.Ports.{Ended, Exchange, Ports}
-use Rattle.worker_run.specs.Workers.{DoesLines, HasWorked, Went, commands_given, own_lines}
+use Rattle.worker_run.specs.Ports.{Exchange, Ports}
+use Rattle.worker_run.specs.Workers.{HasWorked, Went, commands_given, own_lines}
 
 -- the replies of these commands
 abbrev pub replies_given : List Exchange → List LineReply

@@ -1,4 +1,4 @@
-use Rattle.std.proofs.Common.{◌≡◌, sym, subst, List, Ok, Some, None}
+use Rattle.std.proofs.Common.{◌≡◌, sym, subst, List, Ok, None}
 use Rattle.command_lines.specs.declared.line_reply.LineReply.{LineReply}
 use Rattle.worker_run.specs.Workers.{first_fault}
 use Rattle.worker_run.specs.inside.Merging.{AllServed, ports_in}

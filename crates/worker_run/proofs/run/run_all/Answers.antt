@@ -1,4 +1,4 @@
-use Rattle.std.proofs.Common.{◌<◌, ℕ, length, slice_index_or, subst}
+use Rattle.std.proofs.Common.{slice_index_or, subst}
 use denote.Param.Send.{sendable}
 use Rattle.std.proofs.alloc.Global.TheSendSync as heap
 use Rattle.command_lines.proofs.Sent.{command_sync}
