@@ -2,3 +2,4 @@ mod Parts
 mod Chains
 mod Opened
 mod Orders
+mod DownSteps

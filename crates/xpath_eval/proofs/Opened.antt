@@ -32,7 +32,7 @@ apply_opened o es = search (rules, the_lemmas)
 
 -- ---- lists
 
-take_all : {A : Type 0} (xs : List A) (n : ℕ) → n ≡ length xs → take n xs ≡ xs
+pub take_all : {A : Type 0} (xs : List A) (n : ℕ) → n ≡ length xs → take n xs ≡ xs
 take_all [] zero h = refl
 take_all [] (suc n) h = refl
 take_all (x ∷ xs) zero h = absurd (omega (arith, h))

@@ -1,6 +1,8 @@
 //! Expressions, predicates and steps (XPath 1.0, sections 2 and 3): nothing recurses along a chain, a list of steps or of operands.
-ghost use Rattle.std.specs.Prelude.{◌≡◌, ◌∷◌, [], ◌++◌, length, OnOk, IfOk, if◌then◌else◌};
+ghost use Rattle.std.specs.Prelude.{◌≡◌, ◌∷◌, [], ◌++◌, length, IfOk, IsTrue};
 ghost use Rattle.outside_traits.specs.Faults.{HasCause};
+ghost use Rattle.path_model.specs.declared.path.Axis.TheVariants as along;
+ghost use Rattle.path_model.specs.declared.path.Step.{out-Step};
 ghost use Rattle.path_model.specs.Evaluation as program;
 ghost use Rattle.path_model.specs.Paths.{apply};
 ghost use Rattle.path_model.specs.PlainPaths.{plain_row, plain_way};
@@ -12,7 +14,7 @@ ghost use Rattle.xpath_axes.specs.Runs.{Runs};
 ghost use Rattle.xpath_eval.specs.Values.{meant, all_meant};
 ghost use Rattle.xpath_eval.specs.inside.Chains.{both, chain_of, is_decided, linked};
 ghost use Rattle.xpath_eval.specs.inside.Contexts.{stands};
-ghost use Rattle.xpath_eval.specs.inside.Steps.{from_node};
+ghost use Rattle.xpath_eval.specs.inside.Steps.{from_node, IsWholeIn, LeadsDown};
 
 use crate::context::Context;
 use crate::operations::applied;
@@ -20,9 +22,9 @@ use crate::order::in_document_order;
 use crate::value::XValue;
 use dewey_labels::{List, NoMemory, Text};
 use node_seq::{NodeRead, SeqError};
-use path_model::{Expr, Op, Step};
+use path_model::{Axis, Expr, NodeTest, Op, Step};
 use std::alloc::Global;
-use xpath_axes::{Looks, Position, axis, document_label, put_behind, see_node};
+use xpath_axes::{Looks, Position, axis, document_label, keep_if, put_behind, row_ahead, see_node};
 
 /// The value of an expression.
 #[cycle(evaluation)]
@@ -186,11 +188,61 @@ pub(crate) fn taken<S: NodeRead, W: Looks>(
     ensures cause { HasCause SeqError.DiskFault (S.count seq.old) (S.count seq.new) result }
 {
     let mut nodes = from;
+    // Whether they are all from one node down.
+    let mut is_whole = false;
     for step in steps {
-        let found = stepped(alloc, step, nodes.as_slice(), seq, looks)?;
+        let before = nodes.as_slice();
+        let goes_down = leads_down(step, before);
+        let found = stepped_on(alloc, step, before, is_whole, seq, looks)?;
         nodes = in_document_order(alloc, found)?;
+        is_whole = goes_down;
     }
     Ok(nodes)
+}
+
+/// A step from each node. Where they are all from one node down, the children of each are among them.
+#[cycle(evaluation)]
+fn stepped_on<S: NodeRead, W: Looks>(
+    alloc: Global,
+    step: &Step,
+    from: &[Position],
+    is_whole: bool,
+    seq: &mut S,
+    looks: &mut W,
+) -> Result<List<Position>, SeqError>
+    requires whole { IsTrue is_whole → IsWholeIn (S.contents seq.now) (all_plain from.now) }
+    ensures run { Runs S.reads W.saw S.contents (gathered (from_node step.now) (all_plain from.now)) all_plain seq.old looks.old result seq.new looks.new }
+    ensures unchanged { S.unchanged seq.old seq.new }
+    ensures cause { HasCause SeqError.DiskFault (S.count seq.old) (S.count seq.new) result }
+{
+    match step.axis {
+        Axis::Child if is_whole => stepped_ahead(alloc, step, from, seq, looks),
+        _ => stepped(alloc, step, from, seq, looks),
+    }
+}
+
+/// A step to the children of each node, of all from one node down. The map isn't read for them.
+#[cycle(evaluation)]
+fn stepped_ahead<S: NodeRead, W: Looks>(
+    alloc: Global,
+    step: &Step,
+    whole: &[Position],
+    seq: &mut S,
+    looks: &mut W,
+) -> Result<List<Position>, SeqError>
+    requires child { (out-Step step.now).axis ≡ along.Child }
+    requires whole { IsWholeIn (S.contents seq.now) (all_plain whole.now) }
+    ensures run { Runs S.reads W.saw S.contents (gathered (from_node step.now) (all_plain whole.now)) all_plain seq.old looks.old result seq.new looks.new }
+    ensures unchanged { S.unchanged seq.old seq.new }
+    ensures cause { HasCause SeqError.DiskFault (S.count seq.old) (S.count seq.new) result }
+{
+    let mut all = List::new(alloc);
+    for (index, node) in whole.iter().enumerate() {
+        let found = row_ahead(alloc, &step.test, node, &whole[index + 1..], looks)?;
+        let kept = filtered(alloc, step.tests.as_slice(), found, seq, looks)?;
+        put_behind(&mut all, kept)?;
+    }
+    Ok(all)
 }
 
 /// A step from each node.
@@ -307,6 +359,15 @@ fn is_same(by: bool, flag: bool) -> bool
     if by { flag } else { !flag }
 }
 
+/// Whether a step leads from one position to all from it down.
+fn leads_down(step: &Step, from: &[Position]) -> bool
+    ensures { IsTrue result → LeadsDown step.now (all_plain from.now) }
+{
+    let is_down = matches!(step.axis, Axis::DescendantOrSelf)
+        && matches!(step.test, NodeTest::Node);
+    is_down && step.tests.as_slice().is_empty() && from.len() == 1
+}
+
 /// Where a path begins.
 pub(crate) fn begun<S: NodeRead, W: Looks>(
     alloc: Global,
@@ -326,19 +387,4 @@ pub(crate) fn begun<S: NodeRead, W: Looks>(
     }
     let document = document_label(alloc, at.label())?;
     see_node(alloc, &document, seq, looks)
-}
-
-/// Puts a position at the end where it is kept.
-fn keep_if(
-    alloc: Global,
-    kept: &mut List<Position>,
-    node: &Position,
-    is_kept: bool,
-) -> Result<(), NoMemory>
-    ensures { OnOk result (all_plain kept.new ≡ all_plain kept.old ++ (if is_kept then plain node.now ∷ [] else [])) }
-{
-    if is_kept {
-        kept.push(node.copy(alloc)?)?;
-    }
-    Ok(())
 }

@@ -1,8 +1,9 @@
 use Rattle.std.proofs.Common.{◌≡◌, ◌+◌, ◌-◌, if◌then◌else◌, List, [], ◌∷◌, ◌++◌, length, take, drop, map, slice_index_or, refl, sym, ap, subst, ◌∙◌, arith}
 use Rattle.std.specs.List.{filter}
-use Rattle.std.proofs.lemmas.List.{drop_more}
+use Rattle.std.proofs.lemmas.List.{drop_more, length-drop}
 use Rattle.outside_traits.specs.Faults.{HasCause}
 use Rattle.node_seq.specs.declared.node_read.SeqError.TheVariants.{DiskFault}
+use Rattle.path_model.specs.declared.path.Axis.TheVariants.{Child}
 use Rattle.path_model.specs.declared.path.Expr.{Expr}
 use Rattle.path_model.specs.declared.path.Op.TheVariants.{Or}
 use Rattle.path_model.specs.declared.path.Step.{Step}
@@ -22,10 +23,12 @@ use Rattle.xpath_axes.proofs.Running.{left_is, begins, goes, ended, each_goes, i
 use Rattle.xpath_eval.specs.Values.{meant, all_meant}
 use Rattle.xpath_eval.specs.inside.Chains.{both, chain_from, chain_of, linked}
 use Rattle.xpath_eval.specs.inside.Contexts.{stands}
+use Rattle.xpath_axes.specs.Wholes.{IsWhole, StandsBefore}
 use Rattle.xpath_eval.specs.inside.Steps.{from_node}
 use Rattle.xpath_eval.proofs.Chains.{grouped_is, apply_is}
-use Rattle.xpath_eval.proofs.Opened.{plain_append, plain_length, step_is, path_is, apply_opened, first_is, drop_all, chain_done, meant_pushed, operands_next, kept_next}
+use Rattle.xpath_eval.proofs.Opened.{take_all, plain_append, plain_length, step_is, path_is, apply_opened, first_is, drop_all, chain_done, meant_pushed, operands_next, kept_next}
 use Rattle.xpath_eval.proofs.Parts.{later, run_is, answer_is, made_of, one_by_one, each_starts, on_tree}
+use Rattle.xpath_eval.proofs.DownSteps.{whole_after, row_taken, in_its_place}
 use Rattle.xpath_eval.proofs.expressions.+evaluation.Goals as goal
 
 pub apply-returns-in_ok-values-in_default : goal.apply-returns-in_ok-values-in_default
@@ -232,6 +235,56 @@ stepped-loop-node-preserved g t c =
           (run_is reads saw u (ap (λ ts. filtered (plain_row ts) (all_plain c.in_ok-found.found)) c.as_slice.ensures) (two.run u (later _ _ u (seqs.unchanged_contents _ _ one.unchanged) now)))));
     }
 
+pub stepped_ahead-loop-index-init : goal.stepped_ahead-loop-index-init
+stepped_ahead-loop-index-init g t c =
+    let reads = g.S.NodeRead.reads in
+    let saw = g.W.Looks.saw in
+    let nothing = g.met.W.Looks.saw_nothing in
+    let further = g.met.W.Looks.saw_further in
+    let seqs = g.met.S.NodeRead in
+    record {
+      same = seqs.unchanged_itself c.args.seq.now;
+      counted = refl;
+      left = λ u stands_for. each_starts reads saw u nothing further (from_node c.args.step.now) (all_plain c.args.whole.now) c.args.seq.now c.args.looks.now (ap all_plain c.new-all.ensures);
+    }
+
+pub stepped_ahead-loop-index-preserved : goal.stepped_ahead-loop-index-preserved
+stepped_ahead-loop-index-preserved g t c =
+    let reads = g.S.NodeRead.reads in
+    let saw = g.W.Looks.saw in
+    let nothing = g.met.W.Looks.saw_nothing in
+    let further = g.met.W.Looks.saw_further in
+    let seqs = g.met.S.NodeRead in
+    let i = c.loop-index.index in
+    let inv = c.loop-index.invariant in
+    let x = c.index-whole-index.result in
+    let s = c.args.step.now in
+    let whole = c.args.whole.now in
+    let rest = all_plain (drop (i + 1) whole) in
+    let next = item_next whole i x (omega arith) c.index-whole-index.is in
+    let two = c.in_ok-kept.ensures in
+    let axis : s.axis ≡ Child = c.requires.child in
+    record {
+      same = seqs.unchanged_onward _ _ _ inv.same two.unchanged;
+      counted = two.cause.exact ∙ inv.counted;
+      left = λ u stands_for.
+          let now = later _ _ u (seqs.unchanged_contents _ _ inv.same) stands_for in
+          let behind = drop (i + 1) whole in
+          let all_behind : behind ≡ take (length whole - (i + 1)) behind = sym (take_all behind (length whole - (i + 1)) (sym (length-drop (i + 1) whole))) in
+          let stands_before : StandsBefore u (position.plain x) (all_plain (take (length whole - (i + 1)) behind)) = (all_plain (take i whole), subst (IsWhole u) (ap all_plain (in_its_place whole i x next) ∙ plain_append (take i whole) (x ∷ behind) ∙ ap (λ xs. all_plain (take i whole) ++ position.plain x ∷ all_plain xs) all_behind) (c.requires.whole u stands_for)) in
+          let found = c.in_ok-found.ensures.children u stands_for.valid stands_before in
+          let f : List Position → List Position = λ ms. filter (passes Child s.test) ms in
+          let ways : Program (List Position) = along Child s.test (position.plain x) in
+          each_goes reads saw u nothing further (from_node s) (position.plain x) rest (all_plain c.loop-index.all)
+          (ap all_plain next)
+          (ap all_plain c.in_ok-put_behind.ensures ∙ plain_append c.loop-index.all c.in_ok-kept.kept)
+          (inv.left u stands_for)
+          (run_is reads saw u (and_then-and_then ways (λ ms. ends (f ms)) (λ ms. filtered (plain_row s.tests) ms) ∙ (λ j. and_then (along (sym axis j) s.test (position.plain x)) (λ ms. filtered (plain_row s.tests) (filter (passes (sym axis j) s.test) ms))))
+          (one_by_one reads saw u nothing further (and_then ways (λ ms. ends (f ms))) (λ ms. filtered (plain_row s.tests) ms)
+          (row_taken u stands_for.valid reads saw s.test (position.plain x) _ _ _ _ found (c.in_ok-found.ensures.noted u))
+          (run_is reads saw u (ap (λ ts. filtered (plain_row ts) (all_plain c.in_ok-found.found)) c.as_slice.ensures) (two.run u now))));
+    }
+
 pub taken-loop-step-preserved : goal.taken-loop-step-preserved
 taken-loop-step-preserved g t c =
     let reads = g.S.NodeRead.reads in
@@ -252,7 +305,10 @@ taken-loop-step-preserved g t c =
           left_is reads saw u (ap (λ ns. taken rest ns) (sym c.in_ok-nodes.ensures))
           (goes reads saw u nothing further (gathered (from_node x) from) (λ all. taken rest (in_order all))
           (left_is reads saw u (ap (λ ss. taken (plain_way ss) from) (item_next steps i x (omega arith) c.step-item.is) ∙ ap (λ p. taken p from) (step_is x rest)) (inv.left u stands_for))
-          (run_is reads saw u (ap (λ ns. gathered (from_node x) (all_plain ns)) c.as_slice.ensures) (c.in_ok-found.ensures.run u (later _ _ u (seqs.unchanged_contents _ _ inv.same) stands_for))));
+          (run_is reads saw u (ap (λ ns. gathered (from_node x) (all_plain ns)) c.as_slice-before.ensures) (c.in_ok-found.ensures.run u (later _ _ u (seqs.unchanged_contents _ _ inv.same) stands_for))));
+      whole = λ down u stands_for.
+          let run = c.in_ok-found.ensures.run u (later _ _ u (seqs.unchanged_contents _ _ inv.same) stands_for) in
+          subst (IsWhole u) (sym (c.in_ok-nodes.ensures ∙ ap in_order run.is)) (whole_after u stands_for.valid x _ (c.leads_down-goes_down.ensures down));
     }
 
 pub value-returns-in_ok-nodes-in-Path-clause-run : goal.value-returns-in_ok-nodes-in-Path-clause-run

@@ -1,0 +1,163 @@
+//! What paths find, and how often the map is read for it.
+use crate::documents::{Held, MIXED, PRICES, TWO, map_of};
+use dewey_labels::{Label, List, NoMemory};
+use node_seq::{Answer, Counted, NodeRead, SeqError, UnknownSeq};
+use std::alloc::Global;
+use std::test::Fail;
+use tree_model::{Hit, Reply};
+use xpath_eval::evaluate;
+use xpath_parser::parse;
+
+/// What a path finds from the node with a label.
+fn reply_of<S: NodeRead>(alloc: Global, map: &mut S, at: &str, path: &str) -> Result<Reply, Fail> {
+    let at = Label::read_text(alloc, at.as_bytes())?;
+    let path = parse(alloc, path)?;
+    Ok(evaluate(alloc, &path, &at, map)?)
+}
+
+/// Shows a reply: of each hit its label, of an attribute with its name, and a comma.
+pub fn show_reply(alloc: Global, reply: &Reply, out: &mut List<u8>) -> Result<(), NoMemory> {
+    let Reply::Found(hits) = reply else {
+        return out.extend_from_slice(alloc, b"refused");
+    };
+    for hit in hits.as_slice() {
+        show_hit(alloc, hit, out)?;
+    }
+    Ok(())
+}
+
+fn show_hit(alloc: Global, hit: &Hit, out: &mut List<u8>) -> Result<(), NoMemory> {
+    hit.label.write_text(alloc, out)?;
+    if let Some(name) = &hit.attr {
+        out.push(b'@')?;
+        out.extend_from_slice(alloc, name.as_str().as_bytes())?;
+    }
+    out.push(b',')
+}
+
+/// Whether a path finds this in a document.
+fn finds(
+    alloc: Global,
+    entries: &[(&str, Held)],
+    at: &str,
+    path: &str,
+    wanted: &str,
+) -> Result<bool, Fail> {
+    let mut map = map_of(alloc, entries)?;
+    let reply = reply_of(alloc, &mut map, at, path)?;
+    let mut shown = List::new(alloc);
+    show_reply(alloc, &reply, &mut shown)?;
+    Ok(shown.as_slice() == wanted.as_bytes())
+}
+
+/// A node, a path, and what is found from there.
+const FOUND_IN_MIXED: [(&str, &str, &str); 6] = [
+    (
+        "1.1001.1001.1009",
+        "preceding-sibling::*[1]",
+        "1.1001.1001.1003,",
+    ),
+    (
+        "1.1001.1001.1009",
+        "preceding-sibling::node()[1]",
+        "1.1001.1001.1007,",
+    ),
+    (
+        "1.1001.1001",
+        "text()",
+        "1.1001.1001.1005,1.1001.1001.1007,",
+    ),
+    ("1.1001.1001.1005", "..//*[2]", "1.1001.1001.1003,"),
+    (
+        "1.1001.1001.1001",
+        "//d/preceding::text()[1]",
+        "1.1001.1001.1007,",
+    ),
+    ("1.1001.1001.1011", "//b", "refused"),
+];
+
+#[test]
+fn siblings_and_texts_are_counted_along_their_axes(rt: HostRuntime) -> Result<(), Fail> {
+    for (at, path, wanted) in FOUND_IN_MIXED {
+        let found = finds(rt.alloc(), &MIXED, at, path, wanted)?;
+        assert_eq!(rt; found, true, "at {path:?}");
+    }
+    Ok(())
+}
+
+/// A path from the document, and what is found.
+const FOUND_IN_TWO: [(&str, &str); 7] = [
+    ("//b[@k='1'][2]", ""),
+    ("//b[@k='2'][1]", "1.1001.1001.1003,"),
+    ("//b[2][@k='1']", ""),
+    ("//b[last()]", "1.1001.1001.1003,"),
+    ("//b/@k", "1.1001.1001.1001@k,1.1001.1001.1003@k,"),
+    ("//@k/..", "1.1001.1001.1001,1.1001.1001.1003,"),
+    ("/a//b[1]", "1.1001.1001.1001,"),
+];
+
+#[test]
+fn a_predicate_counts_the_children_of_each_node(rt: HostRuntime) -> Result<(), Fail> {
+    for (path, wanted) in FOUND_IN_TWO {
+        let found = finds(rt.alloc(), &TWO, "1.1001", path, wanted)?;
+        assert_eq!(rt; found, true, "at {path:?}");
+    }
+    Ok(())
+}
+
+/// The same; what is found from one node after the other stands in document order.
+const FOUND_IN_PRICES: [(&str, &str); 4] = [
+    ("/c/i[price > 10]", "1.1001.1001.1003,"),
+    ("//price[. > 10]/..", "1.1001.1001.1003,"),
+    ("//node()[2]", "1.1001.1001.1003,"),
+    (
+        "//i[. = 9]//node()",
+        "1.1001.1001.1001.1001,1.1001.1001.1001.1001.1001,",
+    ),
+];
+
+#[test]
+fn a_string_value_is_a_number_where_it_has_digits_alone(rt: HostRuntime) -> Result<(), Fail> {
+    for (path, wanted) in FOUND_IN_PRICES {
+        let found = finds(rt.alloc(), &PRICES, "1.1001", path, wanted)?;
+        assert_eq!(rt; found, true, "at {path:?}");
+    }
+    Ok(())
+}
+
+/// The node and the document cost a read each, a row one a child and one more, a tree one a node and one more, an attribute with a name one.
+/// The children of all nodes of a tree that was just seen cost none.
+const READS_IN_PRICES: [(&str, u64); 5] = [
+    ("/c", 4),
+    ("/c/i", 9),
+    ("//i", 16),
+    ("//i/price", 24),
+    ("//i[@k]", 20),
+];
+
+#[test]
+fn a_path_reads_what_its_looks_show_and_one_more_each(rt: HostRuntime) -> Result<(), Fail> {
+    for (path, wanted) in READS_IN_PRICES {
+        let mut map = Counted::new(map_of(rt.alloc(), &PRICES)?);
+        let _reply = reply_of(rt.alloc(), &mut map, "1.1001", path)?;
+        assert_eq!(rt; map.calls(), wanted, "at {path:?}");
+    }
+    Ok(())
+}
+
+/// Whether a fault ends the evaluation of a path.
+fn ends_with_a_fault(alloc: Global) -> Result<bool, Fail> {
+    let mut answers = Vec::new(alloc);
+    answers.push(Answer::Fault)?;
+    let mut map = UnknownSeq { answers, faults: 0 };
+    let at = Label::read_text(alloc, b"1.1001")?;
+    let path = parse(alloc, "//b")?;
+    let ended = evaluate(alloc, &path, &at, &mut map);
+    Ok(matches!(ended, Err(SeqError::DiskFault)))
+}
+
+#[test]
+fn a_fault_ends_the_evaluation(rt: HostRuntime) -> Result<(), Fail> {
+    assert!(rt; ends_with_a_fault(rt.alloc())?);
+    Ok(())
+}
