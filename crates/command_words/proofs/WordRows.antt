@@ -1,7 +1,7 @@
 -- Worked words: what they ask for, and the parts of words with two options.
 use Rattle.std.proofs.Common.{◌≡◌, refl, List, [], ◌∷◌, Option, Some, None, codes}
 use Rattle.command_words.specs.Arguments.{Word, Parts, parts_from, parts_of}
-use Rattle.command_words.specs.Commands.{Command, command_of_texts, run, put, get, query}
+use Rattle.command_words.specs.Commands.{Command, command_of_texts, run, put, get, query, gen}
 
 abbrev asks : List Word → Option Command → Type 0
 asks ws c = command_of_texts ws ≡ c
@@ -53,6 +53,26 @@ module _ where
   help : asks (codes "run" ∷ codes "--help" ∷ []) None
   unfolding parts_from
   help = refl
+
+  leading_zeros : asks (codes "gen" ∷ codes "0000000007" ∷ codes "1" ∷ []) (Some (gen 7 1))
+  unfolding parts_from
+  leading_zeros = refl
+
+  eleven_digits : asks (codes "gen" ∷ codes "00000000007" ∷ codes "1" ∷ []) None
+  unfolding parts_from
+  eleven_digits = refl
+
+  no_books : asks (codes "gen" ∷ codes "1" ∷ codes "0" ∷ []) None
+  unfolding parts_from
+  no_books = refl
+
+  the_greatest : asks (codes "gen" ∷ codes "4294967295" ∷ codes "20000" ∷ []) (Some (gen 4294967295 20000))
+  unfolding parts_from
+  the_greatest = refl
+
+  a_seed_too_great : asks (codes "gen" ∷ codes "4294967296" ∷ codes "1" ∷ []) None
+  unfolding parts_from
+  a_seed_too_great = refl
 
   options_anywhere : has (codes "--frames=8" ∷ codes "x" ∷ codes "--checkpoint" ∷ codes "7" ∷ codes "y" ∷ [])
       (Some (record { given = (codes "frames", codes "8") ∷ (codes "checkpoint", codes "7") ∷ []; plain = codes "x" ∷ codes "y" ∷ [] }))

@@ -1,18 +1,20 @@
 -- The commands of the program, and the words that ask for them (docs/MANUAL.md, "Words").
-use Rattle.std.specs.Prelude.{List, [], ◌∷◌, map, codes, Option, Some, None, option_and_then, option_map, String, string_bytes}
+use Rattle.std.specs.Prelude.{ℕ, ◌≤◌, List, [], ◌∷◌, map, codes, Option, Some, None, option_and_then, option_map, String, string_bytes}
 use Rattle.std.specs.List.{find}
 use Rattle.std.specs.Str.{bytes_eq}
 use Rattle.std.specs.declared.alloc.Global.{Global}
 use Rattle.command_words.specs.Arguments.{Word, Parts, parts_of}
+use Rattle.command_words.specs.Numbers.{number_in}
 use Rattle.command_words.specs.declared.command.Command.{Command as Asked}
 use Rattle.command_words.specs.declared.command.Command.TheVariants as asked
 
--- a script is run; the document with a name is made from the input, or it is written, or what a path finds from it
+-- a script is run; the document with a name is made from the input, or it is written, or what a path finds from it; the script of the generator with a seed and a count is run
 pub data Command : Type 0 where
   run : Command
   put : Word → Command
   get : Word → Command
   query : Word → Word → Command
+  gen : ℕ → ℕ → Command
 
 -- ---- what a command takes
 
@@ -36,6 +38,19 @@ both _ = None
 abbrev pub two_words : (Word → Word → Command) → List Word → Option Command
 two_words c ws = option_map (λ p. c p.0 p.1) (both ws)
 
+abbrev pub with_count : ℕ → Option ℕ → Option Command
+with_count seed count = option_map (gen seed) count
+
+-- SEED from 0 to 4,294,967,295 and COUNT from 1 to 20,000
+abbrev pub seed_and_count : List Word → Option Command
+seed_and_count (seed ∷ count ∷ []) = option_and_then (λ s. with_count s (number_in 1 20000 count)) (number_in 0 4294967295 seed)
+seed_and_count _ = None
+
+-- numbers are within their ranges
+abbrev pub IsInRange : Command → Type 0
+IsInRange (gen seed count) = (seed ≤ 4294967295) × (1 ≤ count) × (count ≤ 20000)
+IsInRange c = Unit {0}
+
 -- ---- the grammar
 
 -- each command: its word, and what it makes of the plain words behind it
@@ -45,6 +60,7 @@ commands =
     ∷ (codes "put", one_word put)
     ∷ (codes "get", one_word get)
     ∷ (codes "query", two_words query)
+    ∷ (codes "gen", seed_and_count)
     ∷ []
 
 -- the names of the options, which every command takes
@@ -74,3 +90,4 @@ meant asked.Run = run
 meant (asked.Put name) = put name.now
 meant (asked.Get name) = get name.now
 meant (asked.Query name path) = query name.now path.now
+meant (asked.Gen seed count) = gen seed count

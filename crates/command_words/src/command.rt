@@ -11,4 +11,6 @@ pub enum Command<'a> {
     Get(&'a str),
     /// What a path finds from the document with this name is written.
     Query(&'a str, &'a str),
+    /// The script of the generator with this seed and count of books is run.
+    Gen { seed: u32, count: u32 },
 }

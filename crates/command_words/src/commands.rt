@@ -1,11 +1,12 @@
 //! The words of a command: its own word, then what it takes.
-ghost use Rattle.std.specs.Prelude.{◌≡◌, map, None, Some, Err, IfOk, option_map};
+ghost use Rattle.std.specs.Prelude.{◌≡◌, map, None, Some, Err, IfOk, IfSome, option_map};
 ghost use Rattle.command_words.specs.Arguments.{Parts};
-ghost use Rattle.command_words.specs.Commands.{both, command_by, command_of, meant, no_words, of_parts, only};
+ghost use Rattle.command_words.specs.Commands.{IsInRange, both, command_by, command_of, meant, no_words, of_parts, only, seed_and_count};
 ghost use Rattle.command_words.specs.Found.{TellsParts};
 
 use crate::arguments::{Arguments, read_arguments};
 use crate::command::Command;
+use crate::numbers::number_in;
 use crate::words_error::WordsError;
 use std::alloc::Global;
 
@@ -16,6 +17,7 @@ const OPTIONS: [&str; 0] = [];
 pub fn read_words<'a>(alloc: Global, words: &'a Vec<String>) -> Result<Command<'a>, WordsError>
     ensures ok { IfOk result (λ command. command_of words.entry.now.items ≡ Some (meant command)) }
     ensures usage { result ≡ Err WordsError.Usage → command_of words.entry.now.items ≡ None }
+    ensures ranges { IfOk result (λ command. IsInRange (meant command)) }
 {
     let [word, rest @ ..] = words.as_slice() else {
         return Err(WordsError::Usage);
@@ -29,7 +31,8 @@ pub fn read_words<'a>(alloc: Global, words: &'a Vec<String>) -> Result<Command<'
 
 /// The command with this word and what was read behind it.
 fn command_in<'a>(word: &'a str, arguments: &Arguments<'a>) -> Option<Command<'a>>
-    ensures { (parts : Parts) → TellsParts arguments.now parts → option_map meant result ≡ of_parts word.entry.now parts }
+    ensures command { (parts : Parts) → TellsParts arguments.now parts → option_map meant result ≡ of_parts word.entry.now parts }
+    ensures ranges { IfSome result (λ command. IsInRange (meant command)) }
 {
     match arguments.plain() {
         Some(plain) => command_by(word, plain),
@@ -39,7 +42,8 @@ fn command_in<'a>(word: &'a str, arguments: &Arguments<'a>) -> Option<Command<'a
 
 /// The command with this word and these plain words behind it.
 fn command_by<'a>(word: &'a str, plain: &[&'a str]) -> Option<Command<'a>>
-    ensures { option_map meant result ≡ command_by word.entry.now (map (λ w. w.now) plain.now) }
+    ensures command { option_map meant result ≡ command_by word.entry.now (map (λ w. w.now) plain.now) }
+    ensures ranges { IfSome result (λ command. IsInRange (meant command)) }
 {
     match word {
         "run" => no_words(plain, Command::Run),
@@ -49,12 +53,15 @@ fn command_by<'a>(word: &'a str, plain: &[&'a str]) -> Option<Command<'a>>
             let (name, path) = two_words(plain)?;
             Some(Command::Query(name, path))
         }
+        "gen" => seed_and_count(plain),
         _ => None,
     }
 }
 
 fn no_words<'a>(plain: &[&'a str], command: Command<'a>) -> Option<Command<'a>>
-    ensures { option_map meant result ≡ no_words (meant command.entry) (map (λ w. w.now) plain.now) }
+    requires ranges { IsInRange (meant command) }
+    ensures ranges { IfSome result (λ command. IsInRange (meant command)) }
+    ensures command { option_map meant result ≡ no_words (meant command.entry) (map (λ w. w.now) plain.now) }
 {
     if plain.is_empty() {
         Some(command)
@@ -79,4 +86,16 @@ fn two_words<'a>(plain: &[&'a str]) -> Option<(&'a str, &'a str)>
         [first, second] => Some((*first, *second)),
         _ => None,
     }
+}
+
+/// SEED from 0 to 4,294,967,295 and COUNT from 1 to 20,000.
+fn seed_and_count<'a>(plain: &[&'a str]) -> Option<Command<'a>>
+    ensures command { option_map meant result ≡ seed_and_count (map (λ w. w.now) plain.now) }
+    ensures ranges { IfSome result (λ command. IsInRange (meant command)) }
+{
+    let [seed, count] = plain else { return None };
+    Some(Command::Gen {
+        seed: number_in(seed, 0, u32::MAX)?,
+        count: number_in(count, 1, 20_000)?,
+    })
 }

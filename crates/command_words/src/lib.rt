@@ -6,6 +6,7 @@
 mod arguments;
 mod command;
 mod commands;
+mod numbers;
 mod words_error;
 
 pub use arguments::{Arguments, read_arguments};

@@ -26,7 +26,7 @@ use Rattle.session_driver.proofs.LegalBooks.{lines_legal}
 use Rattle.session_driver.proofs.Runs.{lines_state}
 use Rattle.session_driver.proofs.Waiters.{nobody_waits_in_vain}
 use Rattle.xtc.specs.Book.{after_asked}
-use Rattle.xtc.specs.Documents.{reason_of, reason_in}
+use Rattle.xtc.specs.Documents.{first_reason}
 use Rattle.xtc.specs.Durable.{HoldState}
 use Rattle.xtc.specs.TopCall.{OpenAfter, IsSound}
 use Rattle.xtc.specs.declared.status.Reason.{Reason}
@@ -57,17 +57,17 @@ or_on : {A : Type 0} (a b c : Option A) → option_or a (option_or b c) ≡ opti
 or_on None b c = refl
 or_on (Some x) b c = refl
 
-pub reason_on : (xs ys : List LineReply) → reason_in (xs ++ ys) ≡ option_or (reason_in xs) (reason_in ys)
-reason_on [] ys = refl
-reason_on (x ∷ xs) ys = ap (option_or (reason_of x)) (reason_on xs ys) ∙ or_on (reason_of x) (reason_in xs) (reason_in ys)
+pub reason_on : (by : LineReply → Option Reason) (xs ys : List LineReply) → first_reason by (xs ++ ys) ≡ option_or (first_reason by xs) (first_reason by ys)
+reason_on by [] ys = refl
+reason_on by (x ∷ xs) ys = ap (option_or (by x)) (reason_on by xs ys) ∙ or_on (by x) (first_reason by xs) (first_reason by ys)
 
 -- behind replies that refuse nothing
-pub reason_behind : (xs ys : List LineReply) → reason_in xs ≡ None → reason_in (xs ++ ys) ≡ reason_in ys
-reason_behind xs ys none = reason_on xs ys ∙ ap (λ r. option_or r (reason_in ys)) none
+pub reason_behind : (by : LineReply → Option Reason) (xs ys : List LineReply) → first_reason by xs ≡ None → first_reason by (xs ++ ys) ≡ first_reason by ys
+reason_behind by xs ys none = reason_on by xs ys ∙ ap (λ r. option_or r (first_reason by ys)) none
 
 -- a refusal stays the first
-pub reason_stays : (xs ys : List LineReply) (why : Reason) → reason_in xs ≡ Some why → reason_in (xs ++ ys) ≡ Some why
-reason_stays xs ys why is = reason_on xs ys ∙ ap (λ r. option_or r (reason_in ys)) is
+pub reason_stays : (by : LineReply → Option Reason) (xs ys : List LineReply) (why : Reason) → first_reason by xs ≡ Some why → first_reason by (xs ++ ys) ≡ Some why
+reason_stays by xs ys why is = reason_on by xs ys ∙ ap (λ r. option_or r (first_reason by ys)) is
 
 -- ---- lists of valid lines
 

@@ -1,6 +1,6 @@
 -- What asking session 1 in turn leaves of the core and the journal of a store: step by step, and one list behind another.
 use Rattle.std.proofs.Common.{◌==◌, false, drop, slice_index_or, ◌≡◌, ◌≢◌, ℕ, Bool, List, [], ◌∷◌, ◌++◌, length, inl, inr, refl, sym, ap, subst, ◌∙◌, append-nil, arith}
-use Rattle.std.specs.Prelude.{None, Some, Result, Ok, Err}
+use Rattle.std.specs.Prelude.{Option, None, Some, Result, Ok, Err, IfOk}
 use Rattle.std.specs.Result.{IsErrAnd}
 use Rattle.std.proofs.lemmas.List.{append_assoc}
 use Rattle.outside_traits.specs.CrashImages.{IsImage}
@@ -13,12 +13,11 @@ use Rattle.recovery.specs.Opened.{contents_of_files}
 use Rattle.call_contract.specs.States.{State}
 use Rattle.command_lines.specs.declared.command.StoreCall.{StoreCall}
 use Rattle.command_lines.specs.declared.line_reply.LineReply.{LineReply}
-use Rattle.session_driver.specs.Lines.{Asked, IsValidDoing}
-use Rattle.session_driver.specs.declared.doing.Doing.{Doing}
+use Rattle.session_driver.specs.Lines.{Asked, IsValidDoing, after_line}
 use Rattle.session_driver.specs.declared.doing.Doing.TheVariants.{Commit}
-use Rattle.store_calls.specs.StoreCalls.{IsValidStoreCall}
+use Rattle.store_calls.specs.StoreCalls.{IsValidStoreCall, store_meaning}
 use Rattle.tx_core.specs.Cores.{CoreView}
-use Rattle.xtc.specs.Documents.{asks, reason_in}
+use Rattle.xtc.specs.Documents.{first_reason, reason_of}
 use Rattle.xtc.specs.Durable.{HoldState}
 use Rattle.xtc.specs.StoreMachine.{Stands}
 use Rattle.xtc.specs.declared.halt.Halt.{Halt}
@@ -28,7 +27,7 @@ use Rattle.xtc.specs.declared.status.Status.{Status}
 use Rattle.xtc.specs.declared.status.Status.TheVariants.{Done, Usage, LineTooLong, Damaged, ReadFault, WriteFault, DiskFault, NoMemory, NotJsonMl, DocumentRefused}
 use Rattle.xtc.specs.Statuses.{status_of_halt}
 use Rattle.xtc.specs.inside.Asking.{AreValidAsks, after, said, HoldsFirst, LeavesFirst, AllAnswered, Stopped, StopsBy, AskedInTurn, IsStop}
-use Rattle.xtc.specs.inside.Stores.{asked_from, HoldsAll, HoldsEither, LeadsTo, LeavesEither}
+use Rattle.xtc.specs.inside.Stores.{HoldsAll, HoldsEither, LeadsTo, LeavesEither}
 use Rattle.xtc.proofs.AskedLaws.{after_on, said_on, reason_behind, valid_on, no_commit_first, no_commit_rest}
 
 -- ---- lists
@@ -68,15 +67,15 @@ first_behind s xs ys image h = record {
 
 -- ---- one list behind another
 
-module _ (is_known : Bool) (s : State StoreCall) (xs ys : List (Asked StoreCall)) (old mid : History) (core : CoreView StoreCall Entries) (before now : List LineReply)
-    (one : AllAnswered is_known s xs old core mid before now) where
+module _ (by : LineReply → Option Reason) (is_known : Bool) (s : State StoreCall) (xs ys : List (Asked StoreCall)) (old mid : History) (core : CoreView StoreCall Entries) (before now : List LineReply)
+    (one : AllAnswered by is_known s xs old core mid before now) where
   moments_on : (new : History) (zs : List (Asked StoreCall)) → LeavesFirst is_known (after s xs) zs mid new → LeavesFirst is_known s (xs ++ zs) old new
   moments_on new zs two known holds =
       joined (HoldsFirst s (xs ++ zs)) old mid new
       (weaker (HoldsFirst s xs) (HoldsFirst s (xs ++ zs)) old mid (first_wider s xs zs) (one.moments known holds))
       (weaker (HoldsFirst (after s xs) zs) (HoldsFirst s (xs ++ zs)) mid new (first_behind s xs zs) (two known (one.leads.settled known holds)))
 
-  pub answered_on : (last : CoreView StoreCall Entries) (new : History) (later : List LineReply) → AllAnswered is_known (after s xs) ys mid last new now later → AllAnswered is_known s (xs ++ ys) old last new before later
+  pub answered_on : (last : CoreView StoreCall Entries) (new : History) (later : List LineReply) → AllAnswered by is_known (after s xs) ys mid last new now later → AllAnswered by is_known s (xs ++ ys) old last new before later
   answered_on last new later two =
       let state : after s (xs ++ ys) ≡ after (after s xs) ys = after_on s xs ys in
       let lines : said s (xs ++ ys) ≡ said s xs ++ said (after s xs) ys = said_on s xs ys in
@@ -89,23 +88,23 @@ module _ (is_known : Bool) (s : State StoreCall) (xs ys : List (Asked StoreCall)
         moments = moments_on new ys two.moments;
         still = λ none. two.still (no_commit_rest xs ys none) ∙ one.still (no_commit_first xs ys none);
         replies = two.replies ∙ ap (λ (l : List LineReply). l ++ said (after s xs) ys) one.replies ∙ append_assoc before (said s xs) (said (after s xs) ys) ∙ ap (λ (l : List LineReply). before ++ l) (sym lines);
-        unrefused = ap reason_in lines ∙ reason_behind (said s xs) (said (after s xs) ys) one.unrefused ∙ two.unrefused;
+        unrefused = ap (first_reason by) lines ∙ reason_behind by (said s xs) (said (after s xs) ys) one.unrefused ∙ two.unrefused;
       }
 
   -- what stops behind these stops in the whole
-  stops_on : (status : Status) (lines : List LineReply) (more : List (Asked StoreCall)) → StopsBy status lines more → StopsBy status (said s xs ++ lines) more
-  stops_on (DocumentRefused why) lines more by = (reason_behind (said s xs) lines one.unrefused ∙ by.0, by.1)
-  stops_on DiskFault lines more by = tt
-  stops_on NoMemory lines more by = tt
-  stops_on Done lines more by = by
-  stops_on Usage lines more by = by
-  stops_on (LineTooLong line) lines more by = by
-  stops_on (Damaged place) lines more by = by
-  stops_on ReadFault lines more by = by
-  stops_on WriteFault lines more by = by
-  stops_on (NotJsonMl why) lines more by = by
+  stops_on : (status : Status) (lines : List LineReply) (more : List (Asked StoreCall)) → StopsBy by status lines more → StopsBy by status (said s xs ++ lines) more
+  stops_on (DocumentRefused why) lines more cause = (reason_behind by (said s xs) lines one.unrefused ∙ cause.0, cause.1)
+  stops_on DiskFault lines more cause = tt
+  stops_on NoMemory lines more cause = tt
+  stops_on Done lines more cause = cause
+  stops_on Usage lines more cause = cause
+  stops_on (LineTooLong line) lines more cause = cause
+  stops_on (Damaged place) lines more cause = cause
+  stops_on ReadFault lines more cause = cause
+  stops_on WriteFault lines more cause = cause
+  stops_on (NotJsonMl why) lines more cause = cause
 
-  pub stopped_on : (new : History) (status : Status) → Stopped is_known (after s xs) ys mid new status → Stopped is_known s (xs ++ ys) old new status
+  pub stopped_on : (new : History) (status : Status) → Stopped by is_known (after s xs) ys mid new status → Stopped by is_known s (xs ++ ys) old new status
   stopped_on new status two =
       let whole : xs ++ (two.answered ++ two.more) ≡ (xs ++ two.answered) ++ two.more = sym (append_assoc xs two.answered two.more) in
       record {
@@ -126,15 +125,15 @@ module _ (is_known : Bool) (s : State StoreCall) (xs ys : List (Asked StoreCall)
           last = two.stops.last;
           parts = append_assoc xs two.stops.front two.stops.last ∙ ap (λ (l : List (Asked StoreCall)). xs ++ l) two.stops.parts ∙ whole;
           one = two.stops.one;
-          unrefused = ap reason_in (said_on s xs two.stops.front) ∙ reason_behind (said s xs) (said (after s xs) two.stops.front) one.unrefused ∙ two.stops.unrefused;
+          unrefused = ap (first_reason by) (said_on s xs two.stops.front) ∙ reason_behind by (said s xs) (said (after s xs) two.stops.front) one.unrefused ∙ two.stops.unrefused;
         };
-        by = subst (λ (l : List LineReply). StopsBy status l two.more) (sym (said_on s xs two.answered)) (stops_on status (said (after s xs) two.answered) two.more two.by);
+        cause = subst (λ (l : List LineReply). StopsBy by status l two.more) (sym (said_on s xs two.answered)) (stops_on status (said (after s xs) two.answered) two.more two.cause);
       }
 
 -- ---- nothing is asked
 
-pub none_asked : (is_known : Bool) (s : State StoreCall) (core : CoreView StoreCall Entries) (journal : History) (replies : List LineReply) → Stands core s → AllAnswered is_known s [] journal core journal replies replies
-none_asked is_known s core journal replies stands = record {
+pub none_asked : (by : LineReply → Option Reason) (is_known : Bool) (s : State StoreCall) (core : CoreView StoreCall Entries) (journal : History) (replies : List LineReply) → Stands core s → AllAnswered by is_known s [] journal core journal replies replies
+none_asked by is_known s core journal replies stands = record {
   valid = tt;
   leads = record { stands = stands; settled = λ known holds. holds };
   moments = λ known holds. started (HoldsFirst s []) journal;
@@ -143,8 +142,8 @@ none_asked is_known s core journal replies stands = record {
   unrefused = refl;
 }
 
-pub not_begun : (is_known : Bool) (s : State StoreCall) (all : List (Asked StoreCall)) (old new : History) → new ≡ old → Stopped is_known s all old new NoMemory
-not_begun is_known s all old new same = subst (λ (h : History). Stopped is_known s all old h NoMemory) (sym same) (record {
+pub not_begun : (by : LineReply → Option Reason) (is_known : Bool) (s : State StoreCall) (all : List (Asked StoreCall)) (old new : History) → new ≡ old → Stopped by is_known s all old new NoMemory
+not_begun by is_known s all old new same = subst (λ (h : History). Stopped by is_known s all old h NoMemory) (sym same) (record {
   answered = [];
   more = [];
   rest = all;
@@ -155,12 +154,12 @@ not_begun is_known s all old new same = subst (λ (h : History). Stopped is_know
   left = λ known holds image is. inl (image_holds s old holds image is);
   still = λ none. refl;
   stops = record { front = []; last = []; parts = refl; one = omega arith; unrefused = refl };
-  by = tt;
+  cause = tt;
 })
 
 -- more could have been asked
-pub stopped_wider : (is_known : Bool) (s : State StoreCall) (xs ys : List (Asked StoreCall)) (old new : History) (status : Status) → Stopped is_known s xs old new status → Stopped is_known s (xs ++ ys) old new status
-stopped_wider is_known s xs ys old new status h = record {
+pub stopped_wider : (by : LineReply → Option Reason) (is_known : Bool) (s : State StoreCall) (xs ys : List (Asked StoreCall)) (old new : History) (status : Status) → Stopped by is_known s xs old new status → Stopped by is_known s (xs ++ ys) old new status
+stopped_wider by is_known s xs ys old new status h = record {
   answered = h.answered;
   more = h.more;
   rest = h.rest ++ ys;
@@ -171,13 +170,13 @@ stopped_wider is_known s xs ys old new status h = record {
   left = h.left;
   still = λ none. h.still (no_commit_first xs ys none);
   stops = h.stops;
-  by = h.by;
+  cause = h.cause;
 }
 
 -- all were answered, and then memory was wanting
-pub stopped_behind : (is_known : Bool) (s : State StoreCall) (all : List (Asked StoreCall)) (old new : History) (core : CoreView StoreCall Entries) (before now : List LineReply)
-    → AllAnswered is_known s all old core new before now → Stopped is_known s all old new NoMemory
-stopped_behind is_known s all old new core before now h =
+pub stopped_behind : (by : LineReply → Option Reason) (is_known : Bool) (s : State StoreCall) (all : List (Asked StoreCall)) (old new : History) (core : CoreView StoreCall Entries) (before now : List LineReply)
+    → AllAnswered by is_known s all old core new before now → Stopped by is_known s all old new NoMemory
+stopped_behind by is_known s all old new core before now h =
     let whole : all ++ [] ≡ all = append-nil all in
     record {
       answered = all;
@@ -190,50 +189,56 @@ stopped_behind is_known s all old new core before now h =
       left = λ known holds image is. inl (image_holds (after s all) new (h.leads.settled known holds) image is);
       still = h.still;
       stops = record { front = all; last = []; parts = refl; one = omega arith; unrefused = h.unrefused };
-      by = tt;
+      cause = tt;
     }
 
 -- an error that is answered for this status
-pub stopped_err : {T : Type 0} (r : Result T Status) (status : Status) (is_known : Bool) (s : State StoreCall) (all : List (Asked StoreCall)) (old : History) (core : CoreView StoreCall Entries) (new : History) (before now : List LineReply)
-    → IsErrAnd r (λ e. e ≡ status) → Stopped is_known s all old new status → AskedInTurn is_known s all old core new before now r
-stopped_err (Ok x) status is_known s all old core new before now none stopped = absurd none
-stopped_err (Err e) status is_known s all old core new before now is stopped = subst (Stopped is_known s all old new) (sym is) stopped
+pub stopped_err : {T : Type 0} (by : LineReply → Option Reason) (r : Result T Status) (status : Status) (is_known : Bool) (s : State StoreCall) (all : List (Asked StoreCall)) (old : History) (core : CoreView StoreCall Entries) (new : History) (before now : List LineReply)
+    → IsErrAnd r (λ e. e ≡ status) → Stopped by is_known s all old new status → AskedInTurn by is_known s all old core new before now r
+stopped_err by (Ok x) status is_known s all old core new before now none stopped = absurd none
+stopped_err by (Err e) status is_known s all old core new before now is stopped = subst (Stopped by is_known s all old new) (sym is) stopped
 
 -- what is asked behind what was answered
-pub asked_behind : {T : Type 0} (r : Result T Status) (is_known : Bool) (s : State StoreCall) (xs ys : List (Asked StoreCall)) (old mid new : History) (core last : CoreView StoreCall Entries) (before now later : List LineReply)
-    → AllAnswered is_known s xs old core mid before now → AskedInTurn is_known (after s xs) ys mid last new now later r → AskedInTurn is_known s (xs ++ ys) old last new before later r
-asked_behind (Ok x) is_known s xs ys old mid new core last before now later one two = answered_on is_known s xs ys old mid core before now one last new later two
-asked_behind (Err e) is_known s xs ys old mid new core last before now later one two = stopped_on is_known s xs ys old mid core before now one new e two
+pub asked_behind : {T : Type 0} (by : LineReply → Option Reason) (r : Result T Status) (is_known : Bool) (s : State StoreCall) (xs ys : List (Asked StoreCall)) (old mid new : History) (core last : CoreView StoreCall Entries) (before now later : List LineReply)
+    → AllAnswered by is_known s xs old core mid before now → AskedInTurn by is_known (after s xs) ys mid last new now later r → AskedInTurn by is_known s (xs ++ ys) old last new before later r
+asked_behind by (Ok x) is_known s xs ys old mid new core last before now later one two = answered_on by is_known s xs ys old mid core before now one last new later two
+asked_behind by (Err e) is_known s xs ys old mid new core last before now later one two = stopped_on by is_known s xs ys old mid core before now one new e two
+
+-- where all were answered, what is read off the answers is read off what was said
+pub answer_shown : {T : Type 0} (r : Result T Status) (bytes : T → List ℕ) (read : List LineReply → List ℕ) (text : List ℕ) (is_known : Bool) (s : State StoreCall) (all : List (Asked StoreCall)) (old : History)
+    (core : CoreView StoreCall Entries) (new : History) (now : List LineReply) → AskedInTurn reason_of is_known s all old core new [] now r → text ≡ read (said s all) → IfOk r (λ x. bytes x ≡ read now) → IfOk r (λ x. bytes x ≡ text)
+answer_shown (Ok x) bytes read text is_known s all old core new now asked is shown = shown ∙ ap read asked.replies ∙ sym is
+answer_shown (Err e) bytes read text is_known s all old core new now asked is shown = tt
 
 -- ---- one step
 
-module _ (is_known : Bool) (s : State StoreCall) (doing : Doing StoreCall) (valid : IsValidDoing IsValidStoreCall doing) (old new : History) (still : doing ≢ Commit → new ≡ old) where
+module _ (by : LineReply → Option Reason) (is_known : Bool) (s : State StoreCall) (a : Asked StoreCall) (valid : IsValidDoing IsValidStoreCall a.doing) (old new : History) (still : a.doing ≢ Commit → new ≡ old) where
   abbrev one_asked : List (Asked StoreCall)
-  one_asked = asks doing ∷ []
+  one_asked = a ∷ []
 
-  either_first : (image : List ℕ) → HoldsEither s (asked_from s 1 doing).state image → HoldsFirst s one_asked image
+  either_first : (image : List ℕ) → HoldsEither s (after_line store_meaning s a).state image → HoldsFirst s one_asked image
   either_first image (inl holds) = record { first = []; rest = one_asked; parts = refl; holds = holds }
   either_first image (inr holds) = record { first = one_asked; rest = []; parts = refl; holds = holds }
 
-  step_moments : LeavesEither is_known old new s (asked_from s 1 doing).state → LeavesFirst is_known s one_asked old new
-  step_moments leaves known holds = weaker (HoldsEither s (asked_from s 1 doing).state) (HoldsFirst s one_asked) old new either_first (leaves known holds)
+  pub step_moments : LeavesEither is_known old new s (after_line store_meaning s a).state → LeavesFirst is_known s one_asked old new
+  step_moments leaves known holds = weaker (HoldsEither s (after_line store_meaning s a).state) (HoldsFirst s one_asked) old new either_first (leaves known holds)
 
-  step_lines : said s one_asked ≡ (asked_from s 1 doing).lines
-  step_lines = append-nil (asked_from s 1 doing).lines
+  pub step_lines : said s one_asked ≡ (after_line store_meaning s a).lines
+  step_lines = append-nil (after_line store_meaning s a).lines
 
-  pub step_answered : (core : CoreView StoreCall Entries) (before now : List LineReply) → LeadsTo is_known old core new s (asked_from s 1 doing).state → LeavesEither is_known old new s (asked_from s 1 doing).state
-      → now ≡ before ++ (asked_from s 1 doing).lines → reason_in before ≡ None → reason_in now ≡ None → AllAnswered is_known s one_asked old core new before now
+  pub step_answered : (core : CoreView StoreCall Entries) (before now : List LineReply) → LeadsTo is_known old core new s (after_line store_meaning s a).state → LeavesEither is_known old new s (after_line store_meaning s a).state
+      → now ≡ before ++ (after_line store_meaning s a).lines → first_reason by before ≡ None → first_reason by now ≡ None → AllAnswered by is_known s one_asked old core new before now
   step_answered core before now leads leaves replies unrefused none = record {
     valid = (valid, tt);
     leads = leads;
     moments = step_moments leaves;
     still = λ asks_none. still asks_none.0;
     replies = replies ∙ ap (λ (l : List LineReply). before ++ l) (sym step_lines);
-    unrefused = ap reason_in step_lines ∙ sym (reason_behind before (asked_from s 1 doing).lines unrefused) ∙ ap reason_in (sym replies) ∙ none;
+    unrefused = ap (first_reason by) step_lines ∙ sym (reason_behind by before (after_line store_meaning s a).lines unrefused) ∙ ap (first_reason by) (sym replies) ∙ none;
   }
 
-  pub step_refused : (core : CoreView StoreCall Entries) (before now : List LineReply) (rest : List (Asked StoreCall)) (why : Reason) → LeadsTo is_known old core new s (asked_from s 1 doing).state → LeavesEither is_known old new s (asked_from s 1 doing).state
-      → now ≡ before ++ (asked_from s 1 doing).lines → reason_in before ≡ None → reason_in now ≡ Some why → Stopped is_known s (asks doing ∷ rest) old new (DocumentRefused why)
+  pub step_refused : (core : CoreView StoreCall Entries) (before now : List LineReply) (rest : List (Asked StoreCall)) (why : Reason) → LeadsTo is_known old core new s (after_line store_meaning s a).state → LeavesEither is_known old new s (after_line store_meaning s a).state
+      → now ≡ before ++ (after_line store_meaning s a).lines → first_reason by before ≡ None → first_reason by now ≡ Some why → Stopped by is_known s (a ∷ rest) old new (DocumentRefused why)
   step_refused core before now rest why leads leaves replies unrefused refused = record {
     answered = one_asked;
     more = [];
@@ -242,17 +247,17 @@ module _ (is_known : Bool) (s : State StoreCall) (doing : Doing StoreCall) (vali
     one = omega arith;
     valid = (valid, tt);
     moments = step_moments leaves;
-    left = λ known holds image is. inl (image_holds (asked_from s 1 doing).state new (leads.settled known holds) image is);
+    left = λ known holds image is. inl (image_holds (after_line store_meaning s a).state new (leads.settled known holds) image is);
     still = λ asks_none. still asks_none.0;
     stops = record { front = []; last = one_asked; parts = refl; one = omega arith; unrefused = refl };
-    by = (ap reason_in step_lines ∙ sym (reason_behind before (asked_from s 1 doing).lines unrefused) ∙ ap reason_in (sym replies) ∙ refused, refl);
+    cause = (ap (first_reason by) step_lines ∙ sym (reason_behind by before (after_line store_meaning s a).lines unrefused) ∙ ap (first_reason by) (sym replies) ∙ refused, refl);
   }
 
-  halts : (h : Halt) (more : List (Asked StoreCall)) → StopsBy (status_of_halt h) (said s []) more
+  halts : (h : Halt) (more : List (Asked StoreCall)) → StopsBy by (status_of_halt h) (said s []) more
   halts halt.DiskFault more = tt
   halts halt.NoMemory more = tt
 
-  pub step_stopped : (rest : List (Asked StoreCall)) (h : Halt) → LeavesEither is_known old new s (asked_from s 1 doing).state → Stopped is_known s (asks doing ∷ rest) old new (status_of_halt h)
+  pub step_stopped : (rest : List (Asked StoreCall)) (h : Halt) → LeavesEither is_known old new s (after_line store_meaning s a).state → Stopped by is_known s (a ∷ rest) old new (status_of_halt h)
   step_stopped rest h leaves = record {
     answered = [];
     more = one_asked;
@@ -261,23 +266,23 @@ module _ (is_known : Bool) (s : State StoreCall) (doing : Doing StoreCall) (vali
     one = omega arith;
     valid = (valid, tt);
     moments = step_moments leaves;
-    left = λ known holds. now_left (HoldsEither s (asked_from s 1 doing).state) old new (leaves known holds) (λ image is. inl (image_holds s old holds image is));
+    left = λ known holds. now_left (HoldsEither s (after_line store_meaning s a).state) old new (leaves known holds) (λ image is. inl (image_holds s old holds image is));
     still = λ asks_none. still asks_none.0;
     stops = record { front = []; last = one_asked; parts = refl; one = omega arith; unrefused = refl };
-    by = halts h one_asked;
+    cause = halts h one_asked;
   }
 
 -- ---- statuses
 
 -- it stops by one of three
-pub stop_is : (status : Status) (lines : List LineReply) (more : List (Asked StoreCall)) → StopsBy status lines more → IsStop status
-stop_is (DocumentRefused why) lines more by = tt
-stop_is DiskFault lines more by = tt
-stop_is NoMemory lines more by = tt
-stop_is Done lines more by = by
-stop_is Usage lines more by = by
-stop_is (LineTooLong line) lines more by = by
-stop_is (Damaged place) lines more by = by
-stop_is ReadFault lines more by = by
-stop_is WriteFault lines more by = by
-stop_is (NotJsonMl why) lines more by = by
+pub stop_is : (by : LineReply → Option Reason) (status : Status) (lines : List LineReply) (more : List (Asked StoreCall)) → StopsBy by status lines more → IsStop status
+stop_is by (DocumentRefused why) lines more cause = tt
+stop_is by DiskFault lines more cause = tt
+stop_is by NoMemory lines more cause = tt
+stop_is by Done lines more cause = cause
+stop_is by Usage lines more cause = cause
+stop_is by (LineTooLong line) lines more cause = cause
+stop_is by (Damaged place) lines more cause = cause
+stop_is by ReadFault lines more cause = cause
+stop_is by WriteFault lines more cause = cause
+stop_is by (NotJsonMl why) lines more cause = cause

@@ -16,7 +16,7 @@ use Rattle.script_runs.specs.Whole.{piece}
 use Rattle.script_runs.specs.declared.halt.Halt.TheVariants as halt
 use Rattle.script_runs.specs.declared.running.End.{End}
 use Rattle.script_runs.specs.declared.running.End.TheVariants as end
-use Rattle.command_words.specs.Commands.{Command, run, put, get, query}
+use Rattle.command_words.specs.Commands.{Command, run, put, get, query, gen}
 use Rattle.xtc.specs.Commands.{reads_input}
 use Rattle.xtc.specs.Statuses.{status_of_end}
 use Rattle.xtc.specs.TopCall.{IsOfOpened, IsSilent, ScriptRan, tx_limit, whole_limit}
@@ -139,10 +139,12 @@ silent_as run (LineTooLong line) P p = tt
 silent_as (put name) (LineTooLong line) P p = p
 silent_as (get name) (LineTooLong line) P p = p
 silent_as (query name path) (LineTooLong line) P p = p
+silent_as (gen seed count) (LineTooLong line) P p = p
 silent_as run ReadFault P p = tt
 silent_as (put name) ReadFault P p = p
 silent_as (get name) ReadFault P p = p
 silent_as (query name path) ReadFault P p = p
+silent_as (gen seed count) ReadFault P p = p
 
 -- a status with which writing ends asks for no silence, and a store was opened
 write_end_is : (c : Command) (status : Status) (P : Type 0) → IsWriteEnd status → IsSilent (Some c) status P × IsOfOpened status

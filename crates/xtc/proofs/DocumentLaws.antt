@@ -35,9 +35,9 @@ use Rattle.command_lines.specs.declared.line_reply.LineReply.{LineReply}
 use Rattle.session_driver.specs.Lines.{Asked}
 use Rattle.tx_core.specs.Cores.{CoreView, next_number, opened_over}
 use Rattle.xtc.specs.Book.{after_asked}
-use Rattle.command_words.specs.Commands.{Command, run, put, get, query}
-use Rattle.xtc.specs.Commands.{reads_input}
-use Rattle.xtc.specs.Documents.{asks_of, put_asks_of, query_asks_of, question_asks, show_asks, end_by, end_of, find_asks, label_in, reason_in, text_of}
+use Rattle.command_words.specs.Commands.{Command, run, put, get, query, gen}
+use Rattle.xtc.specs.Commands.{may_commit, reads_input}
+use Rattle.xtc.specs.Documents.{asks_of, put_asks_of, query_asks_of, question_asks, show_asks, end_by, end_of, find_asks, first_reason, label_in, stops_at, text_of}
 use Rattle.xtc.specs.declared.question.Question.{Question}
 use Rattle.xtc.specs.declared.question.Question.TheVariants.{Whole, FoundBy}
 use Rattle.xtc.specs.Durable.{HoldState}
@@ -76,12 +76,13 @@ query_no_commit : (path : Result XPath PathError) (s : State StoreCall) (name : 
 query_no_commit (Ok path) s name all is = subst AskNoCommit (ap asks_in is) (show_no_commit s name (FoundBy path))
 query_no_commit (Err why) s name all is = absurd cc
 
--- a command that reads no input asks for no commit
-asks_no_commit : (c : Command) (s : State StoreCall) (read : List ℕ) (all : List (Asked StoreCall)) → asks_of c s read ≡ Ok all → reads_input (Some c) ≡ false → AskNoCommit all
-asks_no_commit run s read all is reads_none = absurd cc
-asks_no_commit (put name) s read all is reads_none = absurd cc
-asks_no_commit (get name) s read all is reads_none = subst AskNoCommit (ap asks_in is) (show_no_commit s name Whole)
-asks_no_commit (query name path) s read all is reads_none = query_no_commit (parsed path) s name all is
+-- a command that may not commit asks for no commit
+asks_no_commit : (c : Command) (s : State StoreCall) (read : List ℕ) (all : List (Asked StoreCall)) → asks_of c s read ≡ Ok all → may_commit (Some c) ≡ false → AskNoCommit all
+asks_no_commit run s read all is commits_none = absurd cc
+asks_no_commit (gen seed count) s read all is commits_none = absurd cc
+asks_no_commit (put name) s read all is commits_none = absurd cc
+asks_no_commit (get name) s read all is commits_none = subst AskNoCommit (ap asks_in is) (show_no_commit s name Whole)
+asks_no_commit (query name path) s read all is commits_none = query_no_commit (parsed path) s name all is
 
 module _ (is_known : Bool) (s : State StoreCall) (c : Command) (read : List ℕ) where
   -- nothing was asked
@@ -97,7 +98,7 @@ module _ (is_known : Bool) (s : State StoreCall) (c : Command) (read : List ℕ)
     short = short;
     moments = λ known holds. started (HoldsFirst s []) journal;
     left = λ known holds image is. inl (image_holds s journal holds image is);
-    still = λ reads_none. refl;
+    still = λ commits_none. refl;
   }
 
   -- nor judged
@@ -107,64 +108,64 @@ module _ (is_known : Bool) (s : State StoreCall) (c : Command) (read : List ℕ)
   nothing_judged whole journal status end short judged = record { went = nothing_asked journal status end short; judged = judged }
 
   module _ (all : List (Asked StoreCall)) (is : asks_of c s read ≡ Ok all) (short : length read ≤ whole_limit) (old new : History) where
-    few_by : (status : Status) (lines : List LineReply) (more : List (Asked StoreCall)) → StopsBy status lines more → length more ≤ 1 → length more ≤ slack status
-    few_by (DocumentRefused why) lines more by one = let none : length more ≡ 0 = ap length by.1 in omega (arith, none)
-    few_by DiskFault lines more by one = one
-    few_by NoMemory lines more by one = one
-    few_by Done lines more by one = absurd by
-    few_by Usage lines more by one = absurd by
-    few_by (LineTooLong line) lines more by one = absurd by
-    few_by (Damaged place) lines more by one = absurd by
-    few_by ReadFault lines more by one = absurd by
-    few_by WriteFault lines more by one = absurd by
-    few_by (NotJsonMl why) lines more by one = absurd by
+    few_by : (status : Status) (lines : List LineReply) (more : List (Asked StoreCall)) → StopsBy (stops_at c) status lines more → length more ≤ 1 → length more ≤ slack status
+    few_by (DocumentRefused why) lines more cause one = let none : length more ≡ 0 = ap length cause.1 in omega (arith, none)
+    few_by DiskFault lines more cause one = one
+    few_by NoMemory lines more cause one = one
+    few_by Done lines more cause one = absurd cause
+    few_by Usage lines more cause one = absurd cause
+    few_by (LineTooLong line) lines more cause one = absurd cause
+    few_by (Damaged place) lines more cause one = absurd cause
+    few_by ReadFault lines more cause one = absurd cause
+    few_by WriteFault lines more cause one = absurd cause
+    few_by (NotJsonMl why) lines more cause one = absurd cause
 
-    end_is : (status : Status) (answered more rest : List (Asked StoreCall)) → answered ++ (more ++ rest) ≡ all → StopsBy status (said s answered) more → IsDocumentEnd c s read status (answered ++ more)
-    end_is (DocumentRefused why) answered more rest parts by =
-        ap (end_of s) is
-        ∙ ap (λ (l : List (Asked StoreCall)). end_by (reason_in (said s l))) (sym parts)
-        ∙ ap (λ (l : List LineReply). end_by (reason_in l)) (said_on s answered (more ++ rest))
-        ∙ ap end_by (reason_stays (said s answered) (said (after s answered) (more ++ rest)) why by.0)
-    end_is DiskFault answered more rest parts by = tt
-    end_is NoMemory answered more rest parts by = tt
-    end_is Done answered more rest parts by = absurd by
-    end_is Usage answered more rest parts by = absurd by
-    end_is (LineTooLong line) answered more rest parts by = absurd by
-    end_is (Damaged place) answered more rest parts by = absurd by
-    end_is ReadFault answered more rest parts by = absurd by
-    end_is WriteFault answered more rest parts by = absurd by
-    end_is (NotJsonMl why) answered more rest parts by = absurd by
+    end_is : (status : Status) (answered more rest : List (Asked StoreCall)) → answered ++ (more ++ rest) ≡ all → StopsBy (stops_at c) status (said s answered) more → IsDocumentEnd c s read status (answered ++ more)
+    end_is (DocumentRefused why) answered more rest parts cause =
+        ap (end_of c s) is
+        ∙ ap (λ (l : List (Asked StoreCall)). end_by (first_reason (stops_at c) (said s l))) (sym parts)
+        ∙ ap (λ (l : List LineReply). end_by (first_reason (stops_at c) l)) (said_on s answered (more ++ rest))
+        ∙ ap end_by (reason_stays (stops_at c) (said s answered) (said (after s answered) (more ++ rest)) why cause.0)
+    end_is DiskFault answered more rest parts cause = tt
+    end_is NoMemory answered more rest parts cause = tt
+    end_is Done answered more rest parts cause = absurd cause
+    end_is Usage answered more rest parts cause = absurd cause
+    end_is (LineTooLong line) answered more rest parts cause = absurd cause
+    end_is (Damaged place) answered more rest parts cause = absurd cause
+    end_is ReadFault answered more rest parts cause = absurd cause
+    end_is WriteFault answered more rest parts cause = absurd cause
+    end_is (NotJsonMl why) answered more rest parts cause = absurd cause
 
-    within_by : (status : Status) (lines : List LineReply) (more : List (Asked StoreCall)) → StopsBy status lines more → IsWithin status (length read)
-    within_by (DocumentRefused why) lines more by = short
-    within_by DiskFault lines more by = short
-    within_by NoMemory lines more by = omega (arith, short)
-    within_by Done lines more by = absurd by
-    within_by Usage lines more by = absurd by
-    within_by (LineTooLong line) lines more by = absurd by
-    within_by (Damaged place) lines more by = absurd by
-    within_by ReadFault lines more by = absurd by
-    within_by WriteFault lines more by = absurd by
-    within_by (NotJsonMl why) lines more by = absurd by
+    within_by : (status : Status) (lines : List LineReply) (more : List (Asked StoreCall)) → StopsBy (stops_at c) status lines more → IsWithin status (length read)
+    within_by (DocumentRefused why) lines more cause = short
+    within_by DiskFault lines more cause = short
+    within_by NoMemory lines more cause = omega (arith, short)
+    within_by Done lines more cause = absurd cause
+    within_by Usage lines more cause = absurd cause
+    within_by (LineTooLong line) lines more cause = absurd cause
+    within_by (Damaged place) lines more cause = absurd cause
+    within_by ReadFault lines more cause = absurd cause
+    within_by WriteFault lines more cause = absurd cause
+    within_by (NotJsonMl why) lines more cause = absurd cause
 
     -- session 1 stopped
-    pub document_stopped : (status : Status) → Stopped is_known s all old new status → DocumentWent is_known s c read old new status
+    pub document_stopped : (status : Status) → Stopped (stops_at c) is_known s all old new status → DocumentWent is_known s c read old new status
     document_stopped status h = record {
       answered = h.answered;
       more = h.more;
       first = subst (AreFirst (h.answered ++ h.more)) (sym is) (h.rest, append_assoc h.answered h.more h.rest ∙ h.parts);
-      few = few_by status (said s h.answered) h.more h.by h.one;
+      few = few_by status (said s h.answered) h.more h.cause h.one;
       valid = h.valid;
       stops = h.stops;
-      end = end_is status h.answered h.more h.rest h.parts h.by;
-      short = within_by status (said s h.answered) h.more h.by;
+      end = end_is status h.answered h.more h.rest h.parts h.cause;
+      short = within_by status (said s h.answered) h.more h.cause;
       moments = h.moments;
       left = h.left;
-      still = λ reads_none. h.still (asks_no_commit c s read all is reads_none);
+      still = λ commits_none. h.still (asks_no_commit c s read all is commits_none);
     }
 
     -- session 1 was answered to its end
-    pub document_answered : (core : CoreView StoreCall Entries) (now : List LineReply) (text : List ℕ) → AllAnswered is_known s all old core new [] now → text ≡ text_of c now → HasText is_known s c read old new text
+    pub document_answered : (core : CoreView StoreCall Entries) (now : List LineReply) (text : List ℕ) → AllAnswered (stops_at c) is_known s all old core new [] now → text ≡ text_of c s all → HasText is_known s c read old new text
     document_answered core now text h shown =
         let whole : all ++ [] ≡ all = append-nil all in
         record {
@@ -175,13 +176,13 @@ module _ (is_known : Bool) (s : State StoreCall) (c : Command) (read : List ℕ)
             few = omega arith;
             valid = subst AreValidAsks (sym whole) h.valid;
             stops = record { front = all; last = []; parts = refl; one = omega arith; unrefused = h.unrefused };
-            end = (is ∙ ap Ok (sym whole), ap (λ (l : List (Asked StoreCall)). end_by (reason_in (said s l))) whole ∙ ap end_by h.unrefused);
+            end = (is ∙ ap Ok (sym whole), ap (λ (l : List (Asked StoreCall)). end_by (first_reason (stops_at c) (said s l))) whole ∙ ap end_by h.unrefused);
             short = short;
             moments = subst (λ (l : List (Asked StoreCall)). LeavesFirst is_known s l old new) (sym whole) h.moments;
             left = λ known holds image is_image. inl (image_holds (after s all) new (h.leads.settled known holds) image is_image);
-            still = λ reads_none. h.still (asks_no_commit c s read all is reads_none);
+            still = λ commits_none. h.still (asks_no_commit c s read all is commits_none);
           };
-          shown = shown ∙ ap (text_of c) (h.replies ∙ ap (said s) (sym whole));
+          shown = shown ∙ ap (text_of c s) (sym whole);
         }
 
   -- where the text can't be written, it went as where it can
@@ -226,7 +227,7 @@ module _ (t : Tree) (n limit : ℕ) (formed : IsValidTree t) where
   pub document_ran : (is_known : Bool) (c : Command) (o : Outcome) (journal pages : History) (status : Status) → IsTrue is_known → HoldsAll s journal → pages.now ≡ all_synced []
       → (went : DocumentWent is_known s c o.read journal o.new.journal status) → o.new.pages ≡ pages → IsImage o.new.journal.now o.new.journal.now.reads → IsImage o.new.pages.now o.new.pages.now.reads
       → (reads_input (Some c) ≡ false → o.read ≡ []) → (IsTrue (reads_input (Some c)) → NeedsWhole status (went.answered ++ went.more) (IsWhole o.left o.read))
-      → WroteWhole status o.before o.now (text_of c (said s (went.answered ++ went.more))) → DocumentRan t n limit c status (pair_of journal pages) o
+      → WroteWhole status o.before o.now (text_of c s (went.answered ++ went.more)) → DocumentRan t n limit c status (pair_of journal pages) o
   document_ran is_known c o journal pages status known settled empty went still of_journal of_pages unread judged wrote =
       let asked : List (Asked StoreCall) = went.answered ++ went.more in
       let empty_now : o.new.pages.now ≡ all_synced [] = ap (λ (h : History). h.now) still ∙ empty in
@@ -276,7 +277,7 @@ done_err (Err e) status is_known s c read old new bytes is went = subst (Documen
 
 -- session 1 was asked all that the command asks, or stopped
 pub document_done : {T : Type 0} (r : Result T Status) (is_known : Bool) (s : State StoreCall) (c : Command) (read : List ℕ) (all : List (Asked StoreCall)) → asks_of c s read ≡ Ok all → length read ≤ whole_limit
-    → (old new : History) (core : CoreView StoreCall Entries) (now : List LineReply) (bytes : T → List ℕ) → AskedInTurn is_known s all old core new [] now r → IfOk r (λ text. bytes text ≡ text_of c now) → DocumentDone is_known s c read old new bytes r
+    → (old new : History) (core : CoreView StoreCall Entries) (now : List LineReply) (bytes : T → List ℕ) → AskedInTurn (stops_at c) is_known s all old core new [] now r → IfOk r (λ text. bytes text ≡ text_of c s all) → DocumentDone is_known s c read old new bytes r
 document_done (Ok text) is_known s c read all is short old new core now bytes asked shown = document_answered is_known s c read all is short old new core now (bytes text) asked shown
 document_done (Err status) is_known s c read all is short old new core now bytes asked shown = document_stopped is_known s c read all is short old new status asked
 
@@ -378,7 +379,7 @@ unwritten_is (DocumentRefused why) before now text is same = same
 pub record WentAndWrote (is_known : Bool) (s : State StoreCall) (c : Command) (read : List ℕ) (whole : Type 0) (old new : History) (status : Status) (before now : Option (List ℕ)) : Type 0 where
   pub went : DocumentWent is_known s c read old new status
   pub judged : NeedsWhole status (went.answered ++ went.more) whole
-  pub wrote : WroteWhole status before now (text_of c (said s (went.answered ++ went.more)))
+  pub wrote : WroteWhole status before now (text_of c s (went.answered ++ went.more))
 
 module _ {T : Type 0} (is_known : Bool) (s : State StoreCall) (c : Command) (read : List ℕ) (W : Type 0) (old new : History) (bytes : T → List ℕ) (before now : Option (List ℕ)) where
   text_written : (status : Status) (text : List ℕ) → HasText is_known s c read old new text → W → IsWriteEnd status → WroteWhole status before now text
@@ -399,7 +400,7 @@ module _ {T : Type 0} (is_known : Bool) (s : State StoreCall) (c : Command) (rea
       → IfOk r (λ text. IsWriteEnd status × WroteWhole status before now (bytes text)) → IfErr r (λ e. (status ≡ e) × (now ≡ before)) → WentAndWrote is_known s c read W old new status before now
   document_written (Ok text) status done unwritten written none = text_written status (bytes text) done.0 done.1 written.0 written.1
   document_written (Err e) status done unwritten written none = subst (λ (x : Status). WentAndWrote is_known s c read W old new x before now) (sym none.0)
-      (record { went = done.went; judged = done.judged; wrote = unwritten_is e before now (text_of c (said s (done.went.answered ++ done.went.more))) unwritten none.1 })
+      (record { went = done.went; judged = done.judged; wrote = unwritten_is e before now (text_of c s (done.went.answered ++ done.went.more)) unwritten none.1 })
 
 -- ---- a core that was opened
 

@@ -3,6 +3,7 @@ pub mod AskingLaws
 pub mod CommandRunLaws
 pub mod CommitCounts
 pub mod CommitLaws
+pub mod CountingLaws
 pub mod DocumentLaws
 pub mod LineLaws
 pub mod LiveLaws

@@ -3,7 +3,7 @@ use Rattle.std.specs.Prelude.{ℕ, Option, Some, None}
 use Rattle.outside_traits.specs.DiskPairs.{PairsHave, PairsLeave}
 use Rattle.call_contract.specs.Books.{IsSerial}
 use Rattle.store_calls.specs.StoreCalls.{store_meaning}
-use Rattle.command_words.specs.Commands.{Command, run, put, get, query}
+use Rattle.command_words.specs.Commands.{Command, run, put, get, query, gen}
 use Rattle.xtc.specs.Promises.{IsOutput, OfAnswered, OfDone, OfPrefix, ShowTrueCycles}
 use Rattle.xtc.specs.TopCall.{OpenedStoreLeaves, Outcome}
 use Rattle.xtc.specs.declared.status.Status.{Status}
@@ -14,6 +14,7 @@ module _ (limit : ℕ) where
   output (Some (put name)) status o left = left.ran.wrote
   output (Some (get name)) status o left = left.ran.wrote
   output (Some (query name path)) status o left = left.ran.wrote
+  output (Some (gen seed count)) status o left = left.ran.wrote
   output None status o left = tt
 
   pub serial : (c : Option Command) (status : Status) (o : Outcome) (left : OpenedStoreLeaves limit c status o)
@@ -22,6 +23,7 @@ module _ (limit : ℕ) where
   serial (Some (put name)) status o left = left.ran.sound.serial
   serial (Some (get name)) status o left = left.ran.sound.serial
   serial (Some (query name path)) status o left = left.ran.sound.serial
+  serial (Some (gen seed count)) status o left = left.ran.sound.serial
   serial None status o left = tt
 
   pub cycles : (c : Option Command) (status : Status) (o : Outcome) (left : OpenedStoreLeaves limit c status o)
@@ -30,6 +32,7 @@ module _ (limit : ℕ) where
   cycles (Some (put name)) status o left = left.ran.sound.deadlocks
   cycles (Some (get name)) status o left = left.ran.sound.deadlocks
   cycles (Some (query name path)) status o left = left.ran.sound.deadlocks
+  cycles (Some (gen seed count)) status o left = left.ran.sound.deadlocks
   cycles None status o left = tt
 
   pub files : (c : Option Command) (status : Status) (o : Outcome) (left : OpenedStoreLeaves limit c status o)
@@ -38,6 +41,7 @@ module _ (limit : ℕ) where
   files (Some (put name)) status o left = left.ran.reads
   files (Some (get name)) status o left = left.ran.reads
   files (Some (query name path)) status o left = left.ran.reads
+  files (Some (gen seed count)) status o left = left.ran.reads
   files None status o left = tt
 
   pub crash : (c : Option Command) (status : Status) (o : Outcome) (left : OpenedStoreLeaves limit c status o)
@@ -46,6 +50,7 @@ module _ (limit : ℕ) where
   crash (Some (put name)) status o left = left.ran.left
   crash (Some (get name)) status o left = left.ran.left
   crash (Some (query name path)) status o left = left.ran.left
+  crash (Some (gen seed count)) status o left = left.ran.left
   crash None status o left = tt
 
   pub moments : (c : Option Command) (status : Status) (o : Outcome) (left : OpenedStoreLeaves limit c status o)
@@ -54,4 +59,5 @@ module _ (limit : ℕ) where
   moments (Some (put name)) status o left = left.ran.any_moment
   moments (Some (get name)) status o left = left.ran.any_moment
   moments (Some (query name path)) status o left = left.ran.any_moment
+  moments (Some (gen seed count)) status o left = left.ran.any_moment
   moments None status o left = tt

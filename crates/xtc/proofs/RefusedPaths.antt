@@ -20,11 +20,11 @@ pub path_went : (is_known : Bool) (s : State StoreCall) (name : Name) (path : Li
     → DocumentWent is_known s (query name path) [] journal journal (status_of_path e)
 path_went is_known s name path error.NoMemory journal refused = nothing_asked is_known s (query name path) [] journal NoMemory tt (omega arith)
 path_went is_known s name path (error.Syntax place) journal refused =
-    nothing_asked is_known s (query name path) [] journal (DocumentRefused (Path (error.Syntax place))) (ap (λ r. end_of s (query_asks_of s name r)) (refused (λ is. cc))) (omega arith)
+    nothing_asked is_known s (query name path) [] journal (DocumentRefused (Path (error.Syntax place))) (ap (λ r. end_of (query name path) s (query_asks_of s name r)) (refused (λ is. cc))) (omega arith)
 path_went is_known s name path (error.Unsupported place what) journal refused =
-    nothing_asked is_known s (query name path) [] journal (DocumentRefused (Path (error.Unsupported place what))) (ap (λ r. end_of s (query_asks_of s name r)) (refused (λ is. cc))) (omega arith)
+    nothing_asked is_known s (query name path) [] journal (DocumentRefused (Path (error.Unsupported place what))) (ap (λ r. end_of (query name path) s (query_asks_of s name r)) (refused (λ is. cc))) (omega arith)
 path_went is_known s name path (error.Deep place) journal refused =
-    nothing_asked is_known s (query name path) [] journal (DocumentRefused (Path (error.Deep place))) (ap (λ r. end_of s (query_asks_of s name r)) (refused (λ is. cc))) (omega arith)
+    nothing_asked is_known s (query name path) [] journal (DocumentRefused (Path (error.Deep place))) (ap (λ r. end_of (query name path) s (query_asks_of s name r)) (refused (λ is. cc))) (omega arith)
 
 pub path_stops : (e : PathError) → IsStop (status_of_path e)
 path_stops error.NoMemory = tt

@@ -1,5 +1,5 @@
--- The commands of one document: what session 1 is asked in turn, how that ends, and what is written (docs/MANUAL.md, "Commands").
-use Rattle.std.specs.Prelude.{ℕ, List, [], ◌∷◌, ◌++◌, if◌then◌else◌, Option, Some, None, Result, Ok, Err}
+-- The commands that aren't done line by line: what sessions are asked in turn, how that ends, and what is written (docs/MANUAL.md, "Commands").
+use Rattle.std.specs.Prelude.{ℕ, Bool, true, false, not, ◌==◌, length, List, [], ◌∷◌, ◌++◌, if◌then◌else◌, Option, Some, None, Result, Ok, Err}
 use Rattle.std.specs.Option.{option_or}
 use Rattle.serde_json.specs.Written.{compact_text}
 use Rattle.dewey_labels.specs.Labels.{Label}
@@ -7,7 +7,9 @@ use Rattle.tree_model.specs.Fragments.{plain, is_text_fragment}
 use Rattle.tree_model.specs.Names.{Name}
 use Rattle.tree_model.specs.declared.dom_call.DomCall.{DomCall}
 use Rattle.tree_model.specs.declared.dom_call.DomCall.TheVariants.{Create, Doc, Dump}
+use Rattle.tree_model.specs.Tree.{Tree, map_of}
 use Rattle.tree_model.specs.declared.fragment.Fragment.{Fragment}
+use Rattle.tree_model.specs.declared.refusal.Refusal.TheVariants.{DocumentExists}
 use Rattle.tree_model.specs.declared.reply.Hit.{Hit}
 use Rattle.tree_model.specs.declared.reply.Reply.TheVariants as reply
 use Rattle.jsonml_io.specs.JsonMl.{fragment_in}
@@ -22,15 +24,18 @@ use Rattle.command_lines.specs.declared.line_reply.LineAnswer.{LineAnswer}
 use Rattle.command_lines.specs.declared.line_reply.LineAnswer.TheVariants as answer
 use Rattle.command_lines.specs.declared.line_reply.LineReply.{LineReply}
 use Rattle.command_lines.specs.declared.line_reply.LineReply.TheVariants.{Said}
+use Rattle.command_lines.specs.declared.line_reply.SessionRefusal.{SessionRefusal}
 use Rattle.command_lines.specs.declared.line_reply.SessionRefusal.TheVariants.{TxLimit, CommitLimit}
 use Rattle.session_driver.specs.Lines.{Asked}
 use Rattle.session_driver.specs.declared.doing.Doing.{Doing}
 use Rattle.session_driver.specs.declared.doing.Doing.TheVariants.{Begin, Commit, Abort, Call}
 use Rattle.xtc.specs.Book.{after_asked}
-use Rattle.command_words.specs.Commands.{Command, run, put, get, query}
+use Rattle.command_words.specs.Commands.{Command, run, put, get, query, gen}
 use Rattle.xpath_parser.specs.Parse.{parsed}
 use Rattle.xpath_parser.specs.declared.path_error.PathError.{PathError}
 use Rattle.path_model.specs.declared.path.XPath.{XPath}
+use Rattle.workload_gen.specs.Scripts.{script}
+use Rattle.xtc.specs.Generated.{generated, summary_line}
 use Rattle.xtc.specs.declared.question.Question.{Question}
 use Rattle.xtc.specs.declared.question.Question.TheVariants.{Whole, FoundBy}
 use Rattle.xtc.specs.declared.status.Reason.{Reason}
@@ -50,20 +55,41 @@ element_in bytes = element_or_not (fragment_in bytes)
 
 -- ---- what is read off replies
 
+-- a begin or a commit is refused by the numbers that are left
+abbrev pub limit_of_session : SessionRefusal → Option Reason
+limit_of_session TxLimit = Some reason.Limit
+limit_of_session CommitLimit = Some reason.Limit
+limit_of_session refusal = None
+
 abbrev pub reason_of_answer : LineAnswer → Option Reason
 reason_of_answer (answer.Reply (reply.Refused why)) = Some (reason.Call why)
-reason_of_answer (answer.Session TxLimit) = Some reason.Limit
-reason_of_answer (answer.Session CommitLimit) = Some reason.Limit
+reason_of_answer (answer.Session refusal) = limit_of_session refusal
 reason_of_answer said = None
 
 abbrev pub reason_of : LineReply → Option Reason
 reason_of (Said session woke said) = reason_of_answer said
 reason_of line = None
 
+abbrev pub limit_of : LineReply → Option Reason
+limit_of (Said session woke (answer.Session refusal)) = limit_of_session refusal
+limit_of line = None
+
+-- the first of the replies by which there is such a reason
+abbrev pub first_reason : (LineReply → Option Reason) → List LineReply → Option Reason
+first_reason by [] = None
+first_reason by (line ∷ lines) = option_or (by line) (first_reason by lines)
+
 -- the first refusal: of a call by the tree, or of a begin or commit by the numbers that are left
 abbrev pub reason_in : List LineReply → Option Reason
-reason_in [] = None
-reason_in (line ∷ lines) = option_or (reason_of line) (reason_in lines)
+reason_in lines = first_reason reason_of lines
+
+-- what ends a command before its end: a refusal, and of the generator's script that of a begin or commit alone, since its summary counts the others
+abbrev pub stops_at : Command → LineReply → Option Reason
+stops_at run = reason_of
+stops_at (put name) = reason_of
+stops_at (get name) = reason_of
+stops_at (query name path) = reason_of
+stops_at (gen seed count) = limit_of
 
 abbrev pub label_of : LineReply → Option Label
 label_of (Said session woke (answer.Reply (reply.Place place))) = place
@@ -134,12 +160,22 @@ abbrev pub put_asks_of : Name → Result Fragment FragmentError → Result (List
 put_asks_of name (Ok element) = Ok (put_asks name element)
 put_asks_of name (Err why) = Err (NotAnElement why)
 
--- what a command asks from a state on, with this input; or how it ends where the input is no element, or its path none
+-- a store with any document has a record
+abbrev pub has_documents : Tree → Bool
+has_documents t = not (length (map_of t) == 0)
+
+-- the generator's script, where the store has no document
+abbrev pub gen_asks_of : Bool → ℕ → ℕ → Result (List (Asked StoreCall)) Status
+gen_asks_of true seed count = Err (DocumentRefused (reason.Call DocumentExists))
+gen_asks_of false seed count = Ok (generated (script seed count))
+
+-- what a command asks from a state on, with this input; or how it ends where the input is no element, its path none, or a document in its way
 abbrev pub asks_of : Command → State StoreCall → List ℕ → Result (List (Asked StoreCall)) Status
 asks_of run st input = Ok []
 asks_of (put name) st input = put_asks_of name (element_in input)
 asks_of (get name) st input = Ok (get_asks st name)
 asks_of (query name path) st input = query_asks_of st name (parsed path)
+asks_of (gen seed count) st input = gen_asks_of (has_documents st.tree) seed count
 
 -- ---- how it ends
 
@@ -148,9 +184,9 @@ end_by None = Done
 end_by (Some why) = DocumentRefused why
 
 -- how a command ends that asks this from a state on, where nothing fails
-abbrev pub end_of : State StoreCall → Result (List (Asked StoreCall)) Status → Status
-end_of st (Err status) = status
-end_of st (Ok asked) = end_by (reason_in (after_asked st asked).lines)
+abbrev pub end_of : Command → State StoreCall → Result (List (Asked StoreCall)) Status → Status
+end_of c st (Err status) = status
+end_of c st (Ok asked) = end_by (first_reason (stops_at c) (after_asked st asked).lines)
 
 -- ---- what is written
 
@@ -171,9 +207,10 @@ abbrev pub answer_line : Question → List LineReply → List ℕ
 answer_line Whole lines = tree_line (tree_in lines)
 answer_line (FoundBy path) lines = hits_line (hits_in lines)
 
--- by what was answered
-abbrev pub text_of : Command → List LineReply → List ℕ
-text_of run lines = []
-text_of (put name) lines = label_line (label_in lines)
-text_of (get name) lines = tree_line (tree_in lines)
-text_of (query name path) lines = hits_line (hits_in lines)
+-- by what is answered to what is asked from a state on
+abbrev pub text_of : Command → State StoreCall → List (Asked StoreCall) → List ℕ
+text_of run st asked = []
+text_of (put name) st asked = label_line (label_in (after_asked st asked).lines)
+text_of (get name) st asked = tree_line (tree_in (after_asked st asked).lines)
+text_of (query name path) st asked = hits_line (hits_in (after_asked st asked).lines)
+text_of (gen seed count) st asked = summary_line st seed count

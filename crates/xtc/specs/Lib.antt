@@ -7,6 +7,7 @@ pub mod Statuses
 pub mod TopCall
 pub mod Promises
 pub mod Commands
+pub mod Generated
 pub mod Documents
 pub mod DocumentsOnTree
 -- words of private functions and of the proof

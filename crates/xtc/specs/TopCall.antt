@@ -17,14 +17,16 @@ use Rattle.call_contract.specs.States.{State, start}
 use Rattle.call_contract.specs.declared.events.Event.TheVariants.{Abort}
 use Rattle.call_contract.specs.declared.events.Noted.{Noted}
 use Rattle.command_lines.specs.declared.command.StoreCall.{StoreCall}
+use Rattle.command_lines.specs.declared.line_reply.LineReply.{LineReply}
 use Rattle.session_driver.specs.Lines.{Asked}
 use Rattle.session_driver.specs.Progress.{Progress}
 use Rattle.session_driver.specs.Waiters.{AllStopped}
 use Rattle.store_calls.specs.StoreCalls.{store_meaning, IsValidStoreCall}
 use Rattle.xtc.specs.Book.{script_of, after_asked, replies_text}
-use Rattle.command_words.specs.Commands.{Command, run, put, get, query}
-use Rattle.xtc.specs.Commands.{reads_input}
-use Rattle.xtc.specs.Documents.{asks_of, end_of, reason_in, text_of}
+use Rattle.command_words.specs.Commands.{Command, run, put, get, query, gen}
+use Rattle.xtc.specs.Commands.{may_commit, reads_input}
+use Rattle.xtc.specs.Documents.{asks_of, end_of, first_reason, stops_at, text_of}
+use Rattle.xtc.specs.declared.status.Reason.{Reason}
 use Rattle.xtc.specs.declared.status.Status.{Status}
 use Rattle.xtc.specs.declared.status.Status.TheVariants.{Done, Usage, LineTooLong, Damaged, ReadFault, WriteFault, DiskFault, NoMemory, NotJsonMl, DocumentRefused}
 
@@ -117,13 +119,13 @@ pub record ScriptRan (t : Tree) (n limit : ℕ) (status : Status) (opening : Pai
   -- the pages aren't written
   pub pages : o.new.pages ≡ opening.pages
 
--- ---- a command of one document that ran
+-- ---- a command that asks in turn, and that ran
 
 -- the most bytes of an input that is read as a whole
 abbrev pub whole_limit : ℕ
 whole_limit = 16777216
 
--- after the commits of the first of what session 1 was asked, at least of so many
+-- after the commits of the first of what was asked, at least of so many
 pub record OpenAfterAsked (t : Tree) (n limit : ℕ) (least : ℕ) (asked : List (Asked StoreCall)) (journal pages : List ℕ) : Type 0 where
   pub count : ℕ
   pub enough : least ≤ count
@@ -137,9 +139,9 @@ AreFirst asked (Err status) = asked ≡ []
 
 -- what a status says of the input, and of what was asked from a state on; where nothing fails it is `end_of`
 abbrev pub IsDocumentEnd : Command → State StoreCall → List ℕ → Status → List (Asked StoreCall) → Type 0
-IsDocumentEnd c st read Done asked = (asks_of c st read ≡ Ok asked) × (end_of st (Ok asked) ≡ Done)
-IsDocumentEnd c st read WriteFault asked = (asks_of c st read ≡ Ok asked) × (end_of st (Ok asked) ≡ Done)
-IsDocumentEnd c st read (DocumentRefused why) asked = end_of st (asks_of c st read) ≡ DocumentRefused why
+IsDocumentEnd c st read Done asked = (asks_of c st read ≡ Ok asked) × (end_of c st (Ok asked) ≡ Done)
+IsDocumentEnd c st read WriteFault asked = (asks_of c st read ≡ Ok asked) × (end_of c st (Ok asked) ≡ Done)
+IsDocumentEnd c st read (DocumentRefused why) asked = end_of c st (asks_of c st read) ≡ DocumentRefused why
 IsDocumentEnd c st read (NotJsonMl why) asked = asks_of c st read ≡ Err (NotJsonMl why)
 IsDocumentEnd c st read (LineTooLong line) asked = (line ≡ 0) × (asked ≡ [])
 IsDocumentEnd c st read ReadFault asked = IsTrue (reads_input (Some c)) × (asked ≡ [])
@@ -148,13 +150,13 @@ IsDocumentEnd c st read NoMemory asked = Unit {0}
 IsDocumentEnd c st read Usage asked = ⊥
 IsDocumentEnd c st read (Damaged place) asked = ⊥
 
--- nothing was asked behind a refusal: all of these but the last one at most were answered, and none of them refused
-pub record StopsAtRefusal (st : State StoreCall) (asked : List (Asked StoreCall)) : Type 0 where
+-- nothing was asked behind a reply by which there is a reason to stop: all of these but the last one at most were answered, and there was none
+pub record StopsAtRefusal (by : LineReply → Option Reason) (st : State StoreCall) (asked : List (Asked StoreCall)) : Type 0 where
   pub front : List (Asked StoreCall)
   pub last : List (Asked StoreCall)
   pub parts : front ++ last ≡ asked
   pub one : length last ≤ 1
-  pub unrefused : reason_in (after_asked st front).lines ≡ None
+  pub unrefused : first_reason by (after_asked st front).lines ≡ None
 
 -- so many bytes were read: more than an input may have at that status alone, or where memory was wanting for them
 abbrev pub IsWithin : Status → ℕ → Type 0
@@ -179,23 +181,23 @@ WroteWhole Done before now text = Took before now text
 WroteWhole WriteFault before now text = TookPrefix before now text
 WroteWhole status before now text = now ≡ before
 
--- `put`, `get` or `query` over a store that was opened as a tree and a number. `asked` is what session 1 was asked in turn, up to the first refusal; `answered` of these were answered,
+-- `put`, `get`, `query` or `gen` over a store that was opened as a tree and a number. `asked` is what sessions were asked in turn, up to the first reply that ends the command; `answered` of these were answered,
 -- all but the last one at most, within whose commit the command stopped. The book of all is sound,
 -- and the files, now and as a crash leaves them at any moment, stand for a prefix of its commits with every one that was answered.
 pub record DocumentRan (t : Tree) (n limit : ℕ) (c : Command) (status : Status) (opening : Pair) (o : Outcome) : Type 0 where
   pub asked : List (Asked StoreCall)
   pub first : AreFirst asked (asks_of c (start t n limit) o.read)
-  pub stops : StopsAtRefusal (start t n limit) asked
+  pub stops : StopsAtRefusal (stops_at c) (start t n limit) asked
   pub answered : ℕ
   pub all_but : length asked ≤ answered + slack status
   pub sound : IsSound t n limit (after_asked (start t n limit) asked)
   pub end : IsDocumentEnd c (start t n limit) o.read status asked
   pub short : IsWithin status (length o.read)
-  -- `put` judges its whole input and commits nothing but that; `get` and `query` read none, and leave the journal
+  -- `put` judges its whole input and commits nothing but that; the others read none, and `get` and `query` leave the journal
   pub whole : IsTrue (reads_input (Some c)) → NeedsWhole status asked (IsWhole o.left o.read)
   pub unread : reads_input (Some c) ≡ false → o.read ≡ []
-  pub unwritten : reads_input (Some c) ≡ false → o.new.journal ≡ opening.journal
-  pub wrote : WroteWhole status o.before o.now (text_of c (after_asked (start t n limit) asked).lines)
+  pub unwritten : may_commit (Some c) ≡ false → o.new.journal ≡ opening.journal
+  pub wrote : WroteWhole status o.before o.now (text_of c (start t n limit) asked)
   -- a crash at any moment since the opening, a crash now, and the files as they read
   pub any_moment : PairsLeave (OpenAfterAsked t n limit 0 asked) opening o.new
   pub left : PairsHave (OpenAfterAsked t n limit answered asked) o.new
@@ -209,6 +211,7 @@ CommandRan t n limit (Some run) status opening o = ScriptRan t n limit status op
 CommandRan t n limit (Some (put name)) status opening o = DocumentRan t n limit (put name) status opening o
 CommandRan t n limit (Some (get name)) status opening o = DocumentRan t n limit (get name) status opening o
 CommandRan t n limit (Some (query name path)) status opening o = DocumentRan t n limit (query name path) status opening o
+CommandRan t n limit (Some (gen seed count)) status opening o = DocumentRan t n limit (gen seed count) status opening o
 CommandRan t n limit None status opening o = ⊥
 
 -- ---- by the status
@@ -249,11 +252,12 @@ pub record TookInput (command : Option Command) (status : Status) (left left_now
   pub unread : IsUnread status ((left_now ≡ left) × (given_now ≡ given))
   pub bound : given_now ≤ given + input_limit
 
--- so it is in a command of one document
+-- so it is in a command that isn't done line by line
 abbrev pub OfDocument : Option Command → Type 0 → Type 0
 OfDocument (Some (put name)) P = P
 OfDocument (Some (get name)) P = P
 OfDocument (Some (query name path)) P = P
+OfDocument (Some (gen seed count)) P = P
 OfDocument command P = Unit {0}
 
 -- so it is where nothing is written

@@ -3,3 +3,4 @@ pub mod CommandRuns
 pub mod Stores
 pub mod Asking
 pub mod Showing
+pub mod Counting

@@ -5,7 +5,7 @@ ghost use Rattle.command_lines.specs.declared.command.StoreCall.{StoreCall};
 ghost use Rattle.command_lines.specs.declared.line_reply.LineAnswer.TheVariants as line_answer;
 ghost use Rattle.command_lines.specs.ReplyValues.{reply_value};
 ghost use Rattle.serde_json.specs.Written.{compact_text};
-ghost use Rattle.xtc.specs.Documents.{answer_line, reason_of_answer, reason_of, reason_in, hits_in, hits_line, label_in, tree_in, label_line, tree_line};
+ghost use Rattle.xtc.specs.Documents.{answer_line, first_reason, limit_of, limit_of_session, reason_of_answer, reason_of, reason_in, hits_in, hits_line, label_in, tree_in, label_line, tree_line};
 ghost use Rattle.xtc.specs.StoreMachine.{Stands};
 ghost use Rattle.xtc.specs.inside.Asking.{all_asks, AreValidAsks, AskedInTurn, IsStop};
 ghost use Rattle.xtc.specs.inside.Stores.{MayBeAsked, Counts};
@@ -39,7 +39,7 @@ pub fn ask_in_turn<J: Disk>(
     requires may { MayBeAsked core.old journal.old }
     requires valid { AreValidAsks (all_asks doings.items) }
     requires unrefused { reason_in replies.old.items ≡ None }
-    ensures asked { (s : State StoreCall) → Stands core.old s → AskedInTurn J.is_known s (all_asks doings.items)
+    ensures asked { (s : State StoreCall) → Stands core.old s → AskedInTurn reason_of J.is_known s (all_asks doings.items)
         journal.old.history core.new journal.new.history replies.old.items replies.new.items result }
     ensures stops { IfErr result IsStop }
     ensures may { OnOk result (MayBeAsked core.new journal.new) }
@@ -94,7 +94,7 @@ fn reason_of_answer(answer: &LineAnswer) -> Option<Reason>
 {
     match answer {
         LineAnswer::Reply(reply) => reason_of_reply(reply),
-        LineAnswer::Session(refusal) => reason_of_session(*refusal),
+        LineAnswer::Session(refusal) => limit_of_session(*refusal),
         LineAnswer::Wait { .. } | LineAnswer::Deadlock(_) => None,
     }
 }
@@ -109,11 +109,35 @@ fn reason_of_reply(reply: &Reply) -> Option<Reason>
 }
 
 /// No number is left for the transaction that a session begins, or no room for its commit.
-fn reason_of_session(refusal: SessionRefusal) -> Option<Reason>
-    ensures { result ≡ reason_of_answer (line_answer.Session refusal) }
+fn limit_of_session(refusal: SessionRefusal) -> Option<Reason>
+    ensures { result ≡ limit_of_session refusal }
 {
     match refusal {
         SessionRefusal::TxLimit | SessionRefusal::CommitLimit => Some(Reason::Limit),
+        _ => None,
+    }
+}
+
+/// The first refusal of a begin or a commit by the numbers that are left.
+pub fn limit_in(replies: &[LineReply]) -> Option<Reason>
+    ensures { result ≡ first_reason limit_of replies.now }
+{
+    for reply in replies {
+        if let Some(why) = limit_of(reply) {
+            return Some(why);
+        }
+    }
+    None
+}
+
+fn limit_of(reply: &LineReply) -> Option<Reason>
+    ensures { result ≡ limit_of reply.now }
+{
+    match reply {
+        LineReply::Said {
+            answer: LineAnswer::Session(refusal),
+            ..
+        } => limit_of_session(*refusal),
         _ => None,
     }
 }

@@ -6,6 +6,7 @@
 
 mod asking;
 mod document;
+mod generator;
 mod halt;
 mod laws;
 mod line;

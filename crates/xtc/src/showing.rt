@@ -10,7 +10,7 @@ ghost use Rattle.command_lines.specs.ValidCommands.{IsValidWhat};
 ghost use Rattle.command_lines.specs.declared.command.What.TheVariants.{Call};
 ghost use Rattle.command_lines.specs.declared.command.StoreCall.{StoreCall};
 ghost use Rattle.command_words.specs.Commands.{Command, get as get_command, query as query_command};
-ghost use Rattle.xtc.specs.Documents.{answer_line, call_of, find_asks, label_in, question_asks, reason_in};
+ghost use Rattle.xtc.specs.Documents.{answer_line, call_of, find_asks, label_in, question_asks, reason_in, reason_of};
 ghost use Rattle.xtc.specs.StoreMachine.{Stands};
 ghost use Rattle.xtc.specs.TopCall.{tx_limit};
 ghost use Rattle.xtc.specs.inside.Asking.{all_asks, AreValidAsks, AskedInTurn, DocumentDone, IsStop};
@@ -168,7 +168,7 @@ fn find<J: Disk>(
 ) -> Result<Option<Label>, Status>
     requires may { MayBeAsked core.old journal.old }
     requires unrefused { reason_in replies.old.items ≡ None }
-    ensures asked { (s : State StoreCall) → Stands core.old s → AskedInTurn J.is_known s (find_asks name.now)
+    ensures asked { (s : State StoreCall) → Stands core.old s → AskedInTurn reason_of J.is_known s (find_asks name.now)
         journal.old.history core.new journal.new.history replies.old.items replies.new.items result }
     ensures label { IfOk result (λ label. label ≡ label_in replies.new.items) }
     ensures stops { IfErr result IsStop }
@@ -193,7 +193,7 @@ fn ask_question<J: Disk>(
     requires may { MayBeAsked core.old journal.old }
     requires unrefused { reason_in replies.old.items ≡ None }
     requires lawful { IsLawful question.now }
-    ensures asked { (s : State StoreCall) → Stands core.old s → AskedInTurn J.is_known s (question_asks question.now label)
+    ensures asked { (s : State StoreCall) → Stands core.old s → AskedInTurn reason_of J.is_known s (question_asks question.now label)
         journal.old.history core.new journal.new.history replies.old.items replies.new.items result }
     ensures stops { IfErr result IsStop }
     ensures text { IfOk result (λ text. text.items ≡ answer_line question.now replies.new.items) }

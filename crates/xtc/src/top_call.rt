@@ -8,11 +8,12 @@ ghost use Rattle.node_records.specs.declared.open_error.Place.{Place};
 ghost use Rattle.recovery.specs.Openings.{FoundDamaged, TakesBehind};
 ghost use Rattle.script_runs.specs.Counts.{CountedWhere, DisksCountedWhere, ReadCountedWhere};
 ghost use Rattle.outside_kinds.specs.Bounds.{input_limit};
-ghost use Rattle.command_words.specs.Commands.{command_of, meant, run};
+ghost use Rattle.command_words.specs.Commands.{IsInRange, command_of, meant, run};
 ghost use Rattle.xtc.specs.TopCall.{Leaves, IsSilent, TookInput, tx_limit};
 ghost use Rattle.xtc.specs.inside.CommandRuns.{RunsCommand};
 
 use crate::document::run_put;
+use crate::generator::run_gen;
 use crate::showing::{run_get, run_query};
 use crate::status::Status;
 use crate::store::Store;
@@ -34,7 +35,8 @@ pub struct Finish<J, P> {
 }
 
 /// Does what the words after the program's name say, over the store on two disks: `run` takes a script from the source and gives its replies to the sink,
-/// `put NAME` makes a document of the whole input and gives its label, `get NAME` gives a document, and `query NAME PATH` what a path finds from one. A commit is answered once it is durable.
+/// `put NAME` makes a document of the whole input and gives its label, `get NAME` gives a document, and `query NAME PATH` what a path finds from one.
+/// `gen SEED COUNT` runs the generator's script over a store without documents, and gives what is counted of its replies. A commit is answered once it is durable.
 /// What is pending of a script is written before each read, so whoever writes a line and waits has its reply.
 pub fn xtc<S: Source, K: Sink, J: Disk + Send, P: Disk + Send>(
     alloc: Global,
@@ -108,6 +110,7 @@ fn run_command<S: Source, K: Sink, J: Disk, P: Disk>(
     sink: &mut K,
     store: Opened<J, P>,
 ) -> Finish<J, P>
+    requires ranges { IsInRange (meant command) }
     requires tree { IsStoredTree store.base }
     requires next { TakesBehind store.journal store.number }
     ensures { RunsCommand J.is_known P.is_known store.base store.number (meant command.entry) result.status
@@ -128,6 +131,7 @@ fn run_command<S: Source, K: Sink, J: Disk, P: Disk>(
         Command::Put(name) => run_put(alloc, name, source, sink, store),
         Command::Get(name) => run_get(alloc, name, sink, store),
         Command::Query(name, path) => run_query(alloc, name, path, sink, store),
+        Command::Gen { seed, count } => run_gen(alloc, seed, count, sink, store),
     }
 }
 

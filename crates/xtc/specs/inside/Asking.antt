@@ -1,5 +1,5 @@
 -- What asking session 1 in turn leaves of the core and the journal of a store.
-use Rattle.std.specs.Prelude.{◌≡◌, ◌≢◌, ◌≤◌, ◌+◌, ℕ, Bool, false, List, [], ◌++◌, length, map, None, Some, Result, Ok, Err, IsTrue}
+use Rattle.std.specs.Prelude.{◌≡◌, ◌≢◌, ◌≤◌, ◌+◌, ℕ, Bool, false, List, [], ◌++◌, length, map, Option, None, Some, Result, Ok, Err, IsTrue}
 use Rattle.std.specs.List.{AllByRecursion}
 use Rattle.outside_traits.specs.CrashImages.{IsImage}
 use Rattle.outside_traits.specs.Moments.{History, LeavesOnly}
@@ -16,10 +16,11 @@ use Rattle.store_calls.specs.StoreCalls.{IsValidStoreCall}
 use Rattle.tx_core.specs.Cores.{CoreView}
 use Rattle.xtc.specs.Book.{after_asked}
 use Rattle.command_words.specs.Commands.{Command}
-use Rattle.xtc.specs.Commands.{reads_input}
-use Rattle.xtc.specs.Documents.{asks, asks_of, element_in, reason_in, text_of}
+use Rattle.xtc.specs.Commands.{may_commit}
+use Rattle.xtc.specs.Documents.{asks, asks_of, element_in, first_reason, stops_at, text_of}
 use Rattle.xtc.specs.Durable.{HoldState}
 use Rattle.xtc.specs.TopCall.{AreFirst, IsDocumentEnd, IsWithin, NeedsWhole, StopsAtRefusal, slack, whole_limit}
+use Rattle.xtc.specs.declared.status.Reason.{Reason}
 use Rattle.xtc.specs.declared.status.Status.{Status}
 use Rattle.xtc.specs.declared.status.Status.TheVariants.{Done, Usage, LineTooLong, Damaged, ReadFault, WriteFault, DiskFault, NoMemory, NotJsonMl, DocumentRefused}
 use Rattle.xtc.specs.inside.Stores.{HoldsAll, HoldsEither, LeadsTo}
@@ -61,26 +62,26 @@ abbrev pub LeftEither : Bool → State StoreCall → List (Asked StoreCall) → 
 LeftEither is_known s answered more old new = IsTrue is_known → HoldsAll s old → (image : List ℕ) → IsImage new.now image
     → HoldsEither (after s answered) (after s (answered ++ more)) image
 
--- ---- session 1 asked in turn
+-- ---- sessions asked in turn
 
 -- all were answered, and none refused
-pub record AllAnswered (is_known : Bool) (s : State StoreCall) (all : List (Asked StoreCall)) (old : History) (core : CoreView StoreCall Entries) (new : History) (before now : List LineReply) : Type 0 where
+pub record AllAnswered (by : LineReply → Option Reason) (is_known : Bool) (s : State StoreCall) (all : List (Asked StoreCall)) (old : History) (core : CoreView StoreCall Entries) (new : History) (before now : List LineReply) : Type 0 where
   pub valid : AreValidAsks all
   pub leads : LeadsTo is_known old core new s (after s all)
   pub moments : LeavesFirst is_known s all old new
   pub still : AskNoCommit all → new ≡ old
   pub replies : now ≡ before ++ said s all
-  pub unrefused : reason_in (said s all) ≡ None
+  pub unrefused : first_reason by (said s all) ≡ None
 
 -- why it stops: the last answer refuses the document, or there was none
-abbrev pub StopsBy : Status → List LineReply → List (Asked StoreCall) → Type 0
-StopsBy (DocumentRefused why) lines more = (reason_in lines ≡ Some why) × (more ≡ [])
-StopsBy DiskFault lines more = Unit {0}
-StopsBy NoMemory lines more = Unit {0}
-StopsBy status lines more = ⊥
+abbrev pub StopsBy : (LineReply → Option Reason) → Status → List LineReply → List (Asked StoreCall) → Type 0
+StopsBy by (DocumentRefused why) lines more = (first_reason by lines ≡ Some why) × (more ≡ [])
+StopsBy by DiskFault lines more = Unit {0}
+StopsBy by NoMemory lines more = Unit {0}
+StopsBy by status lines more = ⊥
 
 -- the first were answered, and it stopped behind them or within the next one
-pub record Stopped (is_known : Bool) (s : State StoreCall) (all : List (Asked StoreCall)) (old new : History) (status : Status) : Type 0 where
+pub record Stopped (by : LineReply → Option Reason) (is_known : Bool) (s : State StoreCall) (all : List (Asked StoreCall)) (old new : History) (status : Status) : Type 0 where
   pub answered : List (Asked StoreCall)
   pub more : List (Asked StoreCall)
   pub rest : List (Asked StoreCall)
@@ -90,12 +91,12 @@ pub record Stopped (is_known : Bool) (s : State StoreCall) (all : List (Asked St
   pub moments : LeavesFirst is_known s (answered ++ more) old new
   pub left : LeftEither is_known s answered more old new
   pub still : AskNoCommit all → new ≡ old
-  pub stops : StopsAtRefusal s (answered ++ more)
-  pub by : StopsBy status (said s answered) more
+  pub stops : StopsAtRefusal by s (answered ++ more)
+  pub cause : StopsBy by status (said s answered) more
 
-abbrev pub AskedInTurn : {T : Type 0} → Bool → State StoreCall → List (Asked StoreCall) → History → CoreView StoreCall Entries → History → List LineReply → List LineReply → Result T Status → Type 0
-AskedInTurn is_known s all old core new before now (Ok done) = AllAnswered is_known s all old core new before now
-AskedInTurn is_known s all old core new before now (Err status) = Stopped is_known s all old new status
+abbrev pub AskedInTurn : {T : Type 0} → (LineReply → Option Reason) → Bool → State StoreCall → List (Asked StoreCall) → History → CoreView StoreCall Entries → History → List LineReply → List LineReply → Result T Status → Type 0
+AskedInTurn by is_known s all old core new before now (Ok done) = AllAnswered by is_known s all old core new before now
+AskedInTurn by is_known s all old core new before now (Err status) = Stopped by is_known s all old new status
 
 -- a status with which it stops
 abbrev pub IsStop : Status → Type 0
@@ -129,17 +130,17 @@ pub record DocumentWent (is_known : Bool) (s : State StoreCall) (c : Command) (r
   pub first : AreFirst (answered ++ more) (asks_of c s read)
   pub few : length more ≤ slack status
   pub valid : AreValidAsks (answered ++ more)
-  pub stops : StopsAtRefusal s (answered ++ more)
+  pub stops : StopsAtRefusal (stops_at c) s (answered ++ more)
   pub end : IsDocumentEnd c s read status (answered ++ more)
   pub short : IsWithin status (length read)
   pub moments : LeavesFirst is_known s (answered ++ more) old new
   pub left : LeftEither is_known s answered more old new
-  pub still : reads_input (Some c) ≡ false → new ≡ old
+  pub still : may_commit (Some c) ≡ false → new ≡ old
 
 -- it went to its end, and this text is to be written; or it stopped
 pub record HasText (is_known : Bool) (s : State StoreCall) (c : Command) (read : List ℕ) (old new : History) (text : List ℕ) : Type 0 where
   pub went : DocumentWent is_known s c read old new Done
-  pub shown : text ≡ text_of c (said s (went.answered ++ went.more))
+  pub shown : text ≡ text_of c s (went.answered ++ went.more)
 
 abbrev pub DocumentDone : {T : Type 0} → Bool → State StoreCall → Command → List ℕ → History → History → (T → List ℕ) → Result T Status → Type 0
 DocumentDone is_known s c read old new bytes (Ok text) = HasText is_known s c read old new (bytes text)

@@ -6,10 +6,11 @@ use Rattle.tree_model.specs.Names.{Name}
 use Rattle.tree_model.specs.Tree.{Tree}
 use Rattle.call_contract.specs.States.{State}
 use Rattle.command_lines.specs.declared.command.StoreCall.{StoreCall}
-use Rattle.command_lines.specs.declared.line_reply.LineReply.{LineReply}
+use Rattle.session_driver.specs.Lines.{Asked}
 use Rattle.command_words.specs.Commands.{Command}
-use Rattle.xtc.specs.Commands.{reads_input}
-use Rattle.xtc.specs.Documents.{answer_line, asks_of, show_asks, text_of}
+use Rattle.xtc.specs.Book.{after_asked}
+use Rattle.xtc.specs.Commands.{may_commit, reads_input}
+use Rattle.xtc.specs.Documents.{answer_line, asks_of, reason_of, show_asks, stops_at, text_of}
 use Rattle.xtc.specs.TopCall.{CommandRan, DocumentRan, Outcome}
 use Rattle.xtc.specs.declared.question.Question.{Question}
 use Rattle.xtc.specs.declared.question.Question.TheVariants.{Whole, FoundBy}
@@ -23,8 +24,9 @@ IsLawful (FoundBy path) = IsTrue (is_lawful path)
 -- from a state on the command asks this of the document with a name, and writes the answer
 pub record Shows (c : Command) (s : State StoreCall) (name : Name) (q : Question) : Type 0 where
   pub asks : asks_of c s [] ≡ Ok (show_asks s name q)
-  pub text : (lines : List LineReply) → text_of c lines ≡ answer_line q lines
-  pub unread : reads_input (Some c) ≡ false
+  pub stops : stops_at c ≡ reason_of
+  pub text : (asked : List (Asked StoreCall)) → text_of c s asked ≡ answer_line q (after_asked s asked).lines
+  pub unread : may_commit (Some c) ≡ false
 
 -- a command of a document that reads no input
 pub record IsOfShown (c : Command) : Type 0 where

@@ -49,3 +49,14 @@ returns-in-Query g c =
     let before : Disks = record { files = pair_of store.journal.history (g.P.Disk.history store.pages); faults = record { journal = store.journal.faults; pages = g.P.Disk.faults store.pages } } in
     let left : Disks = record { files = pair_of (g.J.Disk.history result.journal) (g.P.Disk.history result.pages); faults = record { journal = g.J.Disk.faults result.journal; pages = g.P.Disk.faults result.pages } } in
     subst (λ (command : Command). RunsCommand g.J.Disk.is_known g.P.Disk.is_known store.base store.number command result.status input input output output_now before left) (sym (ap meant c.in-Query.is)) (c.run_query.ensures input)
+
+pub returns-in-Gen : goal.returns-in-Gen
+returns-in-Gen g c =
+    let store = c.args.store in
+    let result = c.run_gen.result in
+    let input : Input = record { left = g.S.Source.left c.args.source.now; given = g.S.Source.given c.args.source.now; asked = g.S.Source.asked c.args.source.now; faults = g.S.Source.faults c.args.source.now } in
+    let output : Output = record { held = g.K.Sink.held c.args.sink.now; faults = g.K.Sink.faults c.args.sink.now } in
+    let output_now : Output = record { held = g.K.Sink.held c.run_gen.new.sink; faults = g.K.Sink.faults c.run_gen.new.sink } in
+    let before : Disks = record { files = pair_of store.journal.history (g.P.Disk.history store.pages); faults = record { journal = store.journal.faults; pages = g.P.Disk.faults store.pages } } in
+    let left : Disks = record { files = pair_of (g.J.Disk.history result.journal) (g.P.Disk.history result.pages); faults = record { journal = g.J.Disk.faults result.journal; pages = g.P.Disk.faults result.pages } } in
+    subst (λ (command : Command). RunsCommand g.J.Disk.is_known g.P.Disk.is_known store.base store.number command result.status input input output output_now before left) (sym (ap meant c.in-Gen.is)) (c.run_gen.ensures input)
