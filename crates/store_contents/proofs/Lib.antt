@@ -1,4 +1,0 @@
-pub mod CommitLaws
-pub mod ContentsLaws
-pub mod ContentsRows
-pub mod TreeLaws
