@@ -26,7 +26,7 @@ fn asked(alloc: Global, words: &str) -> Result<String, Fail> {
 }
 
 /// Words, and what they ask for.
-const COMMANDS: [(&str, &str); 33] = [
+const COMMANDS: [(&str, &str); 55] = [
     ("", "Usage"),
     ("''", "Usage"),
     ("run", "Run"),
@@ -60,6 +60,31 @@ const COMMANDS: [(&str, &str); 33] = [
     ("query x /a /b", "Usage"),
     ("query x -1", "Usage"),
     ("query -- x -1", "Query(\"x\", \"-1\")"),
+    ("gen 7 2000", "Gen { seed: 7, count: 2000 }"),
+    ("gen 0 1", "Gen { seed: 0, count: 1 }"),
+    (
+        "gen 4294967295 20000",
+        "Gen { seed: 4294967295, count: 20000 }",
+    ),
+    ("gen 0000000007 0000000001", "Gen { seed: 7, count: 1 }"),
+    ("gen -- 7 1", "Gen { seed: 7, count: 1 }"),
+    ("gen 4294967296 1", "Usage"),
+    ("gen 9999999999 1", "Usage"),
+    ("gen 1 0", "Usage"),
+    ("gen 1 20001", "Usage"),
+    ("gen 00000000007 1", "Usage"),
+    ("gen 7 00000000001", "Usage"),
+    ("gen -1 1", "Usage"),
+    ("gen -- -1 1", "Usage"),
+    ("gen +1 1", "Usage"),
+    ("gen 1 1.0", "Usage"),
+    ("gen 1x 1", "Usage"),
+    ("gen '' 1", "Usage"),
+    ("gen \u{661} 1", "Usage"),
+    ("gen", "Usage"),
+    ("gen 7", "Usage"),
+    ("gen 7 1 1", "Usage"),
+    ("gen 7 1 --checkpoint 1", "Usage"),
 ];
 
 #[test]

@@ -5,6 +5,8 @@
 #[cfg(test)]
 mod documents;
 #[cfg(test)]
+mod generator;
+#[cfg(test)]
 mod in_pieces;
 #[cfg(test)]
 mod real_files;

@@ -514,7 +514,8 @@ fn each_piece_and_fault_leaves_its_prefix_of_the_text(rt: HostRuntime) -> Result
 /// Words that are no command.
 const OTHERS: &[&str] = &[
     "", "Run", "run x", "--help", "run ", " run", "put", "get", "Put x", "put x y", "get x y",
-    "put -x", "get --", "x put", "-- run", "run --f", "run -f",
+    "put -x", "get --", "x put", "-- run", "run --f", "run -f", "gen", "gen 1", "gen 1 0",
+    "gen -1 1",
 ];
 
 fn is_usage(rt: &impl Abort, alloc: Global, words: &str) -> Result<(), Fail> {
