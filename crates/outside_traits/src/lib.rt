@@ -1,4 +1,4 @@
-//! The outside as traits: where bytes come from and where they go, each with its count of faults.
+//! The outside as traits: where bytes come from and where they go, each with its count of faults, and what is done round the lines of workers.
 //! A call answers `Failed` only where the count of the object that it was called on rose (clause `cause`), so a body over these traits can't give up by itself.
 //! What stands behind a trait, a file, a stream or a list in memory, is left to the crate that implements it.
 #![tactic(auto)]
@@ -6,6 +6,7 @@
 mod crash_laws;
 mod disk;
 mod failed;
+mod gate;
 mod sink;
 mod source;
 mod writing;
@@ -17,6 +18,7 @@ pub use crash_laws::{
 };
 pub use disk::Disk;
 pub use failed::Failed;
+pub use gate::Gate;
 pub use sink::Sink;
 pub use source::Source;
 pub use writing::write_all;

@@ -3,14 +3,12 @@
 //! What a port does, and when a transaction that waits goes on, is left to the port; nothing is said of the order in which lines of different sessions are done.
 #![tactic(auto)]
 
-mod gate;
 mod merge;
 mod port;
 mod run;
 mod seats;
 mod worker;
 
-pub use gate::{Gate, NoGate};
 pub use port::{PortFault, SessionPort};
 pub use run::{Worked, run_workers};
 pub use seats::have_one_port;

@@ -8,13 +8,13 @@ ghost use Rattle.worker_run.specs.declared.worker.Worker.{Worker};
 ghost use Rattle.worker_run.specs.inside.Running.{HasRooms, RunLeaves};
 ghost use Rattle.worker_run.specs.inside.Working.{HasServed};
 
-use crate::gate::Gate;
 use crate::merge::merge;
 use crate::port::{PortFault, SessionPort};
 use crate::seats::{rooms_for, seat, unseat};
 use crate::worker::{Worker, work};
 use command_lines::{Command, LineReply};
 use dewey_labels::{List, NoMemory};
+use outside_traits::Gate;
 use std::alloc::Global;
 use std::sync::Wait;
 use std::thread;

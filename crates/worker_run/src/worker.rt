@@ -3,9 +3,9 @@ ghost use Rattle.std.specs.Prelude.{◌≡◌, ◌+◌, ◌++◌, ◌∷◌, [],
 ghost use Rattle.worker_run.specs.Workers.{own_lines};
 ghost use Rattle.worker_run.specs.inside.Working.{HasAnswered, HasServed};
 
-use crate::gate::Gate;
 use crate::port::SessionPort;
 use command_lines::{Command, LineReply};
+use outside_traits::Gate;
 use std::alloc::Global;
 use std::sync::Wait;
 

@@ -1,6 +1,6 @@
 //! Gates that hold workers, and give up after so many turns.
+use outside_traits::Gate;
 use std::sync::atomic::{AtomicU64, Ordering};
-use worker_run::Gate;
 
 const MOST_TURNS: u64 = 100_000_000;
 

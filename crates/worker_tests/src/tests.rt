@@ -3,11 +3,13 @@ use crate::counting::CountingPort;
 use crate::gates::{InTurn, Rounds};
 use command_lines::{Command, LineAnswer, LineReply, What};
 use dewey_labels::{List, NoMemory};
+use outside_kinds::NoGate;
+use outside_traits::Gate;
 use std::alloc::Global;
 use std::sync::Wait;
 use std::thread::Threads;
 use tree_model::Reply;
-use worker_run::{Gate, NoGate, PortFault, Worked, have_one_port, run_workers};
+use worker_run::{PortFault, Worked, have_one_port, run_workers};
 
 fn port(session: u32, stops: Option<(u32, PortFault)>) -> CountingPort {
     CountingPort {

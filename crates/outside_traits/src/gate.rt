@@ -1,4 +1,4 @@
-//! What a test does round the lines of workers.
+//! What is done round the lines of workers.
 
 /// What is done round each line of a session, by the line's number in its session, from 1. It changes nothing of a store and has no fault.
 pub trait Gate {
@@ -7,14 +7,4 @@ pub trait Gate {
 
     /// After it is done, or has met a fault.
     fn after(&self, session: u32, line: u32);
-}
-
-/// A gate that holds nobody.
-#[derive(Clone, Copy, Debug, Drop)]
-pub struct NoGate;
-
-impl Gate for NoGate {
-    fn before(&self, _session: u32, _line: u32) {}
-
-    fn after(&self, _session: u32, _line: u32) {}
 }
