@@ -43,6 +43,13 @@ read_counted_as there back most before now given given_now c = record { cause = 
 pub read_never : {P : Type 0} (most faults given : ℕ) → (P → ⊥) → ReadCountedWhere P most faults faults given given
 read_never most faults given never = record { cause = λ p. absurd (never p); exact = λ no. refl }
 
+-- no fault is counted where no call was made
+pub still_counts : (this : Type 0) (before now : ℕ) → now ≡ before → (this → ⊥) → Counts this before now
+still_counts this before now same never = record {
+  cause = record { counted = λ is. absurd (never is); exact = λ _. same };
+  later = omega (arith, same);
+}
+
 -- the counts are told by other values
 pub disks_moved : {P : Type 0} (before before_now now now_now : counts.Counts) → before_now ≡ before → now_now ≡ now → DisksCountedWhere P before_now now → DisksCountedWhere P before now_now
 disks_moved {P} before before_now now now_now first last c = subst (λ (x : counts.Counts × counts.Counts). DisksCountedWhere P x.0 x.1) (λ i. (first i, sym last i)) c

@@ -1,6 +1,6 @@
 -- Lines of the generator's script, one behind another: what they ask, what is counted of them, and what they leave of a store.
 use Rattle.std.proofs.Common.{◌≡◌, ◌≢◌, ◌==◌, ℕ, Bool, true, false, List, [], ◌∷◌, ◌++◌, length, inl, refl, sym, ap, subst, ◌∙◌, append-nil, arith}
-use Rattle.std.specs.Prelude.{None, Some, Result, Ok, Err, OnOk, not}
+use Rattle.std.specs.Prelude.{Option, None, Some, Result, Ok, Err, OnOk, not}
 use Rattle.std.specs.Result.{IsErrAnd}
 use Rattle.std.proofs.lemmas.List.{append_assoc}
 use Rattle.std.proofs.lemmas.Option.{same_Some}
@@ -24,21 +24,24 @@ use Rattle.workload_gen.specs.Summaries.{after_line}
 use Rattle.workload_gen.specs.declared.line.Line.{Line}
 use Rattle.workload_gen.specs.declared.summary.Summary.{Summary}
 use Rattle.command_words.specs.Commands.{gen}
-use Rattle.xtc.specs.Documents.{asks_of, end_of, first_reason, gen_asks_of, has_documents, limit_of}
+use Rattle.durable_sessions.specs.Asked.{LeadsTo, LeavesEither, MayBeAsked, TakesNext, asked_from}
+use Rattle.durable_sessions.specs.InTurn.{AllAnswered, stop_of}
+use Rattle.durable_sessions.specs.Reasons.{first_reason, limit_of}
+use Rattle.durable_sessions.specs.Standing.{Stands}
+use Rattle.durable_sessions.specs.declared.halt.Halt.{Halt}
+use Rattle.durable_sessions.specs.declared.in_turn.Stop.{Stop}
+use Rattle.durable_sessions.specs.declared.in_turn.Stop.TheVariants.{Refused}
+use Rattle.durable_sessions.proofs.InTurnLists.{after_on, said_on}
+use Rattle.durable_sessions.proofs.InTurnLaws.{answered_on, image_holds, none_asked, step_moments, step_lines, step_stopped, stopped_on, stopped_wider}
+use Rattle.xtc.specs.Documents.{asks_of, end_of, gen_asks_of, has_documents}
 use Rattle.xtc.specs.Generated.{asked_in, counted, generated, generated_line}
 use Rattle.xtc.specs.ScriptLine.{Line as Read, line_of}
-use Rattle.xtc.specs.StoreMachine.{Stands}
-use Rattle.xtc.specs.declared.halt.Halt.{Halt}
-use Rattle.xtc.specs.declared.status.Reason.{Reason}
-use Rattle.xtc.specs.declared.status.Reason.TheVariants as reason
+use Rattle.durable_sessions.specs.declared.reasons.Reason.{Reason}
+use Rattle.durable_sessions.specs.declared.reasons.Reason.TheVariants as reason
 use Rattle.xtc.specs.declared.status.Status.{Status}
 use Rattle.xtc.specs.declared.status.Status.TheVariants.{DocumentRefused}
-use Rattle.xtc.specs.Statuses.{status_of_halt}
-use Rattle.xtc.specs.inside.Asking.{AllAnswered, AreValidAsks, DocumentWent, LeavesFirst, Stopped, after, said}
+use Rattle.xtc.specs.inside.Asking.{AreValidAsks, DocumentWent, LeavesFirst, Stopped, after, said}
 use Rattle.xtc.specs.inside.Counting.{AllCounted, AskedLine, HasRun, Made, RanLines}
-use Rattle.xtc.specs.inside.Stores.{LeadsTo, LeavesEither, MayBeAsked, TakesNext, asked_from}
-use Rattle.xtc.proofs.AskedLaws.{after_on, said_on}
-use Rattle.xtc.proofs.AskingLaws.{answered_on, image_holds, none_asked, step_moments, step_lines, step_stopped, stopped_on, stopped_wider}
 use Rattle.xtc.proofs.DocumentLaws.{nothing_asked}
 
 -- ---- lists
@@ -56,153 +59,155 @@ counted_on s before [] ys = refl
 counted_on s before (x ∷ xs) ys =
     let first : Summary = after_line before x.step (said s (generated_line x)) in
     counted_on (after s (generated_line x)) first xs ys
-    ∙ ap (λ (u : State StoreCall). counted u (counted (after s (generated_line x)) first xs) ys) (sym (after_on s (generated_line x) (generated xs)))
+    ∙ ap (λ (u : State StoreCall). counted u (counted (after s (generated_line x)) first xs) ys) (sym (after_on store_meaning s (generated_line x) (generated xs)))
 
 -- ---- one line
-
--- nothing is asked
-pub made_nothing : (is_known : Bool) (s : State StoreCall) (core : CoreView StoreCall Entries) (journal : History) (now : List LineReply) → Stands core s → now ≡ [] → Made is_known s [] journal core journal now
-made_nothing is_known s core journal now stands none =
-    let one = none_asked limit_of is_known s core journal [] stands in
-    record { few = omega arith; valid = tt; leads = one.leads; moments = one.moments; still = one.still; replies = none }
-
--- something is
-pub made_one : (is_known : Bool) (s : State StoreCall) (a : Asked StoreCall) → IsValidDoing IsValidStoreCall a.doing → (old new : History) → (a.doing ≢ Commit → new ≡ old) → (core : CoreView StoreCall Entries) (now : List LineReply)
-    → LeadsTo is_known old core new s (after_asked_line store_meaning s a).state → LeavesEither is_known old new s (after_asked_line store_meaning s a).state → now ≡ (after_asked_line store_meaning s a).lines
-    → Made is_known s (a ∷ []) old core new now
-made_one is_known s a valid old new still core now leads leaves replies = record {
-  few = omega arith;
-  valid = (valid, tt);
-  leads = leads;
-  moments = step_moments limit_of is_known s a valid old new still leaves;
-  still = λ asks_none. still asks_none.0;
-  replies = replies ∙ sym (step_lines limit_of is_known s a valid old new still);
-}
-
--- it stopped
-pub line_err : {T : Type 0} (r : Result T Halt) (h : Halt) (is_known : Bool) (s : State StoreCall) (all : List (Asked StoreCall)) (old : History) (core : CoreView StoreCall Entries) (new : History) (now : List LineReply)
-    → IsErrAnd r (λ e. e ≡ h) → Stopped limit_of is_known s all old new (status_of_halt h) → AskedLine is_known s all old core new now r
-line_err (Ok x) h is_known s all old core new now none stopped = absurd none
-line_err (Err e) h is_known s all old core new now is stopped = subst (λ (k : Halt). Stopped limit_of is_known s all old new (status_of_halt k)) (sym is) stopped
-
--- something was asked, or it stopped in that
-pub line_done : {T : Type 0} (r : Result T Halt) (is_known : Bool) (s : State StoreCall) (a : Asked StoreCall) → IsValidDoing IsValidStoreCall a.doing → (old new : History) → (a.doing ≢ Commit → new ≡ old) → (first core : CoreView StoreCall Entries)
-    (before now : List LineReply) → before ≡ [] → Stands first s → OnOk r ((u : State StoreCall) → Stands first u → LeadsTo is_known old core new u (after_asked_line store_meaning u a).state)
-    → OnOk r ((u : State StoreCall) → Stands first u → now ≡ before ++ (after_asked_line store_meaning u a).lines)
-    → LeavesEither is_known old new s (after_asked_line store_meaning s a).state → AskedLine is_known s (a ∷ []) old core new now r
-line_done (Ok x) is_known s a valid old new still first core before now none stands leads replies leaves =
-    made_one is_known s a valid old new still core now (leads s stands) leaves (replies s stands ∙ ap (λ (l : List LineReply). l ++ (after_asked_line store_meaning s a).lines) none)
-line_done (Err e) is_known s a valid old new still first core before now none stands leads replies leaves = step_stopped limit_of is_known s a valid old new still [] e leaves
-
--- the next may be asked
-pub next_may : {T : Type 0} (r : Result T Halt) (is_known : Bool) (old new : History) (session : ℕ) (doing : Doing StoreCall) (first core : CoreView StoreCall Entries) (journal_before journal : JournalView) → MayBeAsked first journal_before
-    → OnOk r ((u : State StoreCall) → Stands first u → LeadsTo is_known old core new u (asked_from u session doing).state) → OnOk r (TakesNext core journal) → OnOk r (MayBeAsked core journal)
-next_may (Ok x) is_known old new session doing first core journal_before journal may leads takes =
-    record { state = (asked_from may.state session doing).state; stands = (leads may.state may.stands).stands; takes = takes }
-next_may (Err e) is_known old new session doing first core journal_before journal may leads takes = tt
 
 -- what a line that was read asks
 pub line_asks : (line : Line) (read : Read) → read ≡ line_of (line_text line) → asked_in read ≡ generated_line line
 line_asks line read is = ap asked_in is
 
--- then it was answered, or refused by the numbers that are left
-pub line_answered : (is_known : Bool) (s : State StoreCall) (all : List (Asked StoreCall)) (old : History) (core : CoreView StoreCall Entries) (new : History) (now : List LineReply)
-    → Made is_known s all old core new now → first_reason limit_of now ≡ None → AllAnswered limit_of is_known s all old core new [] now
-line_answered is_known s all old core new now made none = record {
-  valid = made.valid;
-  leads = made.leads;
-  moments = made.moments;
-  still = made.still;
-  replies = made.replies;
-  unrefused = ap (first_reason limit_of) (sym made.replies) ∙ none;
-}
+module _ {B : Type 0} (contents : B → Option Entries) where
+  -- nothing is asked
+  pub made_nothing : (is_known : Bool) (s : State StoreCall) (core : CoreView StoreCall B) (journal : History) (now : List LineReply) → Stands store_meaning contents core s → now ≡ [] → Made contents is_known s [] journal core journal now
+  made_nothing is_known s core journal now stands none =
+      let one = none_asked IsValidStoreCall store_meaning contents limit_of is_known s core journal [] stands in
+      record { few = omega arith; valid = tt; leads = one.leads; moments = one.moments; still = one.still; replies = none }
 
-pub line_refused : (is_known : Bool) (s : State StoreCall) (all : List (Asked StoreCall)) (old : History) (core : CoreView StoreCall Entries) (new : History) (now : List LineReply) (why : Reason)
-    → Made is_known s all old core new now → first_reason limit_of now ≡ Some why → Stopped limit_of is_known s all old new (DocumentRefused why)
-line_refused is_known s all old core new now why made refused =
-    let whole : all ++ [] ≡ all = append-nil all in
-    record {
-      answered = all;
-      more = [];
-      rest = [];
-      parts = whole;
-      one = omega arith;
-      valid = subst AreValidAsks (sym whole) made.valid;
-      moments = subst (λ (l : List (Asked StoreCall)). LeavesFirst is_known s l old new) (sym whole) made.moments;
-      left = λ known holds image is. inl (image_holds (after s all) new (made.leads.settled known holds) image is);
-      still = made.still;
-      stops = record { front = []; last = all; parts = sym whole; one = made.few; unrefused = refl };
-      cause = (ap (first_reason limit_of) (sym made.replies) ∙ refused, refl);
-    }
+  -- something is
+  pub made_one : (is_known : Bool) (s : State StoreCall) (a : Asked StoreCall) → IsValidDoing IsValidStoreCall a.doing → (old new : History) → (a.doing ≢ Commit → new ≡ old) → (core : CoreView StoreCall B) (now : List LineReply)
+      → LeadsTo store_meaning contents is_known old core new s (after_asked_line store_meaning s a).state → LeavesEither is_known old new s (after_asked_line store_meaning s a).state → now ≡ (after_asked_line store_meaning s a).lines
+      → Made contents is_known s (a ∷ []) old core new now
+  made_one is_known s a valid old new still core now leads leaves replies = record {
+    few = omega arith;
+    valid = (valid, tt);
+    leads = leads;
+    moments = step_moments IsValidStoreCall store_meaning contents limit_of is_known s a valid old new still leaves;
+    still = λ asks_none. still asks_none.0;
+    replies = replies ∙ sym (step_lines IsValidStoreCall store_meaning contents limit_of is_known s a valid old new still);
+  }
 
--- ---- one line behind others
+  -- it stopped
+  pub line_err : {T : Type 0} (r : Result T Halt) (h : Halt) (is_known : Bool) (s : State StoreCall) (all : List (Asked StoreCall)) (old : History) (core : CoreView StoreCall B) (new : History) (now : List LineReply)
+      → IsErrAnd r (λ e. e ≡ h) → Stopped limit_of is_known s all old new (stop_of h) → AskedLine contents is_known s all old core new now r
+  line_err (Ok x) h is_known s all old core new now none stopped = absurd none
+  line_err (Err e) h is_known s all old core new now is stopped = subst (λ (k : Halt). Stopped limit_of is_known s all old new (stop_of k)) (sym is) stopped
 
--- the replies before don't matter
-behind_others : (is_known : Bool) (s : State StoreCall) (all : List (Asked StoreCall)) (old : History) (core : CoreView StoreCall Entries) (new : History) (before now others : List LineReply)
-    → AllAnswered limit_of is_known s all old core new before now → AllAnswered limit_of is_known s all old core new others (others ++ said s all)
-behind_others is_known s all old core new before now others h = record {
-  valid = h.valid;
-  leads = h.leads;
-  moments = h.moments;
-  still = h.still;
-  replies = refl;
-  unrefused = h.unrefused;
-}
+  -- something was asked, or it stopped in that
+  pub line_done : {T : Type 0} (r : Result T Halt) (is_known : Bool) (s : State StoreCall) (a : Asked StoreCall) → IsValidDoing IsValidStoreCall a.doing → (old new : History) → (a.doing ≢ Commit → new ≡ old) → (first core : CoreView StoreCall B)
+      (before now : List LineReply) → before ≡ [] → Stands store_meaning contents first s → OnOk r ((u : State StoreCall) → Stands store_meaning contents first u → LeadsTo store_meaning contents is_known old core new u (after_asked_line store_meaning u a).state)
+      → OnOk r ((u : State StoreCall) → Stands store_meaning contents first u → now ≡ before ++ (after_asked_line store_meaning u a).lines)
+      → LeavesEither is_known old new s (after_asked_line store_meaning s a).state → AskedLine contents is_known s (a ∷ []) old core new now r
+  line_done (Ok x) is_known s a valid old new still first core before now none stands leads replies leaves =
+      made_one is_known s a valid old new still core now (leads s stands) leaves (replies s stands ∙ ap (λ (l : List LineReply). l ++ (after_asked_line store_meaning s a).lines) none)
+  line_done (Err e) is_known s a valid old new still first core before now none stands leads replies leaves = step_stopped IsValidStoreCall store_meaning contents limit_of is_known s a valid old new still [] e leaves
 
-pub none_run : (is_known : Bool) (s : State StoreCall) (lines : List Line) (core : CoreView StoreCall Entries) (journal : History) (summary : Summary) → Stands core s → HasRun is_known s lines lines journal core journal summary summary
-none_run is_known s lines core journal summary stands = record {
-  front = [];
-  parts = refl;
-  done = record { answered = none_asked limit_of is_known s core journal [] stands; counts = refl };
-}
+  -- the next may be asked
+  pub next_may : {T : Type 0} (r : Result T Halt) (is_known : Bool) (old new : History) (session : ℕ) (doing : Doing StoreCall) (first core : CoreView StoreCall B) (journal_before journal : JournalView) → MayBeAsked store_meaning contents first journal_before
+      → OnOk r ((u : State StoreCall) → Stands store_meaning contents first u → LeadsTo store_meaning contents is_known old core new u (asked_from store_meaning u session doing).state) → OnOk r (TakesNext core journal) → OnOk r (MayBeAsked store_meaning contents core journal)
+  next_may (Ok x) is_known old new session doing first core journal_before journal may leads takes =
+      record { state = (asked_from store_meaning may.state session doing).state; stands = (leads may.state may.stands).stands; takes = takes }
+  next_may (Err e) is_known old new session doing first core journal_before journal may leads takes = tt
 
-module _ (is_known : Bool) (s : State StoreCall) (lines rest : List Line) (line : Line) (old mid : History) (core : CoreView StoreCall Entries) (before now : Summary)
-    (run : HasRun is_known s lines (line ∷ rest) old core mid before now) where
+  -- then it was answered, or refused by the numbers that are left
+  pub line_answered : (is_known : Bool) (s : State StoreCall) (all : List (Asked StoreCall)) (old : History) (core : CoreView StoreCall B) (new : History) (now : List LineReply)
+      → Made contents is_known s all old core new now → first_reason limit_of now ≡ None → AllAnswered IsValidStoreCall store_meaning contents limit_of is_known s all old core new [] now
+  line_answered is_known s all old core new now made none = record {
+    valid = made.valid;
+    leads = made.leads;
+    moments = made.moments;
+    still = made.still;
+    replies = made.replies;
+    unrefused = ap (first_reason limit_of) (sym made.replies) ∙ none;
+  }
+
+  pub line_refused : (is_known : Bool) (s : State StoreCall) (all : List (Asked StoreCall)) (old : History) (core : CoreView StoreCall B) (new : History) (now : List LineReply) (why : Reason)
+      → Made contents is_known s all old core new now → first_reason limit_of now ≡ Some why → Stopped limit_of is_known s all old new (Refused why)
+  line_refused is_known s all old core new now why made refused =
+      let whole : all ++ [] ≡ all = append-nil all in
+      record {
+        answered = all;
+        more = [];
+        rest = [];
+        parts = whole;
+        one = omega arith;
+        valid = subst AreValidAsks (sym whole) made.valid;
+        moments = subst (λ (l : List (Asked StoreCall)). LeavesFirst is_known s l old new) (sym whole) made.moments;
+        left = λ known holds image is. inl (image_holds (after s all) new (made.leads.settled known holds) image is);
+        still = made.still;
+        stops = record { front = []; last = all; parts = sym whole; one = made.few; unrefused = refl };
+        cause = (ap (first_reason limit_of) (sym made.replies) ∙ refused, refl);
+      }
+
+  -- ---- one line behind others
+
+  -- the replies before don't matter
+  behind_others : (is_known : Bool) (s : State StoreCall) (all : List (Asked StoreCall)) (old : History) (core : CoreView StoreCall B) (new : History) (before now others : List LineReply)
+      → AllAnswered IsValidStoreCall store_meaning contents limit_of is_known s all old core new before now → AllAnswered IsValidStoreCall store_meaning contents limit_of is_known s all old core new others (others ++ said s all)
+  behind_others is_known s all old core new before now others h = record {
+    valid = h.valid;
+    leads = h.leads;
+    moments = h.moments;
+    still = h.still;
+    replies = refl;
+    unrefused = h.unrefused;
+  }
+
+  pub none_run : (is_known : Bool) (s : State StoreCall) (lines : List Line) (core : CoreView StoreCall B) (journal : History) (summary : Summary) → Stands store_meaning contents core s → HasRun contents is_known s lines lines journal core journal summary summary
+  none_run is_known s lines core journal summary stands = record {
+    front = [];
+    parts = refl;
+    done = record { answered = none_asked IsValidStoreCall store_meaning contents limit_of is_known s core journal [] stands; counts = refl };
+  }
+
+module _ {B : Type 0} (contents : B → Option Entries) (is_known : Bool) (s : State StoreCall) (lines rest : List Line) (line : Line) (old mid : History) (core : CoreView StoreCall B) (before now : Summary)
+    (run : HasRun contents is_known s lines (line ∷ rest) old core mid before now) where
   -- the state in which the line is asked
   abbrev pub here : State StoreCall
   here = after s (generated run.front)
 
-  pub here_stands : Stands core here
+  pub here_stands : Stands store_meaning contents core here
   here_stands = run.done.answered.leads.stands
 
-  pub run_on : (last : CoreView StoreCall Entries) (new : History) (replies : List LineReply) (later : Summary) → AllAnswered limit_of is_known here (generated_line line) mid last new [] replies
-      → later ≡ after_line now line.step replies → HasRun is_known s lines rest old last new before later
+  pub run_on : (last : CoreView StoreCall B) (new : History) (replies : List LineReply) (later : Summary) → AllAnswered IsValidStoreCall store_meaning contents limit_of is_known here (generated_line line) mid last new [] replies
+      → later ≡ after_line now line.step replies → HasRun contents is_known s lines rest old last new before later
   run_on last new replies later two counts =
       let front : List (Asked StoreCall) = generated run.front in
-      let both : AllAnswered limit_of is_known s (front ++ generated_line line) old last new [] (said s front ++ said here (generated_line line)) =
-      answered_on limit_of is_known s front (generated_line line) old mid core [] (said s front) run.done.answered last new (said s front ++ said here (generated_line line))
-      (behind_others is_known here (generated_line line) mid last new [] replies (said s front) two) in
+      let both : AllAnswered IsValidStoreCall store_meaning contents limit_of is_known s (front ++ generated_line line) old last new [] (said s front ++ said here (generated_line line)) =
+      answered_on IsValidStoreCall store_meaning contents limit_of is_known s front (generated_line line) old mid core [] (said s front) run.done.answered last new (said s front ++ said here (generated_line line))
+      (behind_others contents is_known here (generated_line line) mid last new [] replies (said s front) two) in
       record {
         front = run.front ++ line ∷ [];
         parts = append_assoc run.front (line ∷ []) rest ∙ run.parts;
         done = record {
-          answered = subst (λ (l : List (Asked StoreCall)). AllAnswered limit_of is_known s l old last new [] (said s l)) (sym (generated_one run.front line))
-              (subst (AllAnswered limit_of is_known s (front ++ generated_line line) old last new []) (sym (said_on s front (generated_line line))) both);
+          answered = subst (λ (l : List (Asked StoreCall)). AllAnswered IsValidStoreCall store_meaning contents limit_of is_known s l old last new [] (said s l)) (sym (generated_one run.front line))
+              (subst (AllAnswered IsValidStoreCall store_meaning contents limit_of is_known s (front ++ generated_line line) old last new []) (sym (said_on store_meaning s front (generated_line line))) both);
           counts = counts ∙ ap (λ (x : Summary × List LineReply). after_line x.0 line.step x.1) (λ i. (run.done.counts i, two.replies i)) ∙ sym (counted_on s before run.front (line ∷ []));
         };
       }
 
-  pub run_stops : (new : History) (status : Status) → Stopped limit_of is_known here (generated_line line) mid new status → Stopped limit_of is_known s (generated lines) old new status
-  run_stops new status two =
+  pub run_stops : (new : History) (stop : Stop) → Stopped limit_of is_known here (generated_line line) mid new stop → Stopped limit_of is_known s (generated lines) old new stop
+  run_stops new stop two =
       let front : List (Asked StoreCall) = generated run.front in
       let all : (front ++ generated_line line) ++ generated rest ≡ generated lines =
       append_assoc front (generated_line line) (generated rest) ∙ sym (generated_on run.front (line ∷ rest)) ∙ ap generated run.parts in
-      subst (λ (l : List (Asked StoreCall)). Stopped limit_of is_known s l old new status) all
-      (stopped_wider limit_of is_known s (front ++ generated_line line) (generated rest) old new status
-      (stopped_on limit_of is_known s front (generated_line line) old mid core [] (said s front) run.done.answered new status two))
+      subst (λ (l : List (Asked StoreCall)). Stopped limit_of is_known s l old new stop) all
+      (stopped_wider IsValidStoreCall store_meaning limit_of is_known s (front ++ generated_line line) (generated rest) old new stop
+      (stopped_on IsValidStoreCall store_meaning contents limit_of is_known s front (generated_line line) old mid core [] (said s front) run.done.answered new stop two))
 
--- nothing is left
-pub run_ends : (is_known : Bool) (s : State StoreCall) (lines rest : List Line) (old new : History) (core : CoreView StoreCall Entries) (before now : Summary) → HasRun is_known s lines rest old core new before now → rest ≡ []
-    → AllCounted is_known s lines old core new before now
-run_ends is_known s lines rest old new core before now run none =
-    let all : run.front ≡ lines = sym (append-nil run.front) ∙ ap (λ (l : List Line). run.front ++ l) (sym none) ∙ run.parts in
-    subst (λ (l : List Line). AllCounted is_known s l old core new before now) all run.done
+module _ {B : Type 0} (contents : B → Option Entries) where
+  -- nothing is left
+  pub run_ends : (is_known : Bool) (s : State StoreCall) (lines rest : List Line) (old new : History) (core : CoreView StoreCall B) (before now : Summary) → HasRun contents is_known s lines rest old core new before now → rest ≡ []
+      → AllCounted contents is_known s lines old core new before now
+  run_ends is_known s lines rest old new core before now run none =
+      let all : run.front ≡ lines = sym (append-nil run.front) ∙ ap (λ (l : List Line). run.front ++ l) (sym none) ∙ run.parts in
+      subst (λ (l : List Line). AllCounted contents is_known s l old core new before now) all run.done
 
--- it stopped
-pub ran_err : {T : Type 0} (r : Result T Status) (status : Status) (is_known : Bool) (s : State StoreCall) (lines : List Line) (old : History) (core : CoreView StoreCall Entries) (new : History) (before now : Summary)
-    → IsErrAnd r (λ e. e ≡ status) → Stopped limit_of is_known s (generated lines) old new status → RanLines is_known s lines old core new before now r
-ran_err (Ok x) status is_known s lines old core new before now none stopped = absurd none
-ran_err (Err e) status is_known s lines old core new before now is stopped = subst (Stopped limit_of is_known s (generated lines) old new) (sym is) stopped
+  -- it stopped
+  pub ran_err : {T : Type 0} (r : Result T Stop) (stop : Stop) (is_known : Bool) (s : State StoreCall) (lines : List Line) (old : History) (core : CoreView StoreCall B) (new : History) (before now : Summary)
+      → IsErrAnd r (λ e. e ≡ stop) → Stopped limit_of is_known s (generated lines) old new stop → RanLines contents is_known s lines old core new before now r
+  ran_err (Ok x) stop is_known s lines old core new before now none stopped = absurd none
+  ran_err (Err e) stop is_known s lines old core new before now is stopped = subst (Stopped limit_of is_known s (generated lines) old new) (sym is) stopped
 
 -- ---- a store with documents
 

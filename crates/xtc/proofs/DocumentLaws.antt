@@ -37,18 +37,25 @@ use Rattle.tx_core.specs.Cores.{CoreView, next_number, opened_over}
 use Rattle.xtc.specs.Book.{after_asked}
 use Rattle.command_words.specs.Commands.{Command, run, put, get, query, gen}
 use Rattle.xtc.specs.Commands.{may_commit, reads_input}
-use Rattle.xtc.specs.Documents.{asks_of, put_asks_of, query_asks_of, question_asks, show_asks, end_by, end_of, find_asks, first_reason, label_in, stops_at, text_of}
+use Rattle.durable_sessions.specs.Asked.{MayBeAsked}
+use Rattle.durable_sessions.specs.Durable.{HoldState, HoldsAll, HoldsEither}
+use Rattle.durable_sessions.specs.InTurn.{AllAnswered, AskNoCommit, StopsBy}
+use Rattle.durable_sessions.specs.Reasons.{first_reason}
+use Rattle.durable_sessions.specs.declared.in_turn.Stop.{Stop}
+use Rattle.durable_sessions.specs.declared.in_turn.Stop.TheVariants as stop
+use Rattle.durable_sessions.proofs.InTurnLaws.{image_holds}
+use Rattle.durable_sessions.proofs.InTurnLists.{said_on, reason_stays, valid_first}
+use Rattle.store_calls.specs.StoreCalls.{IsValidStoreCall, store_meaning}
+use Rattle.xtc.specs.Documents.{asks_of, put_asks_of, query_asks_of, question_asks, show_asks, end_by, end_of, find_asks, label_in, stops_at, text_of}
+use Rattle.xtc.specs.Statuses.{status_of_stop}
 use Rattle.xtc.specs.declared.question.Question.{Question}
 use Rattle.xtc.specs.declared.question.Question.TheVariants.{Whole, FoundBy}
-use Rattle.xtc.specs.Durable.{HoldState}
 use Rattle.xtc.specs.StoreMachine.{Stands}
 use Rattle.xtc.specs.TopCall.{AreFirst, DocumentRan, IsDocumentEnd, IsWhole, IsWithin, NeedsWhole, OpenAfterAsked, OpenAfter, Outcome, WroteWhole, slack, whole_limit}
 use Rattle.xtc.specs.declared.status.Status.{Status}
 use Rattle.xtc.specs.declared.status.Status.TheVariants.{Done, Usage, LineTooLong, Damaged, ReadFault, WriteFault, DiskFault, NoMemory, NotJsonMl, DocumentRefused}
-use Rattle.xtc.specs.inside.Asking.{AreValidAsks, AskNoCommit, after, said, HoldsFirst, LeavesFirst, AllAnswered, Stopped, StopsBy, AskedInTurn, DocumentWent, DocumentDone, HasText, IfJudged, InputDone, IsReadElement, IsStop, IsUnwritten, IsWriteEnd, WentAndJudged}
-use Rattle.xtc.specs.inside.Stores.{HoldsAll, HoldsEither, MayBeAsked}
-use Rattle.xtc.proofs.AskedLaws.{said_on, reason_stays, valid_first, asked_sound, opens_after_asked}
-use Rattle.xtc.proofs.AskingLaws.{image_holds}
+use Rattle.xtc.specs.inside.Asking.{AreValidAsks, after, said, HoldsFirst, LeavesFirst, Stopped, DocumentWent, DocumentDone, HasText, IfJudged, InputDone, IsReadElement, IsStop, IsUnwritten, IsWriteEnd, WentAndJudged}
+use Rattle.xtc.proofs.AskedLaws.{asked_sound, opens_after_asked}
 
 -- ---- by the status
 
@@ -108,65 +115,44 @@ module _ (is_known : Bool) (s : State StoreCall) (c : Command) (read : List ℕ)
   nothing_judged whole journal status end short judged = record { went = nothing_asked journal status end short; judged = judged }
 
   module _ (all : List (Asked StoreCall)) (is : asks_of c s read ≡ Ok all) (short : length read ≤ whole_limit) (old new : History) where
-    few_by : (status : Status) (lines : List LineReply) (more : List (Asked StoreCall)) → StopsBy (stops_at c) status lines more → length more ≤ 1 → length more ≤ slack status
-    few_by (DocumentRefused why) lines more cause one = let none : length more ≡ 0 = ap length cause.1 in omega (arith, none)
-    few_by DiskFault lines more cause one = one
-    few_by NoMemory lines more cause one = one
-    few_by Done lines more cause one = absurd cause
-    few_by Usage lines more cause one = absurd cause
-    few_by (LineTooLong line) lines more cause one = absurd cause
-    few_by (Damaged place) lines more cause one = absurd cause
-    few_by ReadFault lines more cause one = absurd cause
-    few_by WriteFault lines more cause one = absurd cause
-    few_by (NotJsonMl why) lines more cause one = absurd cause
+    few_by : (why : Stop) (lines : List LineReply) (more : List (Asked StoreCall)) → StopsBy (stops_at c) why lines more → length more ≤ 1 → length more ≤ slack (status_of_stop why)
+    few_by (stop.Refused reason) lines more cause one = let none : length more ≡ 0 = ap length cause.1 in omega (arith, none)
+    few_by stop.DiskFault lines more cause one = one
+    few_by stop.NoMemory lines more cause one = one
 
-    end_is : (status : Status) (answered more rest : List (Asked StoreCall)) → answered ++ (more ++ rest) ≡ all → StopsBy (stops_at c) status (said s answered) more → IsDocumentEnd c s read status (answered ++ more)
-    end_is (DocumentRefused why) answered more rest parts cause =
+    end_is : (why : Stop) (answered more rest : List (Asked StoreCall)) → answered ++ (more ++ rest) ≡ all → StopsBy (stops_at c) why (said s answered) more → IsDocumentEnd c s read (status_of_stop why) (answered ++ more)
+    end_is (stop.Refused reason) answered more rest parts cause =
         ap (end_of c s) is
         ∙ ap (λ (l : List (Asked StoreCall)). end_by (first_reason (stops_at c) (said s l))) (sym parts)
-        ∙ ap (λ (l : List LineReply). end_by (first_reason (stops_at c) l)) (said_on s answered (more ++ rest))
-        ∙ ap end_by (reason_stays (stops_at c) (said s answered) (said (after s answered) (more ++ rest)) why cause.0)
-    end_is DiskFault answered more rest parts cause = tt
-    end_is NoMemory answered more rest parts cause = tt
-    end_is Done answered more rest parts cause = absurd cause
-    end_is Usage answered more rest parts cause = absurd cause
-    end_is (LineTooLong line) answered more rest parts cause = absurd cause
-    end_is (Damaged place) answered more rest parts cause = absurd cause
-    end_is ReadFault answered more rest parts cause = absurd cause
-    end_is WriteFault answered more rest parts cause = absurd cause
-    end_is (NotJsonMl why) answered more rest parts cause = absurd cause
+        ∙ ap (λ (l : List LineReply). end_by (first_reason (stops_at c) l)) (said_on store_meaning s answered (more ++ rest))
+        ∙ ap end_by (reason_stays (stops_at c) (said s answered) (said (after s answered) (more ++ rest)) reason cause.0)
+    end_is stop.DiskFault answered more rest parts cause = tt
+    end_is stop.NoMemory answered more rest parts cause = tt
 
-    within_by : (status : Status) (lines : List LineReply) (more : List (Asked StoreCall)) → StopsBy (stops_at c) status lines more → IsWithin status (length read)
-    within_by (DocumentRefused why) lines more cause = short
-    within_by DiskFault lines more cause = short
-    within_by NoMemory lines more cause = omega (arith, short)
-    within_by Done lines more cause = absurd cause
-    within_by Usage lines more cause = absurd cause
-    within_by (LineTooLong line) lines more cause = absurd cause
-    within_by (Damaged place) lines more cause = absurd cause
-    within_by ReadFault lines more cause = absurd cause
-    within_by WriteFault lines more cause = absurd cause
-    within_by (NotJsonMl why) lines more cause = absurd cause
+    within_by : (why : Stop) → IsWithin (status_of_stop why) (length read)
+    within_by (stop.Refused reason) = short
+    within_by stop.DiskFault = short
+    within_by stop.NoMemory = omega (arith, short)
 
-    -- session 1 stopped
-    pub document_stopped : (status : Status) → Stopped (stops_at c) is_known s all old new status → DocumentWent is_known s c read old new status
-    document_stopped status h = record {
+    -- it stopped
+    pub document_stopped : (why : Stop) → Stopped (stops_at c) is_known s all old new why → DocumentWent is_known s c read old new (status_of_stop why)
+    document_stopped why h = record {
       answered = h.answered;
       more = h.more;
       first = subst (AreFirst (h.answered ++ h.more)) (sym is) (h.rest, append_assoc h.answered h.more h.rest ∙ h.parts);
-      few = few_by status (said s h.answered) h.more h.cause h.one;
+      few = few_by why (said s h.answered) h.more h.cause h.one;
       valid = h.valid;
       stops = h.stops;
-      end = end_is status h.answered h.more h.rest h.parts h.cause;
-      short = within_by status (said s h.answered) h.more h.cause;
+      end = end_is why h.answered h.more h.rest h.parts h.cause;
+      short = within_by why;
       moments = h.moments;
       left = h.left;
       still = λ commits_none. h.still (asks_no_commit c s read all is commits_none);
     }
 
-    -- session 1 was answered to its end
-    pub document_answered : (core : CoreView StoreCall Entries) (now : List LineReply) (text : List ℕ) → AllAnswered (stops_at c) is_known s all old core new [] now → text ≡ text_of c s all → HasText is_known s c read old new text
-    document_answered core now text h shown =
+    -- all was answered
+    pub document_answered : {B : Type 0} (contents : B → Option Entries) (core : CoreView StoreCall B) (now : List LineReply) (text : List ℕ) → AllAnswered IsValidStoreCall store_meaning contents (stops_at c) is_known s all old core new [] now → text ≡ text_of c s all → HasText is_known s c read old new text
+    document_answered contents core now text h shown =
         let whole : all ++ [] ≡ all = append-nil all in
         record {
           went = record {
@@ -211,7 +197,7 @@ module _ (t : Tree) (n limit : ℕ) (formed : IsValidTree t) where
       → OpenAfterAsked t n limit least asked journal pages
   opens_first least asked first rest journal pages valid parts enough none holds =
       let taken : take (length first) asked ≡ first = ap (take (length first)) (sym parts) ∙ take-append_seam first rest in
-      let front : AreValidAsks first = valid_first first rest (subst AreValidAsks (sym parts) valid) in
+      let front : AreValidAsks first = valid_first IsValidStoreCall first rest (subst AreValidAsks (sym parts) valid) in
       record {
         count = length first;
         enough = enough;
@@ -275,11 +261,11 @@ pub done_err : {T : Type 0} (r : Result T Status) (status : Status) (is_known : 
 done_err (Ok x) status is_known s c read old new bytes none went = absurd none
 done_err (Err e) status is_known s c read old new bytes is went = subst (DocumentWent is_known s c read old new) (sym is) went
 
--- session 1 was asked all that the command asks, or stopped
-pub document_done : {T : Type 0} (r : Result T Status) (is_known : Bool) (s : State StoreCall) (c : Command) (read : List ℕ) (all : List (Asked StoreCall)) → asks_of c s read ≡ Ok all → length read ≤ whole_limit
-    → (old new : History) (core : CoreView StoreCall Entries) (now : List LineReply) (bytes : T → List ℕ) → AskedInTurn (stops_at c) is_known s all old core new [] now r → IfOk r (λ text. bytes text ≡ text_of c s all) → DocumentDone is_known s c read old new bytes r
-document_done (Ok text) is_known s c read all is short old new core now bytes asked shown = document_answered is_known s c read all is short old new core now (bytes text) asked shown
-document_done (Err status) is_known s c read all is short old new core now bytes asked shown = document_stopped is_known s c read all is short old new status asked
+-- a status with which it stops
+pub stop_is : (why : Stop) → IsStop (status_of_stop why)
+stop_is (stop.Refused reason) = tt
+stop_is stop.DiskFault = tt
+stop_is stop.NoMemory = tt
 
 -- why an input isn't had
 pub not_had : (name : Name) (s : State StoreCall) (read : List ℕ) (status : Status) → IsReadElement read (Err status) → IsDocumentEnd (put name) s read status [] × IsWithin status (length read)
@@ -409,7 +395,7 @@ pub core_stands : (base : Entries) (n limit : ℕ) (core : CoreView StoreCall En
 core_stands base n limit core t is stands = subst (λ (v : CoreView StoreCall Entries). Stands v (start t n limit)) (sym is) (record { tree = t; opened = stands; state = refl })
 
 pub may_begin : (base : Entries) (n limit : ℕ) (core : CoreView StoreCall Entries) (journal : JournalView) → core ≡ opened_over base (Some base) n limit → IsStoredTree base → TakesBehind journal n
-    → MayBeAsked core journal
+    → MayBeAsked store_meaning Some core journal
 may_begin base n limit core journal is stored takes = record {
   state = start stored.tree n limit;
   stands = core_stands base n limit core stored.tree is (record { valid = stored.is_valid_tree; map = ap Some (sym stored.map) });
@@ -445,7 +431,7 @@ stops_unwritten (Err e) is = stop_unwritten e is
 
 -- ---- the whole command
 
-pub document_finished : (t : Tree) (n limit : ℕ) (formed : IsValidTree t) (is_known : Bool) (c : Command) (o : Outcome) (W : Type 0) (journal pages mid : History) (status : Status) → IsTrue is_known → HoldsAll (start t n limit) journal
+pub document_finished : (t : Tree) (n limit : ℕ) (formed : IsValidTree t) (is_known : Bool) (c : Command) (o : Outcome) (W : Type 0) (journal pages mid : History) (status : Status) → IsTrue is_known → HoldsAll {C = StoreCall} (start t n limit) journal
     → pages.now ≡ all_synced [] → WentAndWrote is_known (start t n limit) c o.read W journal mid status o.before o.now → o.new.journal ≡ mid → o.new.pages ≡ pages
     → IsImage o.new.journal.now o.new.journal.now.reads → IsImage o.new.pages.now o.new.pages.now.reads → (reads_input (Some c) ≡ false → o.read ≡ []) → (IsTrue (reads_input (Some c)) → W → IsWhole o.left o.read)
     → DocumentRan t n limit c status (pair_of journal pages) o

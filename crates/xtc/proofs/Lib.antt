@@ -1,11 +1,8 @@
 pub mod AskedLaws
-pub mod AskingLaws
 pub mod CommandRunLaws
 pub mod CommitCounts
-pub mod CommitLaws
 pub mod CountingLaws
 pub mod DocumentLaws
-pub mod LineLaws
 pub mod LiveLaws
 pub mod OnTreeLaws
 pub mod OpeningLaws
@@ -15,6 +12,5 @@ pub mod ShownLaws
 pub mod ScriptBooks
 pub mod ScriptLaws
 pub mod StatusLaws
-pub mod StoreLaws
 pub mod StoreMachineLaws
 pub mod StoreRuns

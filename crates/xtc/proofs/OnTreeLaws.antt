@@ -1,22 +1,24 @@
 -- One session alone on a store: each of its calls is answered as the tree answers it.
-use Rattle.std.proofs.Common.{◌≡◌, ◌==◌, ℕ, ◌+◌, Bool, true, false, if◌then◌else◌, cond, List, [], ◌∷◌, ◌++◌, refl, sym, ap, ◌∙◌, arith}
+use Rattle.std.proofs.Common.{◌≡◌, ◌==◌, ℕ, ◌+◌, Bool, true, false, if◌then◌else◌, cond, List, [], ◌∷◌, ◌++◌, refl, sym, ap, subst, ◌∙◌, arith}
 use Rattle.std.specs.Prelude.{◌≢◌, Option, None, Some}
+use Rattle.std.specs.List.{AllByRecursion}
 use Rattle.std.specs.Option.{option_or}
 use Rattle.std.proofs.lemmas.Bool.Decides.{nat_tests}
 use Rattle.lock_resources.specs.declared.request.Request.{Request}
 use Rattle.dewey_labels.specs.Labels.{Label}
 use Rattle.tree_model.specs.DomCalls.{dom}
+use Rattle.path_model.specs.declared.path.XPath.{XPath}
 use Rattle.tree_model.specs.Names.{Name}
 use Rattle.tree_model.specs.Tree.{Tree}
-use Rattle.tree_model.specs.declared.dom_call.DomCall.TheVariants.{Create, Doc, Dump}
+use Rattle.tree_model.specs.declared.dom_call.DomCall.TheVariants.{Create, Doc}
 use Rattle.tree_model.specs.declared.fragment.Fragment.{Fragment}
 use Rattle.tree_model.specs.declared.refusal.Refusal.{Refusal}
 use Rattle.tree_model.specs.declared.reply.Reply.{Reply}
 use Rattle.tree_model.specs.declared.reply.Reply.TheVariants as reply
-use Rattle.call_contract.specs.Attempts.{barred, granted, asked as asked_for}
+use Rattle.call_contract.specs.Attempts.{granted}
 use Rattle.call_contract.specs.Books.{entry}
 use Rattle.call_contract.specs.States.{Answered, Live, State, start, view}
-use Rattle.call_contract.specs.Steps.{settled, begun_by, committed}
+use Rattle.call_contract.specs.Steps.{begun_by, committed}
 use Rattle.call_contract.specs.declared.events.Answer.TheVariants as event_answer
 use Rattle.call_contract.specs.declared.events.Event.TheVariants as event
 use Rattle.call_contract.specs.declared.events.EventAnswer.TheVariants as said
@@ -32,14 +34,13 @@ use Rattle.session_driver.specs.Progress.{Progress, and_then, stays}
 use Rattle.session_driver.specs.declared.doing.Doing.TheVariants.{Begin, Commit, Abort, Call}
 use Rattle.store_calls.specs.StoreCalls.{store_meaning}
 use Rattle.xtc.specs.Book.{after_asked}
-use Rattle.xtc.specs.Documents.{asks, calls, put_asks, find_asks, question_asks, get_asks, reason_in, reason_of, label_in, tree_in}
-use Rattle.xtc.specs.declared.question.Question.TheVariants.{Whole}
-use Rattle.xtc.specs.DocumentsOnTree.{PutOnTree, GetOnTree, label_shown}
-use Rattle.xtc.specs.declared.status.Reason.TheVariants as reason
-
-none_barred : (gs : List Request) → barred {C = StoreCall} gs [] ≡ None
-none_barred [] = refl
-none_barred (g ∷ gs) = none_barred gs
+use Rattle.durable_sessions.specs.Reasons.{reason_in, reason_of}
+use Rattle.durable_sessions.proofs.LoneLaws.{lone_line}
+use Rattle.xtc.specs.Documents.{asks, call_of, calls, put_asks, find_asks, question_asks, show_asks, label_in, tree_in, hits_in}
+use Rattle.xtc.specs.declared.question.Question.{Question}
+use Rattle.xtc.specs.declared.question.Question.TheVariants.{Whole, FoundBy}
+use Rattle.xtc.specs.DocumentsOnTree.{PutOnTree, GetOnTree, QueryOnTree, IsAtOnce, label_shown}
+use Rattle.durable_sessions.specs.declared.reasons.Reason.TheVariants as reason
 
 or_none : {A : Type 0} (x : Option A) → option_or x None ≡ x
 or_none None = refl
@@ -94,9 +95,7 @@ module _ (t : Tree) (n limit : ℕ) where
   }
 
   call_is : (cs : List (Answered StoreCall)) (gs : List Request) (c : StoreCall) → after_line store_meaning (at_work cs gs) (asks (Call c)) ≡ called cs gs c
-  call_is cs gs c =
-      ap (λ x. stepped store_meaning (at_work cs gs) 1 (Call c) (Some (settled store_meaning (at_work cs gs) (alone cs gs) c x)))
-      (none_barred (asked_for store_meaning (at_work cs gs) (alone cs gs) c))
+  call_is cs gs c = lone_line store_meaning (at_work cs gs) (alone cs gs) c (record { only = refl; ready = refl })
 
   abbrev made : List (Answered StoreCall) → List Request → Progress StoreCall
   made cs gs = record {
@@ -177,9 +176,9 @@ module _ (t : Tree) (n limit : ℕ) where
       number = λ none. ap (λ (u : State StoreCall). u.number) (put_done none).state;
     }
 
-  -- ---- `get`
+  -- ---- `get` and `query`
 
-  module _ (name : Name) where
+  module _ (name : Name) (q : Question) where
     abbrev doc : StoreCall
     doc = Dom (Doc name)
 
@@ -193,7 +192,7 @@ module _ (t : Tree) (n limit : ℕ) where
     found_grants = granted store_meaning (at_work [] []) (alone [] []) doc
 
     abbrev got : Progress StoreCall
-    got = after_asked opened (get_asks opened name)
+    got = after_asked opened (show_asks opened name q)
 
     -- a transaction is begun, and the tree's own call answered, whatever is asked behind it
     found_is : (n + 0 == limit) ≡ false → (more : List (Asked StoreCall)) → after_asked opened (find_asks name ++ more) ≡ and_then begun (and_then found (after_asked found.state more))
@@ -203,39 +202,39 @@ module _ (t : Tree) (n limit : ℕ) where
 
     -- what is asked behind it goes by the label that was found
     got_by : (n + 0 == limit) ≡ false → (place : Option Label) → label_shown (answer_of [] doc) ≡ place
-        → got ≡ and_then begun (and_then found (after_asked found.state (question_asks Whole place)))
+        → got ≡ and_then begun (and_then found (after_asked found.state (question_asks q place)))
     got_by some_left place is =
-        ap (λ (at : Option Label). after_asked opened (find_asks name ++ question_asks Whole at))
+        ap (λ (at : Option Label). after_asked opened (find_asks name ++ question_asks q at))
         (ap (λ (p : Progress StoreCall). label_in p.lines) (found_is some_left []) ∙ or_none (label_shown (answer_of [] doc)) ∙ is)
-        ∙ found_is some_left (question_asks Whole place)
+        ∙ found_is some_left (question_asks q place)
 
     -- no label is found where no transaction can be begun
     got_nothing : (n + 0 == limit) ≡ true → got ≡ and_then (record { state = opened; book = []; lines = Said 1 false (answer.Session TxLimit) ∷ [] }) (after_asked opened (calls (Doc name) ∷ []))
     got_nothing spent =
-        ap (λ (at : Option Label). after_asked opened (find_asks name ++ question_asks Whole at))
+        ap (λ (at : Option Label). after_asked opened (find_asks name ++ question_asks q at))
         (ap (λ (p : Progress StoreCall). label_in (and_then p (after_asked p.state (calls (Doc name) ∷ []))).lines) (begin_refused spent))
         ∙ ap (λ (p : Progress StoreCall). and_then p (after_asked p.state (calls (Doc name) ∷ []))) (begin_refused spent)
 
     module _ (at : Label) where
-      abbrev dump : StoreCall
-      dump = Dom (Dump at)
+      abbrev asked_of : StoreCall
+      asked_of = call_of q at
 
       abbrev shown : Progress StoreCall
-      shown = called found_calls found_grants dump
+      shown = called found_calls found_grants asked_of
 
-      shown_is : after_asked found.state (question_asks Whole (Some at)) ≡ and_then shown (after_asked shown.state (asks Abort ∷ []))
-      shown_is = ap (λ (p : Progress StoreCall). and_then p (after_asked p.state (asks Abort ∷ []))) (call_is found_calls found_grants dump)
+      shown_is : after_asked found.state (question_asks q (Some at)) ≡ and_then shown (after_asked shown.state (asks Abort ∷ []))
+      shown_is = ap (λ (p : Progress StoreCall). and_then p (after_asked p.state (asks Abort ∷ []))) (call_is found_calls found_grants asked_of)
 
       abbrev lines_by : Reply → Reply → List LineReply
-      lines_by r q = begun.lines ++ Said 1 false (answer.Reply r) ∷ Said 1 false (answer.Reply q) ∷ Said 1 false (answer.Reply reply.Nothing) ∷ []
+      lines_by r p = begun.lines ++ Said 1 false (answer.Reply r) ∷ Said 1 false (answer.Reply p) ∷ Said 1 false (answer.Reply reply.Nothing) ∷ []
 
       -- the lines, by what the tree's own calls answer
-      got_lines : (q : Reply) → (n + 0 == limit) ≡ false → (dom (Doc name) t).0 ≡ reply.Place (Some at) → (dom (Dump at) t).0 ≡ q → got.lines ≡ lines_by (reply.Place (Some at)) q
-      got_lines q some_left is_found is_shown =
+      got_lines : (r : Reply) → (n + 0 == limit) ≡ false → (dom (Doc name) t).0 ≡ reply.Place (Some at) → answer_of found_calls asked_of ≡ r → got.lines ≡ lines_by (reply.Place (Some at)) r
+      got_lines r some_left is_found is_shown =
           ap (λ (p : Progress StoreCall). p.lines) (got_by some_left (Some at) (ap label_shown is_found))
           ∙ ap (λ (p : Progress StoreCall). begun.lines ++ (found.lines ++ p.lines)) shown_is
-          ∙ ap (λ (r : Reply). lines_by r (answer_of found_calls dump)) is_found
-          ∙ ap (λ (r : Reply). lines_by (reply.Place (Some at)) r) is_shown
+          ∙ ap (λ (p : Reply). lines_by p (answer_of found_calls asked_of)) is_found
+          ∙ ap (λ (p : Reply). lines_by (reply.Place (Some at)) p) is_shown
 
     missing : (why : Refusal) → (n + 0 == limit) ≡ false → (dom (Doc name) t).0 ≡ reply.Refused why → reason_in got.lines ≡ Some (reason.Call why)
     missing why some_left is =
@@ -245,7 +244,7 @@ module _ (t : Tree) (n limit : ℕ) where
     abbrev IsKept : Progress StoreCall → Type 0
     IsKept p = (p.state.tree ≡ t) × (p.state.number ≡ n)
 
-    kept : IsKept got
+    pub kept : IsKept got
     kept = go (n + 0 == limit) refl (label_shown (answer_of [] doc)) refl
       where
         go : (b : Bool) → (n + 0 == limit) ≡ b → (place : Option Label) → label_shown (answer_of [] doc) ≡ place → IsKept got
@@ -257,14 +256,41 @@ module _ (t : Tree) (n limit : ℕ) where
               ap (λ (p : Progress StoreCall). p.state.number) all ∙ ap (λ (p : Progress StoreCall). p.state.number) (shown_is at),
             )
 
-    pub get_on_tree : GetOnTree t n limit name got
-    get_on_tree = record {
-      limited = λ is. ap (λ (p : Progress StoreCall). reason_in p.lines) (got_nothing (same_numbers is));
-      missing = λ why apart is. missing why (other_numbers apart) is;
-      refused = λ at why apart is_found is_shown. ap reason_in (got_lines at (reply.Refused why) (other_numbers apart) is_found is_shown);
-      dumped = λ at document apart is_found is_shown.
-          let lines = got_lines at (reply.Tree document) (other_numbers apart) is_found is_shown in
-          (ap reason_in lines, ap tree_in lines ∙ or_none document);
-      tree = kept.0;
-      number = kept.1;
-    }
+    -- each line is answered at once
+    at_once : AllByRecursion IsAtOnce got.lines
+    at_once = go (n + 0 == limit) refl (label_shown (answer_of [] doc)) refl
+      where
+        go : (b : Bool) → (n + 0 == limit) ≡ b → (place : Option Label) → label_shown (answer_of [] doc) ≡ place → AllByRecursion IsAtOnce got.lines
+        go true spent place is = subst (λ (p : Progress StoreCall). AllByRecursion IsAtOnce p.lines) (sym (got_nothing spent)) (tt, (tt, tt))
+        go false some_left None is = subst (λ (p : Progress StoreCall). AllByRecursion IsAtOnce p.lines) (sym (got_by some_left None is)) (tt, (tt, tt))
+        go false some_left (Some at) is =
+            subst (λ (p : Progress StoreCall). AllByRecursion IsAtOnce p.lines) (sym (got_by some_left (Some at) is ∙ ap (λ (p : Progress StoreCall). and_then begun (and_then found p)) (shown_is at)))
+            (tt, (tt, (tt, (tt, tt))))
+
+    spent_limit : (n + 0 == limit) ≡ true → reason_in got.lines ≡ Some reason.Limit
+    spent_limit spent = ap (λ (p : Progress StoreCall). reason_in p.lines) (got_nothing spent)
+
+  pub get_on_tree : (name : Name) → GetOnTree t n limit name (got name Whole)
+  get_on_tree name = record {
+    limited = λ is. spent_limit name Whole (same_numbers is);
+    missing = λ why apart is. missing name Whole why (other_numbers apart) is;
+    refused = λ at why apart is_found is_shown. ap reason_in (got_lines name Whole at (reply.Refused why) (other_numbers apart) is_found is_shown);
+    dumped = λ at document apart is_found is_shown.
+        let lines = got_lines name Whole at (reply.Tree document) (other_numbers apart) is_found is_shown in
+        (ap reason_in lines, ap tree_in lines ∙ or_none document);
+    tree = (kept name Whole).0;
+    number = (kept name Whole).1;
+  }
+
+  pub query_on_tree : (name : Name) (path : XPath) → QueryOnTree t n limit name path (got name (FoundBy path))
+  query_on_tree name path = record {
+    limited = λ is. spent_limit name (FoundBy path) (same_numbers is);
+    missing = λ why apart is. missing name (FoundBy path) why (other_numbers apart) is;
+    refused = λ at why apart is_found is_shown. ap reason_in (got_lines name (FoundBy path) at (reply.Refused why) (other_numbers apart) is_found is_shown);
+    found = λ at hits apart is_found is_shown.
+        let lines = got_lines name (FoundBy path) at (reply.Found hits) (other_numbers apart) is_found is_shown in
+        (ap reason_in lines, ap hits_in lines);
+    at_once = at_once name (FoundBy path);
+    tree = (kept name (FoundBy path)).0;
+    number = (kept name (FoundBy path)).1;
+  }

@@ -16,7 +16,7 @@ use Rattle.script_runs.specs.Machine.{IsReady, IsSettled}
 use Rattle.call_contract.specs.States.{State, start}
 use Rattle.command_lines.specs.declared.command.StoreCall.{StoreCall}
 use Rattle.tx_core.specs.Cores.{CoreView, opened_over}
-use Rattle.xtc.specs.Durable.{HoldState}
+use Rattle.durable_sessions.specs.Durable.{HoldState}
 use Rattle.xtc.specs.StoreMachine.{KeptStore, Stands, store_machine}
 
 -- the core of a store that was opened over this map, with this number

@@ -11,7 +11,7 @@ use Rattle.xpath_parser.specs.declared.path_error.PathError.{PathError}
 use Rattle.xpath_parser.specs.declared.path_error.PathError.TheVariants as error
 use Rattle.xtc.specs.Documents.{end_of, query_asks_of}
 use Rattle.xtc.specs.Statuses.{status_of_path}
-use Rattle.xtc.specs.declared.status.Reason.TheVariants.{Path}
+use Rattle.durable_sessions.specs.declared.reasons.Reason.TheVariants.{Path}
 use Rattle.xtc.specs.declared.status.Status.TheVariants.{DiskFault, DocumentRefused, NoMemory}
 use Rattle.xtc.specs.inside.Asking.{DocumentWent, IsStop}
 use Rattle.xtc.proofs.DocumentLaws.{nothing_asked}

@@ -28,7 +28,7 @@ use Rattle.session_driver.proofs.LegalBooks.{lines_legal}
 use Rattle.session_driver.proofs.Runs.{lines_state}
 use Rattle.session_driver.proofs.Waiters.{nobody_waits_in_vain}
 use Rattle.xtc.specs.Book.{IsValidLine, done_by, done_from, script_of, replies_text}
-use Rattle.xtc.specs.Durable.{HoldState}
+use Rattle.durable_sessions.specs.Durable.{HoldState}
 use Rattle.xtc.specs.ScriptLine.{Line, nothing, bad, asked, line_of}
 use Rattle.xtc.specs.StoreMachine.{store_machine}
 use Rattle.xtc.specs.TopCall.{OpenAfter, IsSound}

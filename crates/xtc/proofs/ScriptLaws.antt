@@ -30,7 +30,7 @@ use Rattle.session_driver.specs.declared.doing.Doing.TheVariants.{Begin, Commit,
 use Rattle.session_driver.proofs.OnlyCommits.{unless_commit}
 use Rattle.store_calls.specs.StoreCalls.{store_meaning, IsValidStoreCall}
 use Rattle.xtc.specs.Book.{IsValidLine, done_by, script_of, replies_text}
-use Rattle.xtc.specs.Durable.{HoldState}
+use Rattle.durable_sessions.specs.Durable.{HoldState}
 use Rattle.xtc.specs.ScriptLine.{Line, nothing, bad, asked, line_of}
 use Rattle.xtc.specs.Statuses.{status_of_end}
 use Rattle.xtc.specs.StoreMachine.{KeptStore, store_machine}

@@ -20,12 +20,9 @@ use Rattle.call_contract.specs.States.{State}
 use Rattle.command_lines.specs.ReplyValues.{array_of, hit_value, label_value, or_null}
 use Rattle.command_lines.specs.declared.command.StoreCall.{StoreCall}
 use Rattle.command_lines.specs.declared.command.StoreCall.TheVariants.{Dom, Find}
-use Rattle.command_lines.specs.declared.line_reply.LineAnswer.{LineAnswer}
 use Rattle.command_lines.specs.declared.line_reply.LineAnswer.TheVariants as answer
 use Rattle.command_lines.specs.declared.line_reply.LineReply.{LineReply}
 use Rattle.command_lines.specs.declared.line_reply.LineReply.TheVariants.{Said}
-use Rattle.command_lines.specs.declared.line_reply.SessionRefusal.{SessionRefusal}
-use Rattle.command_lines.specs.declared.line_reply.SessionRefusal.TheVariants.{TxLimit, CommitLimit}
 use Rattle.session_driver.specs.Lines.{Asked}
 use Rattle.session_driver.specs.declared.doing.Doing.{Doing}
 use Rattle.session_driver.specs.declared.doing.Doing.TheVariants.{Begin, Commit, Abort, Call}
@@ -38,8 +35,9 @@ use Rattle.workload_gen.specs.Scripts.{script}
 use Rattle.xtc.specs.Generated.{generated, summary_line}
 use Rattle.xtc.specs.declared.question.Question.{Question}
 use Rattle.xtc.specs.declared.question.Question.TheVariants.{Whole, FoundBy}
-use Rattle.xtc.specs.declared.status.Reason.{Reason}
-use Rattle.xtc.specs.declared.status.Reason.TheVariants as reason
+use Rattle.durable_sessions.specs.Reasons.{first_reason, limit_of, reason_of}
+use Rattle.durable_sessions.specs.declared.reasons.Reason.{Reason}
+use Rattle.durable_sessions.specs.declared.reasons.Reason.TheVariants as reason
 use Rattle.xtc.specs.declared.status.Status.{Status}
 use Rattle.xtc.specs.declared.status.Status.TheVariants.{Done, NotJsonMl as NotAnElement, DocumentRefused}
 
@@ -54,34 +52,6 @@ abbrev pub element_in : List ℕ → Result Fragment FragmentError
 element_in bytes = element_or_not (fragment_in bytes)
 
 -- ---- what is read off replies
-
--- a begin or a commit is refused by the numbers that are left
-abbrev pub limit_of_session : SessionRefusal → Option Reason
-limit_of_session TxLimit = Some reason.Limit
-limit_of_session CommitLimit = Some reason.Limit
-limit_of_session refusal = None
-
-abbrev pub reason_of_answer : LineAnswer → Option Reason
-reason_of_answer (answer.Reply (reply.Refused why)) = Some (reason.Call why)
-reason_of_answer (answer.Session refusal) = limit_of_session refusal
-reason_of_answer said = None
-
-abbrev pub reason_of : LineReply → Option Reason
-reason_of (Said session woke said) = reason_of_answer said
-reason_of line = None
-
-abbrev pub limit_of : LineReply → Option Reason
-limit_of (Said session woke (answer.Session refusal)) = limit_of_session refusal
-limit_of line = None
-
--- the first of the replies by which there is such a reason
-abbrev pub first_reason : (LineReply → Option Reason) → List LineReply → Option Reason
-first_reason by [] = None
-first_reason by (line ∷ lines) = option_or (by line) (first_reason by lines)
-
--- the first refusal: of a call by the tree, or of a begin or commit by the numbers that are left
-abbrev pub reason_in : List LineReply → Option Reason
-reason_in lines = first_reason reason_of lines
 
 -- what ends a command before its end: a refusal, and of the generator's script that of a begin or commit alone, since its summary counts the others
 abbrev pub stops_at : Command → LineReply → Option Reason

@@ -1,5 +1,6 @@
--- What `put` and `get` come to by the calls of the plain tree (docs/MANUAL.md, "Commands").
-use Rattle.std.specs.Prelude.{◌≡◌, ◌≢◌, ℕ, ◌+◌, false, Option, None, Some}
+-- What `put`, `get` and `query` come to by the calls of the plain tree (docs/MANUAL.md, "Commands").
+use Rattle.std.specs.Prelude.{◌≡◌, ◌≢◌, ℕ, ◌+◌, false, List, Option, None, Some}
+use Rattle.std.specs.List.{AllByRecursion}
 use Rattle.dewey_labels.specs.Labels.{Label}
 use Rattle.tree_model.specs.DomCalls.{dom}
 use Rattle.tree_model.specs.Names.{Name}
@@ -7,14 +8,20 @@ use Rattle.tree_model.specs.Tree.{Tree}
 use Rattle.tree_model.specs.declared.dom_call.DomCall.TheVariants.{Create, Doc, Dump}
 use Rattle.tree_model.specs.declared.fragment.Fragment.{Fragment}
 use Rattle.tree_model.specs.declared.refusal.Refusal.{Refusal}
+use Rattle.path_model.specs.Finds.{found_at}
+use Rattle.path_model.specs.PlainPaths.{plain_path}
+use Rattle.path_model.specs.declared.path.XPath.{XPath}
+use Rattle.tree_model.specs.declared.reply.Hit.{Hit}
 use Rattle.tree_model.specs.declared.reply.Reply.{Reply}
 use Rattle.tree_model.specs.declared.reply.Reply.TheVariants as reply
 use Rattle.command_lines.specs.declared.command.StoreCall.{StoreCall}
 use Rattle.command_lines.specs.declared.line_reply.LineAnswer.TheVariants as answer
+use Rattle.command_lines.specs.declared.line_reply.LineReply.{LineReply}
 use Rattle.command_lines.specs.declared.line_reply.LineReply.TheVariants.{Said}
 use Rattle.session_driver.specs.Progress.{Progress}
-use Rattle.xtc.specs.Documents.{reason_in, label_of, label_in, tree_in}
-use Rattle.xtc.specs.declared.status.Reason.TheVariants.{Call, Limit}
+use Rattle.durable_sessions.specs.Reasons.{reason_in}
+use Rattle.durable_sessions.specs.declared.reasons.Reason.TheVariants.{Call, Limit}
+use Rattle.xtc.specs.Documents.{label_of, label_in, tree_in, hits_in}
 
 -- the label that a reply of the tree shows
 abbrev pub label_shown : Reply → Option Label
@@ -38,3 +45,21 @@ pub record GetOnTree (t : Tree) (n limit : ℕ) (name : Name) (get : Progress St
       → (reason_in get.lines ≡ None) × (tree_in get.lines ≡ document)
   pub tree : get.state.tree ≡ t
   pub number : get.state.number ≡ n
+
+-- it is answered at once: nobody waits, and none had waited
+abbrev pub IsAtOnce : LineReply → Type 0
+IsAtOnce (Said session false (answer.Reply r)) = Unit {0}
+IsAtOnce (Said session false (answer.Session why)) = Unit {0}
+IsAtOnce line = ⊥
+
+-- `query` answers what `doc` answers and the path finds on the tree, at once, and changes nothing: it is refused as these are, and where no number is left for a transaction
+pub record QueryOnTree (t : Tree) (n limit : ℕ) (name : Name) (path : XPath) (query : Progress StoreCall) : Type 0 where
+  pub limited : n ≡ limit → reason_in query.lines ≡ Some Limit
+  pub missing : (why : Refusal) → n ≢ limit → (dom (Doc name) t).0 ≡ reply.Refused why → reason_in query.lines ≡ Some (Call why)
+  pub refused : (at : Label) (why : Refusal) → n ≢ limit → (dom (Doc name) t).0 ≡ reply.Place (Some at) → found_at at (plain_path path) t ≡ reply.Refused why
+      → reason_in query.lines ≡ Some (Call why)
+  pub found : (at : Label) (hits : List Hit) → n ≢ limit → (dom (Doc name) t).0 ≡ reply.Place (Some at) → found_at at (plain_path path) t ≡ reply.Found hits
+      → (reason_in query.lines ≡ None) × (hits_in query.lines ≡ Some hits)
+  pub at_once : AllByRecursion IsAtOnce query.lines
+  pub tree : query.state.tree ≡ t
+  pub number : query.state.number ≡ n

@@ -1,7 +1,6 @@
 pub mod ScriptLine
 pub mod ReadLines
 pub mod Book
-pub mod Durable
 pub mod StoreMachine
 pub mod Statuses
 pub mod TopCall

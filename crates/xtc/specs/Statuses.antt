@@ -15,9 +15,9 @@ use Rattle.script_runs.specs.declared.whole.GatherError.{GatherError}
 use Rattle.script_runs.specs.declared.whole.GatherError.TheVariants as gathering
 use Rattle.xpath_parser.specs.declared.path_error.PathError.{PathError}
 use Rattle.xpath_parser.specs.declared.path_error.PathError.TheVariants as path
-use Rattle.xtc.specs.declared.halt.Halt.{Halt}
-use Rattle.xtc.specs.declared.halt.Halt.TheVariants as store_halt
-use Rattle.xtc.specs.declared.status.Reason.TheVariants.{Path}
+use Rattle.durable_sessions.specs.declared.in_turn.Stop.{Stop}
+use Rattle.durable_sessions.specs.declared.in_turn.Stop.TheVariants as stop
+use Rattle.durable_sessions.specs.declared.reasons.Reason.TheVariants.{Path}
 use Rattle.xtc.specs.declared.status.Status.{Status}
 use Rattle.xtc.specs.declared.status.Status.TheVariants.{Done, Usage, LineTooLong, Damaged, ReadFault, WriteFault, DiskFault, NoMemory, NotJsonMl, DocumentRefused}
 
@@ -88,7 +88,8 @@ abbrev pub status_of_path : PathError → Status
 status_of_path path.NoMemory = NoMemory
 status_of_path why = DocumentRefused (Path why)
 
--- the status of a store that can't go on
-abbrev pub status_of_halt : Halt → Status
-status_of_halt store_halt.DiskFault = DiskFault
-status_of_halt store_halt.NoMemory = NoMemory
+-- the status of sessions that are asked no more
+abbrev pub status_of_stop : Stop → Status
+status_of_stop (stop.Refused why) = DocumentRefused why
+status_of_stop stop.DiskFault = DiskFault
+status_of_stop stop.NoMemory = NoMemory

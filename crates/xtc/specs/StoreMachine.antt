@@ -4,17 +4,16 @@ use Rattle.outside_traits.specs.Disks.{all_synced}
 use Rattle.outside_traits.specs.DiskPairs.{pair_of}
 use Rattle.outside_traits.specs.Moments.{History, IsAllSynced}
 use Rattle.tree_model.specs.Entries.{Entries}
-use Rattle.tree_model.specs.Tree.{Tree}
-use Rattle.node_seq.specs.Trees.{StandsFor}
 use Rattle.journal.specs.Groups.{is_next}
 use Rattle.journal.specs.Views.{JournalView, TakesGroups}
 use Rattle.script_runs.specs.Machine.{Machine}
 use Rattle.call_contract.specs.States.{State}
 use Rattle.command_lines.specs.declared.command.StoreCall.{StoreCall}
-use Rattle.tx_core.specs.Cores.{CoreView, state_from, next_number}
+use Rattle.tx_core.specs.Cores.{CoreView, next_number}
 use Rattle.store_calls.specs.StoreCalls.{store_meaning}
 use Rattle.xtc.specs.Book.{done_by, replies_text, IsValidLine}
-use Rattle.xtc.specs.Durable.{HoldState}
+use Rattle.durable_sessions.specs.Durable.{HoldState}
+use Rattle.durable_sessions.specs.Standing as standing
 use Rattle.xtc.specs.ScriptLine.{line_of}
 
 -- what is kept of a store: the core of its sessions, the journal, and the disk of the pages
@@ -23,11 +22,9 @@ pub record KeptStore (P : Type 0) : Type 0 where
   pub journal : JournalView
   pub pages : P
 
--- the core was opened over the map of a tree, and its book led from there to this state
-pub record Stands (core : CoreView StoreCall Entries) (s : State StoreCall) : Type 0 where
-  pub tree : Tree
-  pub opened : StandsFor (Some core.opening) tree
-  pub state : state_from store_meaning tree core ≡ s
+-- the state that a core over a map in memory stands in
+abbrev pub Stands : CoreView StoreCall Entries → State StoreCall → Type 0
+Stands core s = standing.Stands store_meaning Some core s
 
 -- the journal takes the next commit
 pub record IsUsable {P : Type 0} (k : KeptStore P) : Type 0 where

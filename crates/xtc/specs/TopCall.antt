@@ -25,8 +25,9 @@ use Rattle.store_calls.specs.StoreCalls.{store_meaning, IsValidStoreCall}
 use Rattle.xtc.specs.Book.{script_of, after_asked, replies_text}
 use Rattle.command_words.specs.Commands.{Command, run, put, get, query, gen}
 use Rattle.xtc.specs.Commands.{may_commit, reads_input}
-use Rattle.xtc.specs.Documents.{asks_of, end_of, first_reason, stops_at, text_of}
-use Rattle.xtc.specs.declared.status.Reason.{Reason}
+use Rattle.durable_sessions.specs.InTurn as turn
+use Rattle.durable_sessions.specs.declared.reasons.Reason.{Reason}
+use Rattle.xtc.specs.Documents.{asks_of, end_of, stops_at, text_of}
 use Rattle.xtc.specs.declared.status.Status.{Status}
 use Rattle.xtc.specs.declared.status.Status.TheVariants.{Done, Usage, LineTooLong, Damaged, ReadFault, WriteFault, DiskFault, NoMemory, NotJsonMl, DocumentRefused}
 
@@ -150,13 +151,9 @@ IsDocumentEnd c st read NoMemory asked = Unit {0}
 IsDocumentEnd c st read Usage asked = ⊥
 IsDocumentEnd c st read (Damaged place) asked = ⊥
 
--- nothing was asked behind a reply by which there is a reason to stop: all of these but the last one at most were answered, and there was none
-pub record StopsAtRefusal (by : LineReply → Option Reason) (st : State StoreCall) (asked : List (Asked StoreCall)) : Type 0 where
-  pub front : List (Asked StoreCall)
-  pub last : List (Asked StoreCall)
-  pub parts : front ++ last ≡ asked
-  pub one : length last ≤ 1
-  pub unrefused : first_reason by (after_asked st front).lines ≡ None
+-- nothing was asked behind a reply by which there is a reason to stop
+abbrev pub StopsAtRefusal : (LineReply → Option Reason) → State StoreCall → List (Asked StoreCall) → Type 0
+StopsAtRefusal by st asked = turn.StopsAtRefusal store_meaning by st asked
 
 -- so many bytes were read: more than an input may have at that status alone, or where memory was wanting for them
 abbrev pub IsWithin : Status → ℕ → Type 0

@@ -7,7 +7,7 @@ ghost use Rattle.tree_model.specs.StoredTree.{IsStoredTree};
 ghost use Rattle.tree_model.specs.Tree.{Tree};
 ghost use Rattle.node_seq.specs.Trees.{StandsFor};
 ghost use Rattle.recovery.specs.Openings.{TakesBehind};
-ghost use Rattle.script_runs.specs.Counts.{CountedWhere};
+ghost use Rattle.script_runs.specs.Counts.{CountedWhere, DisksCountedWhere};
 ghost use Rattle.script_runs.specs.Whole.{piece};
 ghost use Rattle.call_contract.specs.States.{State, start};
 ghost use Rattle.command_lines.specs.declared.command.StoreCall.{StoreCall};
@@ -15,22 +15,24 @@ ghost use Rattle.command_lines.specs.ValidCommands.{IsValidWhat};
 ghost use Rattle.command_lines.specs.declared.command.What.TheVariants.{Call};
 ghost use Rattle.session_driver.specs.Lines.{IsValidDoing};
 ghost use Rattle.session_driver.specs.declared.doing.Doing.TheVariants as asked;
-ghost use Rattle.store_calls.specs.StoreCalls.{IsValidStoreCall};
+ghost use Rattle.store_calls.specs.StoreCalls.{IsValidStoreCall, store_meaning};
+ghost use Rattle.durable_sessions.specs.Asked.{counts_of, MayBeAsked};
+ghost use Rattle.durable_sessions.specs.Standing.{Stands};
 ghost use Rattle.jsonml_io.specs.declared.fragment_error.FragmentError.TheVariants as fragment_error;
 ghost use Rattle.command_words.specs.Commands.{put as put_command};
 ghost use Rattle.xtc.specs.Documents.{element_in, put_asks};
-ghost use Rattle.xtc.specs.StoreMachine.{Stands};
 ghost use Rattle.tx_core.specs.Cores.{opened_over};
 ghost use Rattle.xtc.specs.TopCall.{IsWhole, WroteWhole, tx_limit, whole_limit};
-ghost use Rattle.xtc.specs.inside.Asking.{all_asks, AreValidAsks, AskedInTurn, DocumentDone, IfJudged, InputDone, IsReadElement, IsStop, IsUnwritten, IsWriteEnd};
+ghost use Rattle.xtc.specs.inside.Asking.{all_asks, AreValidAsks, DocumentDone, IfJudged, InputDone, IsReadElement, IsStop, IsUnwritten, IsWriteEnd};
 ghost use Rattle.xtc.specs.inside.CommandRuns.{Input, RunsCommand};
-ghost use Rattle.xtc.specs.inside.Stores.{MayBeAsked, Counts};
+ghost use Rattle.xtc.specs.inside.Stores.{Counts};
 
-use crate::asking::{ask_in_turn, label_line};
+use crate::answers::label_line;
 use crate::status::Status;
 use crate::top_call::{Finish, TX_LIMIT, with_disks};
 use command_lines::StoreCall;
 use dewey_labels::{NoMemory, Text};
+use durable_sessions::{Base, ask_in_turn};
 use journal::Journal;
 use jsonml_io::{FragmentError, read_fragment};
 use node_seq::SortedSeq;
@@ -42,6 +44,9 @@ use std::alloc::Global;
 use store_calls::StoreOp;
 use tree_model::{DomCall, Fragment};
 use tx_core::Core;
+
+/// The session that a command of one document asks.
+pub const SESSION: u32 = 1;
 
 /// The most bytes of an input that is read as a whole.
 const WHOLE_LIMIT: usize = 16_777_216;
@@ -188,23 +193,23 @@ fn is_text(fragment: &Fragment) -> bool
 }
 
 /// Creates a document of an element and commits, and answers the line of its label.
-fn put<J: Disk>(
+fn put<B: Base, J: Disk>(
     alloc: Global,
-    core: &mut Core<StoreOp, SortedSeq>,
+    core: &mut Core<StoreOp, B>,
     journal: &mut Journal<J>,
     name: &str,
     element: Fragment,
 ) -> Result<Vec<u8>, Status>
-    requires may { MayBeAsked core.old journal.old }
+    requires may { MayBeAsked store_meaning B.contents core.old journal.old }
     requires valid { IsValid (plain element) }
-    ensures done { (s : State StoreCall) → Stands core.old s → (read : List ℕ) → element_in read ≡ Ok element → length read ≤ whole_limit
+    ensures done { (s : State StoreCall) → Stands store_meaning B.contents core.old s → (read : List ℕ) → element_in read ≡ Ok element → length read ≤ whole_limit
         → DocumentDone J.is_known s (put_command name.now) read journal.old.history journal.new.history (λ text. text.items) result }
     ensures stops { IfErr result IsStop }
-    ensures counts { Counts (result ≡ Err Status.DiskFault) journal.old.faults journal.new.faults }
+    ensures counts { DisksCountedWhere (result ≡ Err Status.DiskFault) (counts_of B.count core.old journal.old) (counts_of B.count core.new journal.new) }
 {
     let doings = put_doings(alloc, name, element)?;
     let mut replies = Vec::new(alloc);
-    ask_in_turn(alloc, core, journal, doings, &mut replies)?;
+    ask_in_turn(alloc, core, journal, SESSION, doings, &mut replies)?;
     Ok(label_line(alloc, replies.as_slice())?)
 }
 

@@ -11,26 +11,28 @@ ghost use Rattle.command_words.specs.Commands.{gen as gen_command};
 ghost use Rattle.workload_gen.specs.LineTexts.{line_text};
 ghost use Rattle.workload_gen.specs.Summaries.{after_line, summary_text};
 ghost use Rattle.xtc.specs.Book.{IsValidLine};
-ghost use Rattle.xtc.specs.Documents.{limit_of};
+ghost use Rattle.durable_sessions.specs.Asked.{counts_of, MayBeAsked};
+ghost use Rattle.durable_sessions.specs.InTurn.{AskedInTurn};
+ghost use Rattle.durable_sessions.specs.Reasons.{limit_of};
+ghost use Rattle.durable_sessions.specs.Standing.{Stands};
+ghost use Rattle.script_runs.specs.Counts.{DisksCountedWhere};
+ghost use Rattle.store_calls.specs.StoreCalls.{IsValidStoreCall, store_meaning};
 ghost use Rattle.xtc.specs.Generated.{generated_line};
 ghost use Rattle.xtc.specs.ReadLines.{line_in};
 ghost use Rattle.xtc.specs.ScriptLine.{line_of};
-ghost use Rattle.xtc.specs.StoreMachine.{Stands};
 ghost use Rattle.xtc.specs.TopCall.{tx_limit};
-ghost use Rattle.xtc.specs.inside.Asking.{AskedInTurn, DocumentDone, IsStop};
+ghost use Rattle.xtc.specs.inside.Asking.{DocumentDone, IsStop};
 ghost use Rattle.xtc.specs.inside.CommandRuns.{Input, RunsCommand};
 ghost use Rattle.xtc.specs.inside.Counting.{AskedLine, RanLines};
-ghost use Rattle.xtc.specs.inside.Stores.{MayBeAsked, Counts};
+ghost use Rattle.xtc.specs.inside.Stores.{Counts};
 
-use crate::asking::limit_in;
 use crate::document::{open_core, written};
-use crate::halt::Halt;
 use crate::line::{ReadLine, read_line};
-use crate::status::{Reason, Status};
-use crate::store::answer;
+use crate::status::Status;
 use crate::top_call::{Finish, with_disks};
 use command_lines::LineReply;
 use dewey_labels::NoMemory;
+use durable_sessions::{Base, Halt, Reason, Stop, answer, limit_in};
 use journal::Journal;
 use node_seq::SortedSeq;
 use outside_traits::{Disk, Sink};
@@ -110,18 +112,17 @@ fn line_of(alloc: Global, summary: &Summary) -> Result<Vec<u8>, NoMemory>
 }
 
 /// Does the lines of a script up to the first begin or commit that is refused by the numbers that are left, and counts them and their replies.
-fn run_lines<J: Disk>(
+fn run_lines<B: Base, J: Disk>(
     alloc: Global,
-    core: &mut Core<StoreOp, SortedSeq>,
+    core: &mut Core<StoreOp, B>,
     journal: &mut Journal<J>,
     script: &mut Script,
     summary: &mut Summary,
-) -> Result<(), Status>
-    requires may { MayBeAsked core.old journal.old }
-    ensures ran { (s : State StoreCall) → Stands core.old s → RanLines J.is_known s script.old
+) -> Result<(), Stop>
+    requires may { MayBeAsked store_meaning B.contents core.old journal.old }
+    ensures ran { (s : State StoreCall) → Stands store_meaning B.contents core.old s → RanLines B.contents J.is_known s script.old
         journal.old.history core.new journal.new.history summary.old summary.new result }
-    ensures stops { IfErr result IsStop }
-    ensures counts { Counts (result ≡ Err Status.DiskFault) journal.old.faults journal.new.faults }
+    ensures counts { DisksCountedWhere (result ≡ Err Stop.DiskFault) (counts_of B.count core.old journal.old) (counts_of B.count core.new journal.new) }
 {
     let mut replies = Vec::new(alloc);
     while let Some(line) = script.next() {
@@ -131,45 +132,45 @@ fn run_lines<J: Disk>(
 }
 
 /// Does a line, and counts it and its replies, which are made in `replies`.
-fn run_line<J: Disk>(
+fn run_line<B: Base, J: Disk>(
     alloc: Global,
-    core: &mut Core<StoreOp, SortedSeq>,
+    core: &mut Core<StoreOp, B>,
     journal: &mut Journal<J>,
     line: Line,
     summary: &mut Summary,
     replies: &mut Vec<LineReply>,
-) -> Result<(), Status>
-    requires may { MayBeAsked core.old journal.old }
-    ensures asked { (s : State StoreCall) → Stands core.old s → AskedInTurn limit_of J.is_known s (generated_line line)
+) -> Result<(), Stop>
+    requires may { MayBeAsked store_meaning B.contents core.old journal.old }
+    ensures asked { (s : State StoreCall) → Stands store_meaning B.contents core.old s
+        → AskedInTurn IsValidStoreCall store_meaning B.contents limit_of J.is_known s (generated_line line)
         journal.old.history core.new journal.new.history [] replies.new.items result }
     ensures counted { OnOk result (summary.new ≡ after_line summary.old line.step replies.new.items) }
-    ensures stops { IfErr result IsStop }
-    ensures may { OnOk result (MayBeAsked core.new journal.new) }
-    ensures counts { Counts (result ≡ Err Status.DiskFault) journal.old.faults journal.new.faults }
+    ensures may { OnOk result (MayBeAsked store_meaning B.contents core.new journal.new) }
+    ensures counts { DisksCountedWhere (result ≡ Err Stop.DiskFault) (counts_of B.count core.old journal.old) (counts_of B.count core.new journal.new) }
 {
     replies.clear();
     ask_line(alloc, core, journal, line, replies)?;
     summary.count(line.step, replies);
     match limit_in(replies) {
-        Some(why) => Err(Status::DocumentRefused(why)),
+        Some(why) => Err(Stop::Refused(why)),
         None => Ok(()),
     }
 }
 
 /// Does what a line asks.
-fn ask_line<J: Disk>(
+fn ask_line<B: Base, J: Disk>(
     alloc: Global,
-    core: &mut Core<StoreOp, SortedSeq>,
+    core: &mut Core<StoreOp, B>,
     journal: &mut Journal<J>,
     line: Line,
     replies: &mut Vec<LineReply>,
 ) -> Result<(), Halt>
-    requires may { MayBeAsked core.old journal.old }
+    requires may { MayBeAsked store_meaning B.contents core.old journal.old }
     requires none { replies.old.items ≡ [] }
-    ensures asked { (s : State StoreCall) → Stands core.old s → AskedLine J.is_known s (generated_line line)
+    ensures asked { (s : State StoreCall) → Stands store_meaning B.contents core.old s → AskedLine B.contents J.is_known s (generated_line line)
         journal.old.history core.new journal.new.history replies.new.items result }
-    ensures may { OnOk result (MayBeAsked core.new journal.new) }
-    ensures counts { Counts (result ≡ Err Halt.DiskFault) journal.old.faults journal.new.faults }
+    ensures may { OnOk result (MayBeAsked store_meaning B.contents core.new journal.new) }
+    ensures counts { DisksCountedWhere (result ≡ Err Halt.DiskFault) (counts_of B.count core.old journal.old) (counts_of B.count core.new journal.new) }
 {
     let read = read_generated(alloc, line)?;
     match read {

@@ -5,8 +5,10 @@ ghost use Rattle.tree_model.specs.Tree.{Tree};
 ghost use Rattle.tree_model.specs.declared.fragment.Fragment.{Fragment};
 ghost use Rattle.call_contract.specs.States.{start};
 ghost use Rattle.xtc.specs.Book.{after_asked};
-ghost use Rattle.xtc.specs.Documents.{put_asks, get_asks};
-ghost use Rattle.xtc.specs.DocumentsOnTree.{PutOnTree, GetOnTree};
+ghost use Rattle.path_model.specs.declared.path.XPath.{XPath};
+ghost use Rattle.xtc.specs.Documents.{put_asks, get_asks, show_asks};
+ghost use Rattle.xtc.specs.DocumentsOnTree.{PutOnTree, GetOnTree, QueryOnTree};
+ghost use Rattle.xtc.specs.declared.question.Question.TheVariants.{FoundBy};
 
 /// What `put` asks does what `create` does on the plain tree, by one commit: it is refused as that is, and shows its label.
 pub fn put_is_create()
@@ -18,4 +20,10 @@ pub fn put_is_create()
 pub fn get_is_dump()
     ensures { (t : Tree) (n limit : ℕ) (name : Name)
         → GetOnTree t n limit name (after_asked (start t n limit) (get_asks (start t n limit) name)) }
+{}
+
+/// What `query` asks answers what `doc` answers and the path finds on the plain tree, and changes nothing. Nobody else is live, so each call is answered at once.
+pub fn query_is_find()
+    ensures { (t : Tree) (n limit : ℕ) (name : Name) (path : XPath)
+        → QueryOnTree t n limit name path (after_asked (start t n limit) (show_asks (start t n limit) name (FoundBy path))) }
 {}

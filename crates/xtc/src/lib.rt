@@ -4,10 +4,9 @@
 //! The program over it opens the real streams and files, prints the status and ends with its number.
 #![tactic(auto)]
 
-mod asking;
+mod answers;
 mod document;
 mod generator;
-mod halt;
 mod laws;
 mod line;
 mod promises;
@@ -17,10 +16,11 @@ mod status;
 mod store;
 mod top_call;
 
-pub use laws::{get_is_dump, put_is_create};
+pub use durable_sessions::Reason;
+pub use laws::{get_is_dump, put_is_create, query_is_find};
 pub use promises::{
     crashes_lose_no_answered_commit, every_deadlock_is_true, every_output_is_the_replies,
     every_run_is_serial, files_hold_what_was_answered,
 };
-pub use status::{Reason, Status};
+pub use status::Status;
 pub use top_call::{Finish, xtc};

@@ -10,21 +10,27 @@ ghost use Rattle.command_lines.specs.ValidCommands.{IsValidWhat};
 ghost use Rattle.command_lines.specs.declared.command.What.TheVariants.{Call};
 ghost use Rattle.command_lines.specs.declared.command.StoreCall.{StoreCall};
 ghost use Rattle.command_words.specs.Commands.{Command, get as get_command, query as query_command};
-ghost use Rattle.xtc.specs.Documents.{answer_line, call_of, find_asks, label_in, question_asks, reason_in, reason_of};
-ghost use Rattle.xtc.specs.StoreMachine.{Stands};
+ghost use Rattle.durable_sessions.specs.Asked.{counts_of, MayBeAsked};
+ghost use Rattle.durable_sessions.specs.InTurn.{AskedInTurn};
+ghost use Rattle.durable_sessions.specs.Reasons.{reason_in, reason_of};
+ghost use Rattle.durable_sessions.specs.Standing.{Stands};
+ghost use Rattle.script_runs.specs.Counts.{DisksCountedWhere};
+ghost use Rattle.store_calls.specs.StoreCalls.{IsValidStoreCall, store_meaning};
+ghost use Rattle.xtc.specs.Documents.{answer_line, call_of, find_asks, label_in, question_asks};
 ghost use Rattle.xtc.specs.TopCall.{tx_limit};
-ghost use Rattle.xtc.specs.inside.Asking.{all_asks, AreValidAsks, AskedInTurn, DocumentDone, IsStop};
+ghost use Rattle.xtc.specs.inside.Asking.{all_asks, AreValidAsks, DocumentDone, IsStop};
 ghost use Rattle.xtc.specs.inside.CommandRuns.{Input, RunsCommand};
 ghost use Rattle.xtc.specs.inside.Showing.{IsLawful, Shows};
-ghost use Rattle.xtc.specs.inside.Stores.{MayBeAsked, Counts};
+ghost use Rattle.xtc.specs.inside.Stores.{Counts};
 
-use crate::asking::{answer_line, ask_in_turn, label_in};
-use crate::document::{doing_of, open_core, written};
+use crate::answers::{answer_line, label_in};
+use crate::document::{SESSION, doing_of, open_core, written};
 use crate::question::Question;
 use crate::status::Status;
 use crate::top_call::{Finish, with_disks};
 use command_lines::{LineReply, StoreCall};
 use dewey_labels::{Label, NoMemory, Text};
+use durable_sessions::{Base, Stop, ask_in_turn};
 use journal::Journal;
 use node_seq::SortedSeq;
 use outside_traits::{Disk, Sink};
@@ -139,68 +145,68 @@ fn show_document<J: Disk>(
 }
 
 /// Finds the document with a name, asks it this, aborts, and answers the answer's line.
-fn show<J: Disk>(
+fn show<B: Base, J: Disk>(
     alloc: Global,
-    core: &mut Core<StoreOp, SortedSeq>,
+    core: &mut Core<StoreOp, B>,
     journal: &mut Journal<J>,
     name: &str,
     question: &Question,
 ) -> Result<Vec<u8>, Status>
-    requires may { MayBeAsked core.old journal.old }
+    requires may { MayBeAsked store_meaning B.contents core.old journal.old }
     requires lawful { IsLawful question.now }
-    ensures done { (c : Command) (s : State StoreCall) → Stands core.old s → Shows c s name.now question.now
+    ensures done { (c : Command) (s : State StoreCall) → Stands store_meaning B.contents core.old s → Shows c s name.now question.now
         → DocumentDone J.is_known s c [] journal.old.history journal.new.history (λ text. text.items) result }
     ensures stops { IfErr result IsStop }
-    ensures counts { Counts (result ≡ Err Status.DiskFault) journal.old.faults journal.new.faults }
+    ensures counts { DisksCountedWhere (result ≡ Err Status.DiskFault) (counts_of B.count core.old journal.old) (counts_of B.count core.new journal.new) }
 {
     let mut replies = Vec::new(alloc);
     let label = find(alloc, core, journal, name, &mut replies)?;
-    ask_question(alloc, core, journal, question, label, &mut replies)
+    Ok(ask_question(alloc, core, journal, question, label, &mut replies)?)
 }
 
 /// Finds the document with a name.
-fn find<J: Disk>(
+fn find<B: Base, J: Disk>(
     alloc: Global,
-    core: &mut Core<StoreOp, SortedSeq>,
+    core: &mut Core<StoreOp, B>,
     journal: &mut Journal<J>,
     name: &str,
     replies: &mut Vec<LineReply>,
-) -> Result<Option<Label>, Status>
-    requires may { MayBeAsked core.old journal.old }
+) -> Result<Option<Label>, Stop>
+    requires may { MayBeAsked store_meaning B.contents core.old journal.old }
     requires unrefused { reason_in replies.old.items ≡ None }
-    ensures asked { (s : State StoreCall) → Stands core.old s → AskedInTurn reason_of J.is_known s (find_asks name.now)
+    ensures asked { (s : State StoreCall) → Stands store_meaning B.contents core.old s
+        → AskedInTurn IsValidStoreCall store_meaning B.contents reason_of J.is_known s (find_asks name.now)
         journal.old.history core.new journal.new.history replies.old.items replies.new.items result }
     ensures label { IfOk result (λ label. label ≡ label_in replies.new.items) }
-    ensures stops { IfErr result IsStop }
-    ensures may { OnOk result (MayBeAsked core.new journal.new) }
+    ensures may { OnOk result (MayBeAsked store_meaning B.contents core.new journal.new) }
     ensures unrefused { OnOk result (reason_in replies.new.items ≡ None) }
-    ensures counts { Counts (result ≡ Err Status.DiskFault) journal.old.faults journal.new.faults }
+    ensures counts { DisksCountedWhere (result ≡ Err Stop.DiskFault) (counts_of B.count core.old journal.old) (counts_of B.count core.new journal.new) }
 {
     let doings = find_doings(alloc, name)?;
-    ask_in_turn(alloc, core, journal, doings, replies)?;
+    ask_in_turn(alloc, core, journal, SESSION, doings, replies)?;
     Ok(label_in(alloc, replies.as_slice())?)
 }
 
 /// Asks this of the document at a label and aborts, and answers the answer's line.
-fn ask_question<J: Disk>(
+fn ask_question<B: Base, J: Disk>(
     alloc: Global,
-    core: &mut Core<StoreOp, SortedSeq>,
+    core: &mut Core<StoreOp, B>,
     journal: &mut Journal<J>,
     question: &Question,
     label: Option<Label>,
     replies: &mut Vec<LineReply>,
-) -> Result<Vec<u8>, Status>
-    requires may { MayBeAsked core.old journal.old }
+) -> Result<Vec<u8>, Stop>
+    requires may { MayBeAsked store_meaning B.contents core.old journal.old }
     requires unrefused { reason_in replies.old.items ≡ None }
     requires lawful { IsLawful question.now }
-    ensures asked { (s : State StoreCall) → Stands core.old s → AskedInTurn reason_of J.is_known s (question_asks question.now label)
+    ensures asked { (s : State StoreCall) → Stands store_meaning B.contents core.old s
+        → AskedInTurn IsValidStoreCall store_meaning B.contents reason_of J.is_known s (question_asks question.now label)
         journal.old.history core.new journal.new.history replies.old.items replies.new.items result }
-    ensures stops { IfErr result IsStop }
     ensures text { IfOk result (λ text. text.items ≡ answer_line question.now replies.new.items) }
-    ensures counts { Counts (result ≡ Err Status.DiskFault) journal.old.faults journal.new.faults }
+    ensures counts { DisksCountedWhere (result ≡ Err Stop.DiskFault) (counts_of B.count core.old journal.old) (counts_of B.count core.new journal.new) }
 {
     let doings = question_doings(alloc, question, label)?;
-    ask_in_turn(alloc, core, journal, doings, replies)?;
+    ask_in_turn(alloc, core, journal, SESSION, doings, replies)?;
     Ok(answer_line(alloc, question, replies.as_slice())?)
 }
 

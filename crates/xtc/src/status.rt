@@ -1,16 +1,15 @@
 // The statuses that the program ends with, with their numbers and texts.
 ghost use Rattle.std.specs.Prelude.{◌≡◌};
-ghost use Rattle.xtc.specs.Statuses.{file_text, status_number, status_of, status_of_end, status_of_gathering, status_of_fragment, status_of_halt, status_of_path, status_of_words};
+ghost use Rattle.xtc.specs.Statuses.{file_text, status_number, status_of, status_of_end, status_of_gathering, status_of_fragment, status_of_path, status_of_stop, status_of_words};
 
-use crate::halt::Halt as StoreHalt;
 use command_words::WordsError;
 use dewey_labels::NoMemory as WantsMemory;
+use durable_sessions::{Reason, Stop};
 use jsonml_io::FragmentError;
 use node_records::{File, OpenError, Place};
 use script_runs::{End, GatherError, Halt};
 use std::fmt;
 use std::fmt::{Display, Formatter, Write};
-use tree_model::Refusal;
 use xpath_parser::PathError;
 
 /// How a run of the program ended.
@@ -36,17 +35,6 @@ pub enum Status {
     NotJsonMl(FragmentError),
     /// The store refuses the document.
     DocumentRefused(Reason),
-}
-
-/// Why the store refuses a document.
-#[derive(Debug, Drop)]
-pub enum Reason {
-    /// The path that is asked for is none.
-    Path(PathError),
-    /// The tree refuses the call.
-    Call(Refusal),
-    /// No number is left for a transaction, or no room for the commit's body.
-    Limit,
 }
 
 impl Status {
@@ -147,14 +135,15 @@ impl From<PathError> for Status {
     }
 }
 
-/// A store that can't go on.
-impl From<StoreHalt> for Status {
-    ghost from_gives = { λ halt status. status ≡ status_of_halt halt };
+/// Sessions that are asked no more.
+impl From<Stop> for Status {
+    ghost from_gives = { λ stop status. status ≡ status_of_stop stop };
 
-    fn from(halt: StoreHalt) -> Status {
-        match halt {
-            StoreHalt::DiskFault => Status::DiskFault,
-            StoreHalt::NoMemory => Status::NoMemory,
+    fn from(stop: Stop) -> Status {
+        match stop {
+            Stop::Refused(why) => Status::DocumentRefused(why),
+            Stop::DiskFault => Status::DiskFault,
+            Stop::NoMemory => Status::NoMemory,
         }
     }
 }

@@ -1,29 +1,30 @@
 // A store's sessions over its two disks, as a machine that does the lines of a script.
-ghost use Rattle.std.specs.Prelude.{◌≡◌, ◌≢◌, ◌<◌, ◌++◌, ◌∷◌, [], length, Some, Err, OnOk, vec_capacity};
+ghost use Rattle.std.specs.Prelude.{◌≡◌, ◌++◌, ◌∷◌, [], Err, OnOk};
 ghost use Rattle.call_contract.specs.States.{State};
 ghost use Rattle.command_lines.specs.Replies.{reply_text};
 ghost use Rattle.command_lines.specs.declared.command.StoreCall.{StoreCall};
 ghost use Rattle.command_lines.specs.declared.line_reply.LineReply.TheVariants as line_reply;
-ghost use Rattle.session_driver.specs.declared.doing.Doing.TheVariants.{Commit};
+ghost use Rattle.durable_sessions.specs.Asked.{asked_from, counts_of, LeadsTo, LeavesEither, MayBeAsked, TakesNext};
+ghost use Rattle.durable_sessions.specs.Standing.{Stands};
+ghost use Rattle.script_runs.specs.Counts.{DisksCountedWhere};
+ghost use Rattle.store_calls.specs.StoreCalls.{store_meaning};
 ghost use Rattle.xtc.specs.Book.{done_by, replies_text};
 ghost use Rattle.xtc.specs.ReadLines.{line_in};
-ghost use Rattle.xtc.specs.StoreMachine.{Stands};
-ghost use Rattle.xtc.specs.inside.Stores.{asked_from, MayBeAsked, TakesNext, LeadsTo, LeavesEither, Counts, IsDue};
 
-use crate::halt::Halt;
 use crate::line::{ReadLine, read_line};
 use command_lines::{LineReply, write_reply};
 use dewey_labels::{List, NoMemory, Text};
+use durable_sessions::{Base, Halt, answer};
 use journal::Journal;
 use node_seq::SortedSeq;
 use outside_traits::Disk;
 use script_runs::LineMachine;
-use session_driver::{Doing, drive, finish_commit};
+use session_driver::Doing;
 use std::alloc::Global;
 use std::marker::Model;
 use std::mem;
 use store_calls::StoreOp;
-use tx_core::{Core, Prepared};
+use tx_core::Core;
 
 /// The sessions of a store, the journal that their commits go to, and the disk of the pages, which no line touches.
 #[derive(Drop)]
@@ -79,24 +80,24 @@ impl<J: Disk, P: Disk> Store<J, P> {
 }
 
 /// Does a line that was read, by its number from 1, and adds its replies to `out`. They are made in `replies`.
-fn do_line<J: Disk>(
+fn do_line<B: Base, J: Disk>(
     alloc: Global,
-    core: &mut Core<StoreOp, SortedSeq>,
+    core: &mut Core<StoreOp, B>,
     journal: &mut Journal<J>,
     replies: &mut Vec<LineReply>,
     number: u64,
     line: ReadLine,
     out: &mut Vec<u8>,
 ) -> Result<(), Halt>
-    requires may { MayBeAsked core.old journal.old }
-    ensures state { OnOk result ((s : State StoreCall) → Stands core.old s
-        → LeadsTo J.is_known journal.old.history core.new journal.new.history s (done_by s 0 (line_in line)).state) }
-    ensures text { OnOk result ((s : State StoreCall) → Stands core.old s
+    requires may { MayBeAsked store_meaning B.contents core.old journal.old }
+    ensures state { OnOk result ((s : State StoreCall) → Stands store_meaning B.contents core.old s
+        → LeadsTo store_meaning B.contents J.is_known journal.old.history core.new journal.new.history s (done_by s 0 (line_in line)).state) }
+    ensures text { OnOk result ((s : State StoreCall) → Stands store_meaning B.contents core.old s
         → out.new.items ≡ out.old.items ++ replies_text (done_by s number (line_in line)).lines) }
     ensures takes { OnOk result (TakesNext core.new journal.new) }
-    ensures any_moment { (s : State StoreCall) → Stands core.old s
+    ensures any_moment { (s : State StoreCall) → Stands store_meaning B.contents core.old s
         → LeavesEither J.is_known journal.old.history journal.new.history s (done_by s 0 (line_in line)).state }
-    ensures counts { Counts (result ≡ Err Halt.DiskFault) journal.old.faults journal.new.faults }
+    ensures counts { DisksCountedWhere (result ≡ Err Halt.DiskFault) (counts_of B.count core.old journal.old) (counts_of B.count core.new journal.new) }
 {
     match line {
         ReadLine::Nothing => Ok(()),
@@ -108,100 +109,28 @@ fn do_line<J: Disk>(
 }
 
 /// Does what a session is asked, and adds the replies to `out`. They are made in `replies`.
-fn ask<J: Disk>(
+fn ask<B: Base, J: Disk>(
     alloc: Global,
-    core: &mut Core<StoreOp, SortedSeq>,
+    core: &mut Core<StoreOp, B>,
     journal: &mut Journal<J>,
     replies: &mut Vec<LineReply>,
     session: u32,
     doing: Doing<StoreOp>,
     out: &mut Vec<u8>,
 ) -> Result<(), Halt>
-    requires may { MayBeAsked core.old journal.old }
-    ensures state { OnOk result ((s : State StoreCall) → Stands core.old s
-        → LeadsTo J.is_known journal.old.history core.new journal.new.history s (asked_from s session doing).state) }
-    ensures text { OnOk result ((s : State StoreCall) → Stands core.old s
-        → out.new.items ≡ out.old.items ++ replies_text (asked_from s session doing).lines) }
+    requires may { MayBeAsked store_meaning B.contents core.old journal.old }
+    ensures state { OnOk result ((s : State StoreCall) → Stands store_meaning B.contents core.old s
+        → LeadsTo store_meaning B.contents J.is_known journal.old.history core.new journal.new.history s (asked_from store_meaning s session doing).state) }
+    ensures text { OnOk result ((s : State StoreCall) → Stands store_meaning B.contents core.old s
+        → out.new.items ≡ out.old.items ++ replies_text (asked_from store_meaning s session doing).lines) }
     ensures takes { OnOk result (TakesNext core.new journal.new) }
-    ensures any_moment { (s : State StoreCall) → Stands core.old s
-        → LeavesEither J.is_known journal.old.history journal.new.history s (asked_from s session doing).state }
-    ensures counts { Counts (result ≡ Err Halt.DiskFault) journal.old.faults journal.new.faults }
+    ensures any_moment { (s : State StoreCall) → Stands store_meaning B.contents core.old s
+        → LeavesEither J.is_known journal.old.history journal.new.history s (asked_from store_meaning s session doing).state }
+    ensures counts { DisksCountedWhere (result ≡ Err Halt.DiskFault) (counts_of B.count core.old journal.old) (counts_of B.count core.new journal.new) }
 {
     replies.clear();
     answer(alloc, core, journal, session, doing, replies)?;
     Ok(write_replies(alloc, replies.as_slice(), out)?)
-}
-
-/// Does what a session is asked. A commit is made once it is durable, and where the disk fails no entry comes to the book.
-pub fn answer<J: Disk>(
-    alloc: Global,
-    core: &mut Core<StoreOp, SortedSeq>,
-    journal: &mut Journal<J>,
-    session: u32,
-    doing: Doing<StoreOp>,
-    replies: &mut Vec<LineReply>,
-) -> Result<(), Halt>
-    requires may { MayBeAsked core.old journal.old }
-    ensures state { OnOk result ((s : State StoreCall) → Stands core.old s
-        → LeadsTo J.is_known journal.old.history core.new journal.new.history s (asked_from s session doing).state) }
-    ensures replies { OnOk result ((s : State StoreCall) → Stands core.old s
-        → replies.new.items ≡ replies.old.items ++ (asked_from s session doing).lines) }
-    ensures takes { OnOk result (TakesNext core.new journal.new) }
-    ensures any_moment { (s : State StoreCall) → Stands core.old s
-        → LeavesEither J.is_known journal.old.history journal.new.history s (asked_from s session doing).state }
-    ensures still { doing ≢ Commit → journal.new ≡ journal.old }
-    ensures unmade { result ≡ Err Halt.DiskFault → core.new.book ≡ core.old.book }
-    ensures counts { Counts (result ≡ Err Halt.DiskFault) journal.old.faults journal.new.faults }
-{
-    // It tells that the book is legal, before and after.
-    core.is_legal();
-    match drive(alloc, core, session, doing, replies) {
-        Ok(None) => {
-            core.is_legal();
-            Ok(())
-        }
-        Ok(Some(prepared)) => commit(alloc, core, journal, session, prepared, replies),
-        // The map is in memory: a read of it doesn't fail.
-        Err(_) => Err(Halt::NoMemory),
-    }
-}
-
-/// Makes a commit durable, then makes it and does what it leads to; where the disk fails nothing is made.
-/// What memory the journal wants is taken before its first write.
-fn commit<J: Disk>(
-    alloc: Global,
-    core: &mut Core<StoreOp, SortedSeq>,
-    journal: &mut Journal<J>,
-    session: u32,
-    prepared: Prepared,
-    replies: &mut Vec<LineReply>,
-) -> Result<(), Halt>
-    requires may { MayBeAsked core.old journal.old }
-    requires prepared { core.old.prepared ≡ Some session }
-    requires due { IsDue core.old session prepared }
-    requires room { length replies.old.items < vec_capacity replies.old }
-    ensures state { OnOk result ((s : State StoreCall) → Stands core.old s
-        → LeadsTo J.is_known journal.old.history core.new journal.new.history s (asked_from s session Commit).state) }
-    ensures replies { OnOk result ((s : State StoreCall) → Stands core.old s
-        → replies.new.items ≡ replies.old.items ++ (asked_from s session Commit).lines) }
-    ensures takes { OnOk result (TakesNext core.new journal.new) }
-    ensures any_moment { (s : State StoreCall) → Stands core.old s
-        → LeavesEither J.is_known journal.old.history journal.new.history s (asked_from s session Commit).state }
-    ensures unmade { result ≡ Err Halt.DiskFault → core.new ≡ core.old }
-    ensures counts { Counts (result ≡ Err Halt.DiskFault) journal.old.faults journal.new.faults }
-{
-    // It tells that the book is legal, before and after.
-    core.is_legal();
-    journal.make_room(alloc, prepared.body.len())?;
-    journal.append_group(prepared.number, prepared.body.as_slice())?;
-    match finish_commit(alloc, core, session, prepared, replies) {
-        Ok(()) => {
-            core.merge(alloc);
-            core.is_legal();
-            Ok(())
-        }
-        Err(_) => Err(Halt::NoMemory),
-    }
 }
 
 /// Adds the reply to a line that is no command.

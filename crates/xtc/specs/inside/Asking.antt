@@ -1,102 +1,54 @@
--- What asking session 1 in turn leaves of the core and the journal of a store.
-use Rattle.std.specs.Prelude.{◌≡◌, ◌≢◌, ◌≤◌, ◌+◌, ℕ, Bool, false, List, [], ◌++◌, length, map, Option, None, Some, Result, Ok, Err, IsTrue}
-use Rattle.std.specs.List.{AllByRecursion}
-use Rattle.outside_traits.specs.CrashImages.{IsImage}
-use Rattle.outside_traits.specs.Moments.{History, LeavesOnly}
-use Rattle.tree_model.specs.Entries.{Entries}
+-- What the commands that ask in turn leave of the journal of a store, by their statuses, and what they write.
+use Rattle.std.specs.Prelude.{◌≡◌, ◌≤◌, ◌+◌, ℕ, Bool, false, List, [], ◌++◌, length, Option, Some, Result, Ok, Err}
+use Rattle.outside_traits.specs.Moments.{History}
 use Rattle.tree_model.specs.declared.fragment.Fragment.{Fragment}
 use Rattle.call_contract.specs.States.{State}
 use Rattle.command_lines.specs.declared.command.StoreCall.{StoreCall}
 use Rattle.command_lines.specs.declared.line_reply.LineReply.{LineReply}
 use Rattle.session_driver.specs.Lines.{Asked, AreValid}
-use Rattle.script_runs.specs.Whole.{IsPast, piece}
 use Rattle.session_driver.specs.declared.doing.Doing.{Doing}
-use Rattle.session_driver.specs.declared.doing.Doing.TheVariants.{Commit}
-use Rattle.store_calls.specs.StoreCalls.{IsValidStoreCall}
-use Rattle.tx_core.specs.Cores.{CoreView}
-use Rattle.xtc.specs.Book.{after_asked}
+use Rattle.script_runs.specs.Whole.{IsPast, piece}
+use Rattle.store_calls.specs.StoreCalls.{IsValidStoreCall, store_meaning}
+use Rattle.durable_sessions.specs.InTurn as turn
+use Rattle.durable_sessions.specs.declared.in_turn.Stop.{Stop}
+use Rattle.durable_sessions.specs.declared.reasons.Reason.{Reason}
 use Rattle.command_words.specs.Commands.{Command}
 use Rattle.xtc.specs.Commands.{may_commit}
-use Rattle.xtc.specs.Documents.{asks, asks_of, element_in, first_reason, stops_at, text_of}
-use Rattle.xtc.specs.Durable.{HoldState}
+use Rattle.xtc.specs.Documents.{asks_of, element_in, stops_at, text_of}
 use Rattle.xtc.specs.TopCall.{AreFirst, IsDocumentEnd, IsWithin, NeedsWhole, StopsAtRefusal, slack, whole_limit}
-use Rattle.xtc.specs.declared.status.Reason.{Reason}
 use Rattle.xtc.specs.declared.status.Status.{Status}
 use Rattle.xtc.specs.declared.status.Status.TheVariants.{Done, Usage, LineTooLong, Damaged, ReadFault, WriteFault, DiskFault, NoMemory, NotJsonMl, DocumentRefused}
-use Rattle.xtc.specs.inside.Stores.{HoldsAll, HoldsEither, LeadsTo}
 
--- ---- what is asked
+-- ---- asking in turn, of the store's calls
 
+-- session 1 is asked these
 abbrev pub all_asks : List (Doing StoreCall) → List (Asked StoreCall)
-all_asks doings = map asks doings
+all_asks doings = turn.all_asks 1 doings
 
 abbrev pub AreValidAsks : List (Asked StoreCall) → Type 0
 AreValidAsks asked = AreValid IsValidStoreCall asked
 
--- no commit is asked for
-abbrev pub AskNoCommit : List (Asked StoreCall) → Type 0
-AskNoCommit asked = AllByRecursion (λ (a : Asked StoreCall). a.doing ≢ Commit) asked
-
 -- the state after these, and what was answered to them
 abbrev pub after : State StoreCall → List (Asked StoreCall) → State StoreCall
-after s asked = (after_asked s asked).state
+after s asked = turn.after store_meaning s asked
 
 abbrev pub said : State StoreCall → List (Asked StoreCall) → List LineReply
-said s asked = (after_asked s asked).lines
+said s asked = turn.said store_meaning s asked
 
--- ---- the journal
+-- the journal stands beside empty pages for what is committed after the first of these, and so on the way
+abbrev pub HoldsFirst : State StoreCall → List (Asked StoreCall) → List ℕ → Type 0
+HoldsFirst s asked journal = turn.HoldsFirst store_meaning s asked journal
 
--- it stands beside empty pages for what is committed after the first of these
-pub record HoldsFirst (s : State StoreCall) (asked : List (Asked StoreCall)) (journal : List ℕ) : Type 0 where
-  pub first : List (Asked StoreCall)
-  pub rest : List (Asked StoreCall)
-  pub parts : first ++ rest ≡ asked
-  pub holds : HoldState (after s first) journal []
-
--- a crash on the way leaves that
 abbrev pub LeavesFirst : Bool → State StoreCall → List (Asked StoreCall) → History → History → Type 0
-LeavesFirst is_known s asked old new = IsTrue is_known → HoldsAll s old → LeavesOnly (HoldsFirst s asked) old new
+LeavesFirst is_known s asked old new = turn.LeavesFirst store_meaning is_known s asked old new
 
 -- a crash now leaves what is committed after these, or after these and more
 abbrev pub LeftEither : Bool → State StoreCall → List (Asked StoreCall) → List (Asked StoreCall) → History → History → Type 0
-LeftEither is_known s answered more old new = IsTrue is_known → HoldsAll s old → (image : List ℕ) → IsImage new.now image
-    → HoldsEither (after s answered) (after s (answered ++ more)) image
-
--- ---- sessions asked in turn
-
--- all were answered, and none refused
-pub record AllAnswered (by : LineReply → Option Reason) (is_known : Bool) (s : State StoreCall) (all : List (Asked StoreCall)) (old : History) (core : CoreView StoreCall Entries) (new : History) (before now : List LineReply) : Type 0 where
-  pub valid : AreValidAsks all
-  pub leads : LeadsTo is_known old core new s (after s all)
-  pub moments : LeavesFirst is_known s all old new
-  pub still : AskNoCommit all → new ≡ old
-  pub replies : now ≡ before ++ said s all
-  pub unrefused : first_reason by (said s all) ≡ None
-
--- why it stops: the last answer refuses the document, or there was none
-abbrev pub StopsBy : (LineReply → Option Reason) → Status → List LineReply → List (Asked StoreCall) → Type 0
-StopsBy by (DocumentRefused why) lines more = (first_reason by lines ≡ Some why) × (more ≡ [])
-StopsBy by DiskFault lines more = Unit {0}
-StopsBy by NoMemory lines more = Unit {0}
-StopsBy by status lines more = ⊥
+LeftEither is_known s answered more old new = turn.LeftEither store_meaning is_known s answered more old new
 
 -- the first were answered, and it stopped behind them or within the next one
-pub record Stopped (by : LineReply → Option Reason) (is_known : Bool) (s : State StoreCall) (all : List (Asked StoreCall)) (old new : History) (status : Status) : Type 0 where
-  pub answered : List (Asked StoreCall)
-  pub more : List (Asked StoreCall)
-  pub rest : List (Asked StoreCall)
-  pub parts : answered ++ (more ++ rest) ≡ all
-  pub one : length more ≤ 1
-  pub valid : AreValidAsks (answered ++ more)
-  pub moments : LeavesFirst is_known s (answered ++ more) old new
-  pub left : LeftEither is_known s answered more old new
-  pub still : AskNoCommit all → new ≡ old
-  pub stops : StopsAtRefusal by s (answered ++ more)
-  pub cause : StopsBy by status (said s answered) more
-
-abbrev pub AskedInTurn : {T : Type 0} → (LineReply → Option Reason) → Bool → State StoreCall → List (Asked StoreCall) → History → CoreView StoreCall Entries → History → List LineReply → List LineReply → Result T Status → Type 0
-AskedInTurn by is_known s all old core new before now (Ok done) = AllAnswered by is_known s all old core new before now
-AskedInTurn by is_known s all old core new before now (Err status) = Stopped by is_known s all old new status
+abbrev pub Stopped : (LineReply → Option Reason) → Bool → State StoreCall → List (Asked StoreCall) → History → History → Stop → Type 0
+Stopped by is_known s all old new stop = turn.Stopped IsValidStoreCall store_meaning by is_known s all old new stop
 
 -- a status with which it stops
 abbrev pub IsStop : Status → Type 0

@@ -10,7 +10,8 @@ use Rattle.session_driver.specs.Lines.{Asked}
 use Rattle.command_words.specs.Commands.{Command}
 use Rattle.xtc.specs.Book.{after_asked}
 use Rattle.xtc.specs.Commands.{may_commit, reads_input}
-use Rattle.xtc.specs.Documents.{answer_line, asks_of, reason_of, show_asks, stops_at, text_of}
+use Rattle.durable_sessions.specs.Reasons.{reason_of}
+use Rattle.xtc.specs.Documents.{answer_line, asks_of, show_asks, stops_at, text_of}
 use Rattle.xtc.specs.TopCall.{CommandRan, DocumentRan, Outcome}
 use Rattle.xtc.specs.declared.question.Question.{Question}
 use Rattle.xtc.specs.declared.question.Question.TheVariants.{Whole, FoundBy}
@@ -26,7 +27,7 @@ pub record Shows (c : Command) (s : State StoreCall) (name : Name) (q : Question
   pub asks : asks_of c s [] ≡ Ok (show_asks s name q)
   pub stops : stops_at c ≡ reason_of
   pub text : (asked : List (Asked StoreCall)) → text_of c s asked ≡ answer_line q (after_asked s asked).lines
-  pub unread : may_commit (Some c) ≡ false
+  pub uncommitted : may_commit (Some c) ≡ false
 
 -- a command of a document that reads no input
 pub record IsOfShown (c : Command) : Type 0 where

@@ -3,31 +3,32 @@ use Rattle.journal.specs.Views.{JournalView}
 use Rattle.command_lines.specs.declared.command.StoreCall.{StoreCall}
 use Rattle.session_driver.specs.Lines.{Asked}
 use Rattle.xtc.specs.Book.{IsValidLine}
-use Rattle.xtc.specs.Documents.{limit_of}
+use Rattle.durable_sessions.specs.Reasons.{limit_of}
+use Rattle.store_calls.specs.StoreCalls.{IsValidStoreCall, store_meaning}
 use Rattle.xtc.specs.Generated.{generated_line}
 use Rattle.xtc.specs.ReadLines.{line_in}
-use Rattle.xtc.specs.declared.halt.Halt.TheVariants.{NoMemory}
+use Rattle.durable_sessions.specs.declared.halt.Halt.TheVariants.{NoMemory}
 use Rattle.xtc.specs.inside.Counting.{AskedLine}
-use Rattle.xtc.proofs.AskingLaws.{not_begun}
+use Rattle.durable_sessions.proofs.InTurnLaws.{not_begun}
 use Rattle.xtc.proofs.CountingLaws.{line_asks, line_done, line_err, next_may}
 use Rattle.xtc.proofs.generator.ask_line.Goals as goal
 
 pub returns-in_err-read-clause-asked : goal.returns-in_err-read-clause-asked
 returns-in_err-read-clause-asked g c = λ s stands.
     let old = c.args.journal.now.history in
-    line_err c.from_residual.result NoMemory g.J.Disk.is_known s (generated_line c.args.line) old c.args.core.now old c.args.replies.now.items c.from_residual.ensures.1
-    (not_begun limit_of g.J.Disk.is_known s (generated_line c.args.line) old old refl)
+    line_err g.B.NodeRead.contents c.from_residual.result NoMemory g.J.Disk.is_known s (generated_line c.args.line) old c.args.core.now old c.args.replies.now.items c.from_residual.ensures.1
+    (not_begun IsValidStoreCall store_meaning limit_of g.J.Disk.is_known s (generated_line c.args.line) old old refl)
 
 pub returns-in-Asked-clause-asked : goal.returns-in-Asked-clause-asked
 returns-in-Asked-clause-asked g c = λ s stands.
     let asked : Asked StoreCall = record { session = c.in-Asked.session; doing = c.in-Asked.doing } in
-    subst (λ (l : List (Asked StoreCall)). AskedLine g.J.Disk.is_known s l c.args.journal.now.history c.answer.new.core c.answer.new.journal.history c.answer.new.replies.items c.answer.result)
+    subst (λ (l : List (Asked StoreCall)). AskedLine g.B.NodeRead.contents g.J.Disk.is_known s l c.args.journal.now.history c.answer.new.core c.answer.new.journal.history c.answer.new.replies.items c.answer.result)
     (line_asks c.args.line _ (ap line_in (sym c.in-Asked.is) ∙ c.in_ok-read.ensures.line))
-    (line_done c.answer.result g.J.Disk.is_known s asked (subst (λ read. IsValidLine (line_in read)) c.in-Asked.is c.in_ok-read.ensures.valid)
+    (line_done g.B.NodeRead.contents c.answer.result g.J.Disk.is_known s asked (subst (λ read. IsValidLine (line_in read)) c.in-Asked.is c.in_ok-read.ensures.valid)
     c.args.journal.now.history c.answer.new.journal.history (λ other. ap (λ (j : JournalView). j.history) (c.answer.ensures.still other)) c.args.core.now c.answer.new.core
     c.args.replies.now.items c.answer.new.replies.items c.requires.none stands c.answer.ensures.state c.answer.ensures.replies (c.answer.ensures.any_moment s stands))
 
 pub returns-in-Asked-clause-may : goal.returns-in-Asked-clause-may
 returns-in-Asked-clause-may g c =
-    next_may c.answer.result g.J.Disk.is_known c.args.journal.now.history c.answer.new.journal.history c.in-Asked.session c.in-Asked.doing c.args.core.now c.answer.new.core c.args.journal.now c.answer.new.journal
+    next_may g.B.NodeRead.contents c.answer.result g.J.Disk.is_known c.args.journal.now.history c.answer.new.journal.history c.in-Asked.session c.in-Asked.doing c.args.core.now c.answer.new.core c.args.journal.now c.answer.new.journal
     c.requires.may c.answer.ensures.state c.answer.ensures.takes

@@ -2,14 +2,15 @@ use Rattle.std.proofs.Common.{◌∷◌, refl, ap, subst, ◌∙◌, List, lengt
 use Rattle.call_contract.specs.States.{State}
 use Rattle.command_lines.specs.declared.command.StoreCall.{StoreCall}
 use Rattle.workload_gen.specs.declared.line.Line.{Line}
-use Rattle.xtc.specs.StoreMachine.{Stands}
+use Rattle.durable_sessions.specs.Standing.{Stands}
+use Rattle.store_calls.specs.StoreCalls.{store_meaning}
 use Rattle.xtc.specs.inside.Counting.{HasRun}
 use Rattle.xtc.proofs.CountingLaws.{here, here_stands, none_run, ran_err, run_ends, run_on, run_stops}
 use Rattle.xtc.proofs.generator.run_lines.Goals as goal
 
 pub loop-line-init : goal.loop-line-init
 loop-line-init g c = record {
-  run = λ s stands. none_run g.J.Disk.is_known s c.args.script.now c.args.core.now c.args.journal.now.history c.args.summary.now stands;
+  run = λ s stands. none_run g.B.NodeRead.contents g.J.Disk.is_known s c.args.script.now c.args.core.now c.args.journal.now.history c.args.summary.now stands;
   may = c.requires.may;
   no_fault = refl;
 }
@@ -22,17 +23,17 @@ loop-line-preserved g c =
     let inv = c.loop-line.invariant in
     let left = c.next.new.self in
     let mid = c.loop-line.journal.history in
-    let run : (s : State StoreCall) → Stands c.args.core.now s → HasRun g.J.Disk.is_known s c.args.script.now (c.in-Some.line ∷ left) c.args.journal.now.history c.loop-line.core mid c.args.summary.now c.loop-line.summary =
-    λ s stands. subst (λ (l : List Line). HasRun g.J.Disk.is_known s c.args.script.now l c.args.journal.now.history c.loop-line.core mid c.args.summary.now c.loop-line.summary) c.in-Some.ensures (inv.run s stands) in
+    let run : (s : State StoreCall) → Stands store_meaning g.B.NodeRead.contents c.args.core.now s → HasRun g.B.NodeRead.contents g.J.Disk.is_known s c.args.script.now (c.in-Some.line ∷ left) c.args.journal.now.history c.loop-line.core mid c.args.summary.now c.loop-line.summary =
+    λ s stands. subst (λ (l : List Line). HasRun g.B.NodeRead.contents g.J.Disk.is_known s c.args.script.now l c.args.journal.now.history c.loop-line.core mid c.args.summary.now c.loop-line.summary) c.in-Some.ensures (inv.run s stands) in
     record {
       run = λ s stands.
-          run_on g.J.Disk.is_known s c.args.script.now left c.in-Some.line c.args.journal.now.history mid c.loop-line.core c.args.summary.now c.loop-line.summary (run s stands)
+          run_on g.B.NodeRead.contents g.J.Disk.is_known s c.args.script.now left c.in-Some.line c.args.journal.now.history mid c.loop-line.core c.args.summary.now c.loop-line.summary (run s stands)
           c.run_line.new.core c.run_line.new.journal.history c.run_line.new.replies.items c.run_line.new.summary
-          (c.in_ok-run_line.ensures.asked (here g.J.Disk.is_known s c.args.script.now left c.in-Some.line c.args.journal.now.history mid c.loop-line.core c.args.summary.now c.loop-line.summary (run s stands))
-          (here_stands g.J.Disk.is_known s c.args.script.now left c.in-Some.line c.args.journal.now.history mid c.loop-line.core c.args.summary.now c.loop-line.summary (run s stands)))
+          (c.in_ok-run_line.ensures.asked (here g.B.NodeRead.contents g.J.Disk.is_known s c.args.script.now left c.in-Some.line c.args.journal.now.history mid c.loop-line.core c.args.summary.now c.loop-line.summary (run s stands))
+          (here_stands g.B.NodeRead.contents g.J.Disk.is_known s c.args.script.now left c.in-Some.line c.args.journal.now.history mid c.loop-line.core c.args.summary.now c.loop-line.summary (run s stands)))
           c.in_ok-run_line.ensures.counted;
       may = c.in_ok-run_line.ensures.may;
-      no_fault = c.in_ok-run_line.ensures.counts.cause.exact (λ is. cc) ∙ inv.no_fault;
+      no_fault = c.in_ok-run_line.ensures.counts.exact (λ is. cc) ∙ inv.no_fault;
     }
 
 pub returns-in_err-run_line-clause-ran : goal.returns-in_err-run_line-clause-ran
@@ -40,13 +41,13 @@ returns-in_err-run_line-clause-ran g c = λ s stands.
     let left = c.next.new.self in
     let mid = c.loop-line.journal.history in
     let status = c.in_err-run_line.field-0.0 in
-    let run : HasRun g.J.Disk.is_known s c.args.script.now (c.in-Some.line ∷ left) c.args.journal.now.history c.loop-line.core mid c.args.summary.now c.loop-line.summary =
-    subst (λ (l : List Line). HasRun g.J.Disk.is_known s c.args.script.now l c.args.journal.now.history c.loop-line.core mid c.args.summary.now c.loop-line.summary) c.in-Some.ensures (c.loop-line.invariant.run s stands) in
-    ran_err c.from_residual.result status g.J.Disk.is_known s c.args.script.now c.args.journal.now.history c.run_line.new.core c.run_line.new.journal.history c.args.summary.now c.run_line.new.summary c.from_residual.ensures.1
-    (run_stops g.J.Disk.is_known s c.args.script.now left c.in-Some.line c.args.journal.now.history mid c.loop-line.core c.args.summary.now c.loop-line.summary run c.run_line.new.journal.history status
-    (c.in_err-run_line.ensures.asked (here g.J.Disk.is_known s c.args.script.now left c.in-Some.line c.args.journal.now.history mid c.loop-line.core c.args.summary.now c.loop-line.summary run)
-    (here_stands g.J.Disk.is_known s c.args.script.now left c.in-Some.line c.args.journal.now.history mid c.loop-line.core c.args.summary.now c.loop-line.summary run)))
+    let run : HasRun g.B.NodeRead.contents g.J.Disk.is_known s c.args.script.now (c.in-Some.line ∷ left) c.args.journal.now.history c.loop-line.core mid c.args.summary.now c.loop-line.summary =
+    subst (λ (l : List Line). HasRun g.B.NodeRead.contents g.J.Disk.is_known s c.args.script.now l c.args.journal.now.history c.loop-line.core mid c.args.summary.now c.loop-line.summary) c.in-Some.ensures (c.loop-line.invariant.run s stands) in
+    ran_err g.B.NodeRead.contents c.from_residual.result status g.J.Disk.is_known s c.args.script.now c.args.journal.now.history c.run_line.new.core c.run_line.new.journal.history c.args.summary.now c.run_line.new.summary c.from_residual.ensures.1
+    (run_stops g.B.NodeRead.contents g.J.Disk.is_known s c.args.script.now left c.in-Some.line c.args.journal.now.history mid c.loop-line.core c.args.summary.now c.loop-line.summary run c.run_line.new.journal.history status
+    (c.in_err-run_line.ensures.asked (here g.B.NodeRead.contents g.J.Disk.is_known s c.args.script.now left c.in-Some.line c.args.journal.now.history mid c.loop-line.core c.args.summary.now c.loop-line.summary run)
+    (here_stands g.B.NodeRead.contents g.J.Disk.is_known s c.args.script.now left c.in-Some.line c.args.journal.now.history mid c.loop-line.core c.args.summary.now c.loop-line.summary run)))
 
 pub returns-clause-ran : goal.returns-clause-ran
 returns-clause-ran g c = λ s stands.
-    run_ends g.J.Disk.is_known s c.args.script.now c.loop-line.script c.args.journal.now.history c.loop-line.journal.history c.loop-line.core c.args.summary.now c.loop-line.summary (c.loop-line.invariant.run s stands) c.in_default.ensures.0
+    run_ends g.B.NodeRead.contents g.J.Disk.is_known s c.args.script.now c.loop-line.script c.args.journal.now.history c.loop-line.journal.history c.loop-line.core c.args.summary.now c.loop-line.summary (c.loop-line.invariant.run s stands) c.in_default.ensures.0

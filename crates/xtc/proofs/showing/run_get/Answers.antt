@@ -25,6 +25,6 @@ returns g c = λ input.
     (shown_runs g.J.Disk.is_known g.P.Disk.is_known store.base store.number (get c.args.name.now) (record { unread = refl; ran = λ t n limit status opening o r. r }) shown.result (λ t. t.items) c.written.result
     input output output_now store.journal.history (history store.pages) shown.new.journal.history before.faults (record { journal = g.J.Disk.faults disk; pages = g.P.Disk.faults store.pages })
     (pair_of (g.J.Disk.history disk) (history store.pages)) shown.ensures.stops
-    (λ t is. shown.ensures.done (get c.args.name.now) t is (record { asks = refl; stops = refl; text = λ asked. refl; unread = refl }))
+    (λ t is. shown.ensures.done (get c.args.name.now) t is (record { asks = refl; stops = refl; text = λ asked. refl; uncommitted = refl }))
     c.written.ensures.text c.written.ensures.none c.into_disk.ensures.history refl c.with_disks.ensures.journal c.with_disks.ensures.pages c.written.ensures.write
     (subst (λ (n : ℕ). Counts (shown.result ≡ Err DiskFault) store.journal.faults n) (sym c.into_disk.ensures.faults) shown.ensures.counts) refl)

@@ -6,14 +6,16 @@ use Rattle.xtc.specs.Book.{done_by, IsValidLine}
 use Rattle.xtc.specs.ReadLines.{line_in}
 use Rattle.xtc.specs.ScriptLine.{Line, line_of}
 use Rattle.xtc.specs.StoreMachine.{KeptStore, Stands, store_machine}
-use Rattle.xtc.specs.inside.Stores.{LeadsTo, LeavesEither, MayBeAsked}
+use Rattle.std.specs.Prelude.{Some}
+use Rattle.durable_sessions.specs.Asked.{LeadsTo, LeavesEither, MayBeAsked}
+use Rattle.store_calls.specs.StoreCalls.{store_meaning}
 use Rattle.xtc.proofs.StoreMachineLaws.{first_known, may_in, ready_out, settled_in, settled_out, moments_out, counts_out}
 use Rattle.xtc.proofs.store.StoreLineMachine.line.Goals as goal
 use Rattle.xtc.proofs.store.StoreLineMachine.line.Goals.{in-Ok-do_line, in-Err-DiskFault, in-Err-NoMemory}
 
 pub do_line-requires : goal.do_line-requires
 do_line-requires g c = record {
-  may = subst (λ (k : KeptStore g.row.P.Denot). MayBeAsked k.core k.journal) (sym c.self.view_is)
+  may = subst (λ (k : KeptStore g.row.P.Denot). MayBeAsked store_meaning Some k.core k.journal) (sym c.self.view_is)
       (may_in (g.J.Disk.is_known && g.P.Disk.is_known) g.P.Disk.history g.P.Disk.faults c.args.self.now c.requires.ready);
 }
 
@@ -57,9 +59,9 @@ returns-clause-settled g c =
     elim c.match-do_line.branch [
       | in-Ok-do_line w ↦
           let after : After = λ s stands settled.
-          let led : LeadsTo g.J.Disk.is_known old.journal.history c.do_line.new.core c.do_line.new.journal.history s (done_by s 0 (line_of c.args.line.now)).state =
-          subst (λ (l : Line). LeadsTo g.J.Disk.is_known old.journal.history c.do_line.new.core c.do_line.new.journal.history s (done_by s 0 l).state) c.in-Ok.ensures.line
-          (subst (λ (k : KeptStore g.row.P.Denot). Stands k.core s → LeadsTo g.J.Disk.is_known k.journal.history c.do_line.new.core c.do_line.new.journal.history s (done_by s 0 (line_in c.in-Ok.line)).state) c.self.view_is (w.in-Ok-do_line.ensures.state s) stands) in
+          let led : LeadsTo store_meaning Some g.J.Disk.is_known old.journal.history c.do_line.new.core c.do_line.new.journal.history s (done_by s 0 (line_of c.args.line.now)).state =
+          subst (λ (l : Line). LeadsTo store_meaning Some g.J.Disk.is_known old.journal.history c.do_line.new.core c.do_line.new.journal.history s (done_by s 0 l).state) c.in-Ok.ensures.line
+          (subst (λ (k : KeptStore g.row.P.Denot). Stands k.core s → LeadsTo store_meaning Some g.J.Disk.is_known k.journal.history c.do_line.new.core c.do_line.new.journal.history s (done_by s 0 (line_in c.in-Ok.line)).state) c.self.view_is (w.in-Ok-do_line.ensures.state s) stands) in
           settled_out known history g.P.Disk.faults new (done_by s 0 (line_of c.args.line.now)).state settled.is_known led.stands
           (led.settled (first_known _ _ settled.is_known) (settled_in known history g.P.Disk.faults old s stands settled))
           (ap (λ (k : KeptStore g.row.P.Denot). (history k.pages).now) c.self.view_is ∙ settled.kept.pages) in

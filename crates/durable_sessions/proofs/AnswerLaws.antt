@@ -1,0 +1,200 @@
+-- What the calls that do a line leave of the core and the journal: a line that is done at once, and a commit.
+use Rattle.std.proofs.Common.{◌≡◌, ℕ, ◌≤◌, Bool, IsTrue, List, [], ◌∷◌, ◌++◌, length, append-nil, refl, sym, ap, subst, ◌∙◌, arith}
+use Rattle.std.specs.Prelude.{Option, None, Some, Result, Ok, Err, OnErr, OnOk}
+use Rattle.outside_traits.specs.Moments.{History}
+use Rattle.tree_model.specs.Entries.{Entries}
+use Rattle.tree_model.specs.Tree.{Tree}
+use Rattle.node_seq.specs.Trees.{StandsFor}
+use Rattle.journal.specs.Appends.{AddsCommit, HasAdded, LeavesWithOrWithout, groups_in}
+use Rattle.journal.specs.Groups.{is_next, commit, with_commit, IsCommit}
+use Rattle.journal.specs.Views.{JournalView}
+use Rattle.call_contract.specs.Books.{Book}
+use Rattle.call_contract.specs.Calls.{CallLaws, CallMeaning}
+use Rattle.call_contract.specs.States.{State}
+use Rattle.command_lines.specs.declared.line_reply.LineReply.{LineReply}
+use Rattle.tx_core.specs.Cores.{CoreView, over, state_from, next_number}
+use Rattle.tx_core.specs.declared.commits.Prepared.{Prepared}
+use Rattle.session_driver.specs.Driving.{HasBegun, HasDone, IsDriven, with_entries}
+use Rattle.session_driver.specs.Lines.{after_line}
+use Rattle.session_driver.specs.Progress.{Progress}
+use Rattle.session_driver.specs.Refusals.{refusal}
+use Rattle.session_driver.specs.declared.doing.Doing.{Doing}
+use Rattle.session_driver.specs.declared.doing.Doing.TheVariants.{Commit}
+use Rattle.durable_sessions.specs.Asked.{asked_from, TakesNext, MayBeAsked, LeadsTo, LeavesEither}
+use Rattle.durable_sessions.specs.Standing.{Stands}
+use Rattle.durable_sessions.specs.inside.Commits.{IsLegalCore, IsDue}
+use Rattle.durable_sessions.proofs.CommitLaws.{has_body, same_holds, commit_moments, commit_settles}
+use Rattle.durable_sessions.proofs.StandingLaws.{Done, line_done, driven_keeps, next_stays, due_leads, next_rises, commit_done, asked_commit, same_book, same_stands}
+
+pub on_err : {A E : Type 0} (r : Result A E) (P : Type 0) → P → OnErr r P
+on_err (Ok x) P p = tt
+on_err (Err e) P p = p
+
+pub on_ok : {A E : Type 0} (r : Result A E) (P Q : Type 0) → (P → Q) → OnOk r P → OnOk r Q
+on_ok (Ok x) P Q leads p = leads p
+on_ok (Err e) P Q leads p = tt
+
+module _ {C B : Type 0} (is_valid : C → Type 0) (m : CallMeaning C) (laws : CallLaws C is_valid m) (contents : B → Option Entries) where
+  -- the state after a line
+  abbrev pub after : State C → ℕ → Doing C → State C
+  after s session doing = (asked_from m s session doing).state
+
+  -- what driving a line tells
+  abbrev pub Driven : ℕ → Doing C → CoreView C B → CoreView C B → List LineReply → List LineReply → Option Prepared → Type 0
+  Driven session doing old new before said p =
+      (t : Tree) → StandsFor (contents old.opening) t → IsDriven m (state_from m t old) (record { session = session; doing = doing }) old new before said p
+
+  -- where it is done at once
+  abbrev pub DoneAtOnce : ℕ → Doing C → CoreView C B → CoreView C B → List LineReply → List LineReply → Type 0
+  DoneAtOnce session doing old new before said = Driven session doing old new before said None
+
+  -- what finishing a commit tells
+  abbrev pub Finished : ℕ → CoreView C B → CoreView C B → List LineReply → List LineReply → Type 0
+  Finished session old new before said =
+      (t : Tree) → StandsFor (contents old.opening) t → refusal m (state_from m t old) session Commit ≡ None
+      → HasDone old new before said (asked_from m (state_from m t old) session Commit)
+
+  -- and so of the core over another base
+  pub finished_over : (session : ℕ) (old mid now : CoreView C B) (before said : List LineReply) → now ≡ over mid now.base → Finished session old mid before said → Finished session old now before said
+  finished_over session old mid now before said same finished t opened allowed =
+      let done = finished t opened allowed in
+      let book = (asked_from m (state_from m t old) session Commit).book in
+      record {
+        core = same ∙ ap (λ (v : CoreView C B). over v now.base) done.core ∙ (λ i. record old {
+          book = old.book ++ book;
+          base = now.base;
+          committed = sym (ap (λ (v : CoreView C B). v.committed) same) i;
+          prepared = sym (ap (λ (v : CoreView C B). v.prepared) same) i;
+          undrained = sym (ap (λ (v : CoreView C B). v.undrained) same) i;
+        });
+        lines = done.lines;
+      }
+
+  -- ---- a journal that is left alone
+
+  pub same_leads : (is_known : Bool) (core : CoreView C B) (journal : History) (s : State C) → Stands m contents core s → LeadsTo m contents is_known journal core journal s s
+  same_leads is_known core journal s stands = record { stands = stands; settled = λ known holds. holds }
+
+  pub still_leaves : (is_known : Bool) (old new : History) (s u : State C) → new ≡ old → LeavesEither is_known old new s u
+  still_leaves is_known old new s u same = λ known holds. record { more = []; states = ap (λ (h : History). h.now ∷ h.past) same; images = tt }
+
+  -- ---- a line that is done at once
+
+  pub done_leads : (is_known : Bool) (session : ℕ) (doing : Doing C) (old new : CoreView C B) (journal : History) (before said : List LineReply) → DoneAtOnce session doing old new before said
+      → (s : State C) → Stands m contents old s → LeadsTo m contents is_known journal new journal s (after s session doing)
+  done_leads is_known session doing old new journal before said driven s stands =
+      let done = line_done is_valid m laws contents (record { session = session; doing = doing }) old new before said (λ t opened. (driven t opened).0) s stands in
+      record {
+        stands = done.stands;
+        settled = λ known holds. record {
+          synced = holds.synced;
+          holds = same_holds s (after s session doing) journal.now.reads [] (driven_keeps is_valid m laws contents session doing old new before said driven s stands) holds.holds;
+        };
+      }
+
+  pub done_lines : (session : ℕ) (doing : Doing C) (old new : CoreView C B) (before said : List LineReply) → DoneAtOnce session doing old new before said
+      → (s : State C) → Stands m contents old s → said ≡ before ++ (asked_from m s session doing).lines
+  done_lines session doing old new before said driven s stands = (line_done is_valid m laws contents (record { session = session; doing = doing }) old new before said (λ t opened. (driven t opened).0) s stands).lines
+
+  pub done_takes : (session : ℕ) (doing : Doing C) (old new : CoreView C B) (journal : JournalView) (before said : List LineReply) → DoneAtOnce session doing old new before said
+      → MayBeAsked m contents old journal → IsLegalCore is_valid m contents old → IsLegalCore is_valid m contents new → TakesNext new journal
+  done_takes session doing old new journal before said driven may legal legal_now =
+      let s = may.state in
+      let done = line_done is_valid m laws contents (record { session = session; doing = doing }) old new before said (λ t opened. (driven t opened).0) s may.stands in
+      let next = next_stays is_valid m laws contents old new s (after s session doing) may.stands legal done.stands legal_now (driven_keeps is_valid m laws contents session doing old new before said driven s may.stands) in
+      record { usable = may.takes.usable; next = ap (λ (n : ℕ). is_next journal.last n) next ∙ may.takes.next }
+
+  -- ---- a commit, whose group is appended to a journal that was given room for it
+
+  pub commit_follows : (core : CoreView C B) (session : ℕ) (p : Prepared) (journal roomy : JournalView) (bytes : List ℕ) → IsDue m contents core session p → MayBeAsked m contents core journal → roomy.last ≡ journal.last → bytes ≡ p.body
+      → IsCommit roomy.last p.number bytes
+  commit_follows core session p journal roomy bytes due may last same = record {
+    next = (λ i. is_next (last i) (due.commit.number i)) ∙ may.takes.next;
+    is_body = has_body bytes p.body p.changes same due.commit.read due.commit.list.rise;
+    short = let within : length p.body ≤ 4294967295 = due.commit.short in omega (arith, ap length same, within);
+  }
+
+  pub commit_leaves : (is_known : Bool) (core : CoreView C B) (session : ℕ) (p : Prepared) (old roomy new : History) (bytes : List ℕ) → IsDue m contents core session p → IsLegalCore is_valid m contents core → roomy ≡ old → bytes ≡ p.body
+      → (IsTrue is_known → LeavesWithOrWithout p.number bytes roomy new) → (s : State C) → Stands m contents core s → LeavesEither is_known old new s (after s session Commit)
+  commit_leaves is_known core session p old roomy new bytes due legal room same run s stands = λ known holds.
+      commit_moments s (after s session Commit) p.number p.body old new (due_leads is_valid m laws contents core session p due legal s stands) holds
+      (subst (λ (x : History × List ℕ). LeavesWithOrWithout p.number x.1 x.0 new) (λ i. (room i, same i)) (run known))
+
+  pub commit_leads_to : (is_known : Bool) (old now : CoreView C B) (session : ℕ) (p : Prepared) (before_it roomy after_it : History) (bytes : List ℕ) (gate : ℕ) (before said : List LineReply)
+      → IsDue m contents old session p → IsLegalCore is_valid m contents old → roomy ≡ before_it → bytes ≡ p.body → (IsTrue is_known → AddsCommit gate p.number bytes roomy after_it) → Finished session old now before said
+      → (s : State C) → Stands m contents old s → LeadsTo m contents is_known before_it now after_it s (after s session Commit)
+  commit_leads_to is_known old now session p before_it roomy after_it bytes gate before said due legal room same adds finished s stands = record {
+    stands = (commit_done is_valid m laws contents session old now before said p due finished s stands).stands;
+    settled = λ known holds.
+        let added = adds known in
+        commit_settles s (after s session Commit) p.number p.body before_it after_it (due_leads is_valid m laws contents old session p due legal s stands) holds added.synced
+        (added.groups ∙ (λ i. Ok (with_commit (groups_in (room i)) (commit p.number (same i)))));
+  }
+
+  pub commit_lines : (old now : CoreView C B) (session : ℕ) (p : Prepared) (before said : List LineReply) → IsDue m contents old session p → Finished session old now before said
+      → (s : State C) → Stands m contents old s → said ≡ before ++ (asked_from m s session Commit).lines
+  commit_lines old now session p before said due finished s stands = (commit_done is_valid m laws contents session old now before said p due finished s stands).lines
+
+  pub commit_takes : (old now : CoreView C B) (session : ℕ) (p : Prepared) (journal roomy new : JournalView) (bytes : List ℕ) (before said : List LineReply)
+      → IsDue m contents old session p → MayBeAsked m contents old journal → IsLegalCore is_valid m contents old → IsLegalCore is_valid m contents now → HasAdded p.number bytes roomy new → Finished session old now before said → TakesNext now new
+  commit_takes old now session p journal roomy new bytes before said due may legal legal_now added finished =
+      let s = may.state in record {
+        usable = added.usable;
+        next = next_rises is_valid m laws contents now s (after s session Commit) p.number p.body new.last (due_leads is_valid m laws contents old session p due legal s may.stands) (commit_done is_valid m laws contents session old now before said p due finished s may.stands).stands legal_now added.last;
+      }
+
+  -- ---- what a commit that was prepared tells is so of the line that asked for it
+
+  pub by_commit : (Q : Doing C → State C → Type 0) (session : ℕ) (doing : Doing C) (old mid : CoreView C B) (before said : List LineReply) (p : Prepared)
+      → ((t : Tree) → StandsFor (contents old.opening) t → IsDriven m (state_from m t old) (record { session = session; doing = doing }) old mid before said (Some p))
+      → mid ≡ record old { prepared = Some session }
+      → ((s : State C) → Stands m contents mid s → Q Commit s) → (s : State C) → Stands m contents old s → Q doing s
+  by_commit Q session doing old mid before said p driven moved told s stands =
+      subst (λ (d : Doing C). Q d s) (sym (asked_commit is_valid m laws contents session doing old mid before said p driven s stands)) (told s (same_stands is_valid m laws contents old mid s (same_book session old mid moved) stands))
+
+  -- ---- what was begun
+
+  -- so it is told of the state that the core stands in
+  pub begun_from : (session : ℕ) (doing : Doing C) (old new : CoreView C B) (before said : List LineReply)
+      → ((t : Tree) → StandsFor (contents old.opening) t → HasBegun old new before said (after_line m (state_from m t old) (record { session = session; doing = doing })))
+      → (s : State C) → Stands m contents old s → HasBegun old new before said (asked_from m s session doing)
+  begun_from session doing old new before said told s stands =
+      subst (λ (st : State C). HasBegun old new before said (asked_from m st session doing)) stands.state (told stands.tree stands.opened)
+
+  pub commit_begun : (session : ℕ) (p : Prepared) (old new : CoreView C B) (before said : List LineReply) → IsDue m contents old session p
+      → ((t : Tree) → StandsFor (contents old.opening) t → refusal m (state_from m t old) session Commit ≡ None
+      → HasBegun old new before said (after_line m (state_from m t old) (record { session = session; doing = Commit })))
+      → (s : State C) → Stands m contents old s → HasBegun old new before said (asked_from m s session Commit)
+  commit_begun session p old new before said due told =
+      begun_from session Commit old new before said (λ t opened. told t opened (due.allowed (state_from m t old) (record { tree = t; opened = opened; state = refl })))
+
+-- ---- nothing was begun, or the same over a core whose commit was prepared
+
+module _ {C B : Type 0} where
+  pub begun_nothing : (core : CoreView C B) (before : List LineReply) (p : Progress C) → HasBegun core core before before p
+  begun_nothing core before p = record {
+    entries = [];
+    rest = p.book;
+    failed = [];
+    said = [];
+    unsaid = p.lines;
+    book = refl;
+    lines = refl;
+    failure = tt;
+    core = ap (λ (b : Book C). record core { book = b }) (sym (append-nil core.book));
+    out = sym (append-nil before);
+  }
+
+  pub begun_over : (session : ℕ) (old mid new : CoreView C B) (before said : List LineReply) (p : Progress C) → mid ≡ record old { prepared = Some session } → HasBegun mid new before said p → HasBegun old new before said p
+  begun_over session old mid new before said p moved h = record {
+    entries = h.entries;
+    rest = h.rest;
+    failed = h.failed;
+    said = h.said;
+    unsaid = h.unsaid;
+    book = h.book;
+    lines = h.lines;
+    failure = h.failure;
+    core = h.core ∙ ap (λ (v : CoreView C B). with_entries v (h.entries ++ h.failed) new) moved;
+    out = h.out;
+  }

@@ -1,0 +1,7 @@
+pub mod CommitLaws
+pub mod StandingLaws
+pub mod AnswerLaws
+pub mod HaltLaws
+pub mod InTurnLists
+pub mod InTurnLaws
+pub mod LoneLaws

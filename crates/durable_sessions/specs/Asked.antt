@@ -1,0 +1,47 @@
+-- What one thing that a session is asked leaves of the core and the journal.
+use Rattle.std.specs.Prelude.{ℕ, Bool, Option, IsTrue}
+use Rattle.outside_traits.specs.Moments.{History, LeavesOnly}
+use Rattle.tree_model.specs.Entries.{Entries}
+use Rattle.journal.specs.Groups.{is_next}
+use Rattle.journal.specs.Views.{JournalView, TakesGroups}
+use Rattle.script_runs.specs.Counts.{Counts}
+use Rattle.call_contract.specs.Calls.{CallMeaning}
+use Rattle.call_contract.specs.States.{State}
+use Rattle.tx_core.specs.Cores.{CoreView, next_number}
+use Rattle.session_driver.specs.Lines.{after_line}
+use Rattle.session_driver.specs.Progress.{Progress}
+use Rattle.session_driver.specs.declared.doing.Doing.{Doing}
+use Rattle.durable_sessions.specs.Durable.{HoldsAll, HoldsEither}
+use Rattle.durable_sessions.specs.Standing.{Stands}
+
+-- ---- before it
+
+-- the journal takes the core's next commit
+pub record TakesNext {C B : Type 0} (core : CoreView C B) (journal : JournalView) : Type 0 where
+  pub usable : TakesGroups journal
+  pub next : IsTrue (is_next journal.last (next_number core))
+
+-- and the core stands in some state
+pub record MayBeAsked {C B : Type 0} (m : CallMeaning C) (contents : B → Option Entries) (core : CoreView C B) (journal : JournalView) : Type 0 where
+  pub state : State C
+  pub stands : Stands m contents core state
+  pub takes : TakesNext core journal
+
+-- ---- what it leaves
+
+-- what a session that is asked this does from a state
+abbrev pub asked_from : {C : Type 0} → CallMeaning C → State C → ℕ → Doing C → Progress C
+asked_from m s session doing = after_line m s (record { session = session; doing = doing })
+
+-- from the one state it has led to the other, in which the core is then; the journal held the one and holds the other
+pub record LeadsTo {C B : Type 0} (m : CallMeaning C) (contents : B → Option Entries) (is_known : Bool) (old : History) (core : CoreView C B) (new : History) (s t : State C) : Type 0 where
+  pub stands : Stands m contents core t
+  pub settled : IsTrue is_known → HoldsAll s old → HoldsAll t new
+
+-- on the way from the one to the other a crash leaves what was committed in the one or is in the other
+abbrev pub LeavesEither : {C : Type 0} → Bool → History → History → State C → State C → Type 0
+LeavesEither is_known old new s t = IsTrue is_known → HoldsAll s old → LeavesOnly (HoldsEither s t) old new
+
+-- the faults that the journal's disk and the base have counted
+abbrev pub counts_of : {C B : Type 0} → (B → ℕ) → CoreView C B → JournalView → Counts
+counts_of count core journal = record { journal = journal.faults; pages = count core.base }

@@ -1,0 +1,3 @@
+-- Words of private functions and of the proof.
+pub mod Commits
+pub mod Halts

@@ -1,6 +1,0 @@
-use Rattle.std.proofs.Common.{length}
-use Rattle.xtc.proofs.asking.+ask_in_turn.Given as goal
-
--- one doing less is left
-abbrev pub decreases-ask_in_turn : goal.decreases-ask_in_turn
-decreases-ask_in_turn g l = length l.doings.items

@@ -1,7 +1,0 @@
-use Rattle.std.proofs.Common.{◌==◌, length, ◌∷◌, sym, ap, ◌∙◌}
-use Rattle.xtc.proofs.AskingLaws.{first_left}
-use Rattle.xtc.proofs.asking.take_first.Goals as goal
-
-pub returns-clause-first : goal.returns-clause-first
-returns-clause-first c =
-    first_left c.args.doings.now.items c.remove.result (ap (λ l. length l == 0) (sym c.as_slice.ensures.value) ∙ sym c.is_empty.ensures ∙ c.if-is_empty.false) c.remove.ensures.value ∙ ap (λ l. c.remove.result ∷ l) (sym c.remove.ensures.items)
