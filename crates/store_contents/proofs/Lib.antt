@@ -1,0 +1,5 @@
+pub mod CommitLaws
+pub mod ContentsLaws
+pub mod ContentsRows
+pub mod ImagesLaws
+pub mod TreeLaws
