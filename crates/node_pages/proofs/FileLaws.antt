@@ -27,13 +27,13 @@ use Rattle.node_pages.proofs.RunLaws.{records_rise}
 
 -- ---- steps that broke no rule
 
-abbrev Gives : {A : Type 0} → Result A ℕ → A → Type 0
+abbrev pub Gives : {A : Type 0} → Result A ℕ → A → Type 0
 Gives r a = r ≡ Ok a
 
-same_ok : {A : Type 0} (a b : A) → Gives (Ok a) b → a ≡ b
+pub same_ok : {A : Type 0} (a b : A) → Gives (Ok a) b → a ≡ b
 same_ok a b h = cc
 
-then_ok : {A B : Type 0} (r : Result A ℕ) (f : A → Result B ℕ) (b : B) → and_then r f ≡ Ok b → (a : A) × (r ≡ Ok a) × (f a ≡ Ok b)
+pub then_ok : {A B : Type 0} (r : Result A ℕ) (f : A → Result B ℕ) (b : B) → and_then r f ≡ Ok b → (a : A) × (r ≡ Ok a) × (f a ≡ Ok b)
 then_ok (Ok a) f b h = (a, refl, h)
 then_ok (Err n) f b h = cc
 
@@ -41,7 +41,7 @@ if_ok : {A : Type 0} (test : Bool) (r : Result A ℕ) (n : ℕ) (a : A) → cond
 if_ok true r n a h = (refl, h)
 if_ok false r n a h = cc
 
-unless_ok : {A : Type 0} (o : Option ℕ) (a b : A) → unless o a ≡ Ok b → (o ≡ None) × (a ≡ b)
+pub unless_ok : {A : Type 0} (o : Option ℕ) (a b : A) → unless o a ≡ Ok b → (o ≡ None) × (a ≡ b)
 unless_ok None a b h = (refl, same_ok a b h)
 unless_ok (Some n) a b h = cc
 
@@ -103,13 +103,13 @@ entries_back (e ∷ es) s t h =
 -- ---- pages
 
 -- a page of entries, of which this is the first, lies between the two states
-record PageBack (s t : Scanned) (o : Option (List Entry)) (e : Entry) (es : List Entry) : Type 0 where
-  items : o ≡ Some (e ∷ es)
-  starts : t.starts ≡ s.starts ++ start_of s.next e ∷ []
-  next : t.next ≡ s.next + 1
-  runs : (more : List Entry) → Runs t.last (hand_of t.part) more → Runs s.last (hand_of s.part) (e ∷ (es ++ more))
+pub record PageBack (s t : Scanned) (o : Option (List Entry)) (e : Entry) (es : List Entry) : Type 0 where
+  pub items : o ≡ Some (e ∷ es)
+  pub starts : t.starts ≡ s.starts ++ start_of s.next e ∷ []
+  pub next : t.next ≡ s.next + 1
+  pub runs : (more : List Entry) → Runs t.last (hand_of t.part) more → Runs s.last (hand_of s.part) (e ∷ (es ++ more))
 
-items_back : (s : Scanned) (o : Option (List Entry)) (t : Scanned) → after_items s o ≡ Ok t → (e : Entry) × (es : List Entry) × PageBack s t o e es
+pub items_back : (s : Scanned) (o : Option (List Entry)) (t : Scanned) → after_items s o ≡ Ok t → (e : Entry) × (es : List Entry) × PageBack s t o e es
 items_back s None t h = cc
 items_back s (Some []) t h = cc
 items_back s (Some (e ∷ es)) t h =
@@ -143,13 +143,13 @@ page_each page n left first others zero less = let same : n + 0 ≡ n = omega ar
 page_each page n left first others (suc k) less = let same : n + suc k ≡ n + 1 + k = omega arith in ap (λ (m : ℕ). length (page m)) same ∙ others k (omega (arith, less))
 
 -- so many pages, of which the first has this number, lie between the two states
-record PagesBack (page : ℕ → List ℕ) (n left : ℕ) (s t : Scanned) : Type 0 where
-  starts : t.starts ≡ s.starts ++ starts_from n (data_pages_from page n left)
-  each : EachHas (data_pages_from page n left)
-  whole : (k : ℕ) → k < left → length (page (n + k)) ≡ 8_192
-  runs : (more : List Entry) → Runs t.last (hand_of t.part) more → Runs s.last (hand_of s.part) (entries_from page n left ++ more)
+pub record PagesBack (page : ℕ → List ℕ) (n left : ℕ) (s t : Scanned) : Type 0 where
+  pub starts : t.starts ≡ s.starts ++ starts_from n (data_pages_from page n left)
+  pub each : EachHas (data_pages_from page n left)
+  pub whole : (k : ℕ) → k < left → length (page (n + k)) ≡ 8_192
+  pub runs : (more : List Entry) → Runs t.last (hand_of t.part) more → Runs s.last (hand_of s.part) (entries_from page n left ++ more)
 
-pages_back : (page : ℕ → List ℕ) (left n : ℕ) (s t : Scanned) → s.next ≡ n → scanned page n left s ≡ Ok t → PagesBack page n left s t
+pub pages_back : (page : ℕ → List ℕ) (left n : ℕ) (s t : Scanned) → s.next ≡ n → scanned page n left s ≡ Ok t → PagesBack page n left s t
 pages_back page zero n s t next h =
     let is : s ≡ t = same_ok s t h in
     record {

@@ -14,4 +14,7 @@ pub mod RuleLaws
 pub mod ReadLaws
 pub mod ItemLaws
 pub mod ScanLaws
+pub mod RulesKept
+pub mod RulesBroken
+pub mod FirstBroken
 mod ScanRows

@@ -12,5 +12,6 @@ pub mod DirectoryPages
 pub mod Following
 pub mod PagesIn
 pub mod PageFiles
+pub mod PageRules
 pub mod ScanFaults
 pub mod Lengths

@@ -35,7 +35,8 @@ pub use page_zero::MAGIC;
 pub use reader::read_items;
 pub use reading_laws::{
     pages_behind_the_count_are_not_read, pages_of_a_cut_are_read_again,
-    pages_that_keep_the_rules_are_maps_in_order, where_data_pages_begin_is_told_by_the_file,
+    pages_that_keep_the_rules_are_maps_in_order, the_first_page_that_breaks_a_rule_is_answered,
+    where_data_pages_begin_is_told_by_the_file,
 };
 pub use scan::Scan;
 pub use scan_fault::ScanFault;

@@ -9,6 +9,7 @@ ghost use Rattle.node_pages.specs.Cuts.{cut_of, data_of};
 ghost use Rattle.node_pages.specs.PageZero.{count_of, header_of};
 ghost use Rattle.node_pages.specs.Chunks.{records_in};
 ghost use Rattle.node_pages.specs.PageFiles.{Index, IsIndex, contents_of_file, file_page, index_of_file};
+ghost use Rattle.node_pages.specs.PageRules.{KeepsRules};
 ghost use Rattle.node_pages.specs.PagesIn.{entries_from, pages_in};
 ghost use Rattle.node_pages.specs.declared.cut.Cut.TheVariants.{Pages};
 
@@ -38,4 +39,13 @@ pub fn where_data_pages_begin_is_told_by_the_file()
         → contents_of_file file ≡ Ok (records_in (entries_from (file_page file) 1 (length i.starts)), i.base) }
     ensures pages { (file : List ℕ) (i : Index) → index_of_file file ≡ Ok i → IsIndex (file_page file) i.starts }
     ensures broken { (file : List ℕ) (n : ℕ) → index_of_file file ≡ Err n → contents_of_file file ≡ Err n }
+{}
+
+/// The page that is answered is the first one that breaks a rule: it breaks one, and each page before it keeps those of its kind. Where a map is answered, all pages keep theirs.
+pub fn the_first_page_that_breaks_a_rule_is_answered()
+    ensures breaks { (page : ℕ → List ℕ) (n : ℕ) → pages_in page ≡ Err n → ¬ (KeepsRules page n) }
+    ensures before { (page : ℕ → List ℕ) (n m : ℕ) → pages_in page ≡ Err n → m < n → KeepsRules page m }
+    ensures all { (page : ℕ → List ℕ) (es : Entries) (base m : ℕ) → pages_in page ≡ Ok (es, base) → KeepsRules page m }
+    // The pages of a file are meant: where one of them breaks a rule is where the file is damaged.
+    ensures file { (file : List ℕ) (n : ℕ) → contents_of_file file ≡ Err n → pages_in (file_page file) ≡ Err n }
 {}
