@@ -26,10 +26,11 @@ use Rattle.session_driver.specs.Progress.{Progress}
 use Rattle.store_calls.specs.StoreCalls.{store_meaning}
 use Rattle.xtc.specs.Book.{after_asked}
 use Rattle.command_words.specs.Commands.{Command, put, get}
-use Rattle.xtc.specs.Documents.{asks_of, element_in, end_by, end_of, get_asks, label_in, label_line, put_asks, put_asks_of, reason_in, tree_in, tree_line}
+use Rattle.xtc.specs.Documents.{asks_of, element_in, end_by, end_of, get_asks, label_in, label_line, put_asks, put_asks_of, tree_in, tree_line}
 use Rattle.xtc.specs.DocumentsOnTree.{GetOnTree, PutOnTree}
 use Rattle.xtc.specs.TopCall.{AreFirst, DocumentRan, IsWhole, Leaves, OpenAfterAsked, OpenedStoreLeaves, Outcome, UnopenedStoreLeaves, tx_limit, whole_limit}
-use Rattle.xtc.specs.declared.status.Reason.{Reason}
+use Rattle.durable_sessions.specs.Reasons.{reason_in}
+use Rattle.durable_sessions.specs.declared.reasons.Reason.{Reason}
 use Rattle.xtc.specs.declared.status.Status.{Status}
 use Rattle.xtc.specs.declared.status.Status.TheVariants.{Done, Usage, LineTooLong, Damaged, ReadFault, WriteFault, DiskFault, NoMemory, NotJsonMl, DocumentRefused}
 use Rattle.xtc_callers.specs.NewDocuments.{OfWholeInput, PutBegun, PutDone, UnlessFailed, put_new, tree_of_document}
