@@ -2,6 +2,7 @@ pub mod Ancestors
 pub mod Codes
 pub mod Decimals
 pub mod Fill
+mod Filled
 pub mod LabelOf
 mod LabelRows
 pub mod LabelTexts

@@ -4,7 +4,7 @@ ghost use Rattle.std.specs.Ordering.{nat_cmp};
 ghost use Rattle.std.specs.Cmp.{partial_equiv_from_equiv};
 ghost use Rattle.std.specs.Cmp.Lexicographic.{pointwise, slice_cmp, nat_list_eq_equiv, nat_list_cmp_total, texts_ties, texts_po};
 ghost use Rattle.std.specs.List.{AllByRecursion};
-ghost use Rattle.dewey_labels.specs.Sides.{rest, first_code, child_toward};
+ghost use Rattle.dewey_labels.specs.Sides.{rest, first_code, fill, child_toward};
 ghost use Rattle.dewey_labels.specs.Labels.{root, greatest, is_child, is_label, IsLabel, IsAncestor, is_ancestor, are_codes as in_a_row, level as level_of, parent as parent_of};
 
 use crate::{Copied, List, NoMemory};
@@ -116,6 +116,16 @@ impl Label {
         let mut divisions = Vec::from_slice(alloc, &self.divisions)?;
         divisions.push(1)?;
         Ok(List::from_vec(divisions))
+    }
+
+    /// The greatest label that may lie under this one. It has the most divisions that a label may have.
+    pub fn filled(&self, alloc: Global) -> Result<Label, NoMemory>
+        ensures { IfOk result (λ l. l ≡ fill self.now) }
+    {
+        let mut divisions = Vec::with_capacity(alloc, MOST_DIVISIONS)?;
+        divisions.extend_from_slice(&self.divisions)?;
+        divisions.resize(MOST_DIVISIONS, GREATEST)?;
+        Ok(Label { divisions })
     }
 
     pub fn copy(&self, alloc: Global) -> Result<Label, NoMemory>

@@ -8,7 +8,6 @@ pub mod EditedTrees
 pub mod Edits
 pub mod Ends
 pub mod Entries
-pub mod Filled
 pub mod ForwardReads
 pub mod Found
 pub mod FoundParents

@@ -10,7 +10,7 @@ ghost use Rattle.dewey_labels.specs.Sides.{fill};
 ghost use Rattle.tree_model.specs.Keys.{IsValidKey, key_at, node_key, top_name};
 
 use crate::{DEEPEST_LEVEL, is_name};
-use dewey_labels::{Copied, GREATEST, Label, List, MOST_DIVISIONS, NoMemory, Text};
+use dewey_labels::{Copied, Label, NoMemory, Text};
 use std::alloc::Global;
 use std::cmp::Ordering;
 
@@ -52,7 +52,7 @@ impl Key {
         ensures { IfOk result (λ k. k ≡ key_at (fill at.now) top_name) }
     {
         Ok(Key {
-            label: filled(alloc, at)?,
+            label: at.filled(alloc)?,
             name: Text::of(alloc, "\u{10FFFF}")?,
         })
     }
@@ -79,18 +79,6 @@ impl Key {
 impl Copied for Key {
     fn copy(&self, alloc: Global) -> Result<Key, NoMemory> {
         Key::copy(self, alloc)
-    }
-}
-
-/// The greatest label that may lie under this one.
-fn filled(alloc: Global, at: &Label) -> Result<Label, NoMemory>
-    ensures { IfOk result (λ l. l ≡ fill at.now) }
-{
-    let mut divisions = Vec::from_slice(alloc, at.divisions())?;
-    divisions.resize(MOST_DIVISIONS, GREATEST)?;
-    match Label::of_divisions(List::from_vec(divisions)) {
-        Some(label) => Ok(label),
-        None => unreachable!(),
     }
 }
 

@@ -6,7 +6,6 @@ use Rattle.dewey_labels.specs.Labels.{Label, IsLabel, is_label, greatest, most_d
 use Rattle.dewey_labels.specs.Sides.{fill}
 use Rattle.dewey_labels.proofs.Codes.{is_child_append}
 use Rattle.dewey_labels.proofs.Labels.{child_label}
-use Rattle.tree_model.proofs.Lists.{all_append}
 
 -- a label with n codes of the greatest division behind it
 more_codes : (n : ℕ) (l : Label) → is_label l ≡ true → is_label (l ++ replicate n greatest) ≡ true
@@ -17,12 +16,17 @@ all_greatest : (n : ℕ) → AllByRecursion (λ d. d ≤ greatest) (replicate n 
 all_greatest zero = tt
 all_greatest (suc n) = (omega arith, all_greatest n)
 
+-- divisions that aren't too great, with the greatest behind them
+all_filled : (n : ℕ) (l : Label) → AllByRecursion (λ d. d ≤ greatest) l → AllByRecursion (λ d. d ≤ greatest) (l ++ replicate n greatest)
+all_filled n [] h = all_greatest n
+all_filled n (d ∷ l) h = (h.0, all_filled n l h.1)
+
 pub fill_is_label : (l : Label) → IsLabel l → IsLabel (fill l)
 fill_is_label l h =
     let n = most_divisions - length l in
     let short : length l ≤ most_divisions = h.1.0 in
     let long : length (fill l) ≤ most_divisions = omega (arith, short, length-append l (replicate n greatest), length-replicate n greatest) in
-    (more_codes n l h.0, (long, all_append (λ d. d ≤ greatest) l (replicate n greatest) h.1.1 (all_greatest n)))
+    (more_codes n l h.0, (long, all_filled n l h.1.1))
 
 -- what a label's divisions become that are cut or filled to the most
 pub filled_is : (xs l r : List ℕ) (n : ℕ) → r ≡ take most_divisions xs ++ replicate (most_divisions - n) greatest → xs ≡ l → n ≡ length l → length l ≤ most_divisions → r ≡ fill l
