@@ -1,7 +1,10 @@
 //! The entries of a book: what may happen in a session, and what it is answered.
-use dewey_labels::List;
+ghost use Rattle.std.specs.Prelude.{◌≡◌, IfOk};
+
+use dewey_labels::{Copied, List, NoMemory};
 use lock_modes::Ask;
 use lock_resources::Resource;
+use std::alloc::Global;
 use tree_model::Reply;
 
 /// What an attempt of a call is answered.
@@ -60,4 +63,57 @@ pub struct Noted<C> {
     pub session: u32,
     pub event: Event<C>,
     pub answer: EventAnswer,
+}
+
+impl Answer {
+    pub fn copy(&self, alloc: Global) -> Result<Answer, NoMemory>
+        ensures { IfOk result (λ copy. copy ≡ self.now) }
+    {
+        match self {
+            Answer::Answered(reply) => Ok(Answer::Answered(reply.copy(alloc)?)),
+            Answer::Waits {
+                resource,
+                asks,
+                holders,
+            } => Ok(Answer::Waits {
+                resource: resource.copy(alloc)?,
+                asks: *asks,
+                holders: copied(alloc, holders)?,
+            }),
+            Answer::Deadlock { cycle } => Ok(Answer::Deadlock {
+                cycle: copied(alloc, cycle)?,
+            }),
+        }
+    }
+}
+
+impl Copied for Answer {
+    fn copy(&self, alloc: Global) -> Result<Answer, NoMemory> {
+        Answer::copy(self, alloc)
+    }
+}
+
+impl EventAnswer {
+    pub fn copy(&self, alloc: Global) -> Result<EventAnswer, NoMemory>
+        ensures { IfOk result (λ copy. copy ≡ self.now) }
+    {
+        match self {
+            EventAnswer::Nothing => Ok(EventAnswer::Nothing),
+            EventAnswer::Number(number) => Ok(EventAnswer::Number(*number)),
+            EventAnswer::Call(answer) => Ok(EventAnswer::Call(answer.copy(alloc)?)),
+        }
+    }
+}
+
+impl Copied for EventAnswer {
+    fn copy(&self, alloc: Global) -> Result<EventAnswer, NoMemory> {
+        EventAnswer::copy(self, alloc)
+    }
+}
+
+/// A list of sessions once more.
+fn copied(alloc: Global, sessions: &List<u32>) -> Result<List<u32>, NoMemory>
+    ensures { IfOk result (λ copy. copy ≡ sessions.now) }
+{
+    Ok(List::from_vec(Vec::from_slice(alloc, sessions.as_slice())?))
 }

@@ -1,7 +1,7 @@
 //! Why a line is no command.
-ghost use Rattle.std.specs.Prelude.{◌≡◌, ◌≢◌};
+ghost use Rattle.std.specs.Prelude.{◌≡◌, ◌≢◌, IfOk};
 
-use dewey_labels::{NoMemory, Text};
+use dewey_labels::{Copied, NoMemory, Text};
 use std::alloc::Global;
 
 /// A line that is neither blank nor a command.
@@ -31,5 +31,22 @@ impl BadLine {
             Ok(why) => BadLine::Why(why),
             Err(NoMemory) => BadLine::NoMemory,
         }
+    }
+}
+
+impl BadLine {
+    pub fn copy(&self, alloc: Global) -> Result<BadLine, NoMemory>
+        ensures { IfOk result (λ copy. copy ≡ self.now) }
+    {
+        match self {
+            BadLine::Why(why) => Ok(BadLine::Why(why.copy(alloc)?)),
+            BadLine::NoMemory => Ok(BadLine::NoMemory),
+        }
+    }
+}
+
+impl Copied for BadLine {
+    fn copy(&self, alloc: Global) -> Result<BadLine, NoMemory> {
+        BadLine::copy(self, alloc)
     }
 }

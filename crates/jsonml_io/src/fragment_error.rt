@@ -4,7 +4,7 @@ ghost use Rattle.jsonml_io.specs.Pointers.{step_to_item, step_to_member};
 ghost use Rattle.jsonml_io.specs.JsonMl.{refusal_name, refusal_path, seen_from_above};
 
 use crate::pointer::{step_to_item, step_to_member};
-use dewey_labels::{NoMemory, Text};
+use dewey_labels::{Copied, NoMemory, Text};
 use std::alloc::Global;
 
 /// Why bytes or a value are not JsonML. `path` is the JSON pointer (RFC 6901) from the top to the place.
@@ -116,6 +116,38 @@ impl FragmentError {
             },
             FragmentError::NoMemory => FragmentError::NoMemory,
         })
+    }
+}
+
+impl FragmentError {
+    pub fn copy(&self, alloc: Global) -> Result<FragmentError, NoMemory>
+        ensures { IfOk result (λ copy. copy ≡ self.now) }
+    {
+        match self {
+            FragmentError::NotJson => Ok(FragmentError::NotJson),
+            FragmentError::NotJsonMl { path } => Ok(FragmentError::NotJsonMl {
+                path: path.copy(alloc)?,
+            }),
+            FragmentError::Fraction { path } => Ok(FragmentError::Fraction {
+                path: path.copy(alloc)?,
+            }),
+            FragmentError::BadName { path } => Ok(FragmentError::BadName {
+                path: path.copy(alloc)?,
+            }),
+            FragmentError::TooDeep { path } => Ok(FragmentError::TooDeep {
+                path: path.copy(alloc)?,
+            }),
+            FragmentError::TextLimit { path } => Ok(FragmentError::TextLimit {
+                path: path.copy(alloc)?,
+            }),
+            FragmentError::NoMemory => Ok(FragmentError::NoMemory),
+        }
+    }
+}
+
+impl Copied for FragmentError {
+    fn copy(&self, alloc: Global) -> Result<FragmentError, NoMemory> {
+        FragmentError::copy(self, alloc)
     }
 }
 

@@ -6,7 +6,7 @@ use std::alloc::Global;
 use std::test::Fail;
 use tree_model::Fragment;
 
-/// The fragment's text, or the refusal's name and place.
+/// The fragment's text, or the name and place of a copy of the refusal.
 fn told(alloc: Global, read: Result<Fragment, FragmentError>) -> Result<String, Fail> {
     match read {
         Ok(fragment) => {
@@ -17,7 +17,10 @@ fn told(alloc: Global, read: Result<Fragment, FragmentError>) -> Result<String, 
                 Err(_) => Err(Fail::from("no text")),
             }
         }
-        Err(error) => Ok(format!(in alloc; "{} {}", error.name(), error.path())?),
+        Err(error) => {
+            let copy = error.copy(alloc)?;
+            Ok(format!(in alloc; "{} {}", copy.name(), copy.path())?)
+        }
     }
 }
 

@@ -29,15 +29,17 @@ fn writes(alloc: Global, reply: LineReply, want: &str) -> Result<bool, Fail> {
     Ok(text?.as_str() == want)
 }
 
-/// The reason of a bad line; empty where the line is a command or blank.
+/// The reason of a copy of a bad line; empty where the line is a command or blank.
 fn reason(alloc: Global, line: &[u8]) -> Result<Text, Fail> {
     match read_line(alloc, line) {
         Ok(command) => {
             drop(command);
             Ok(Text::of(alloc, "")?)
         }
-        Err(BadLine::Why(why)) => Ok(why),
-        Err(BadLine::NoMemory) => Err(Fail::from("no memory")),
+        Err(bad) => match bad.copy(alloc)? {
+            BadLine::Why(why) => Ok(why),
+            BadLine::NoMemory => Err(Fail::from("no memory")),
+        },
     }
 }
 

@@ -8,7 +8,7 @@ ghost use Rattle.node_records.specs.declared.entries.Entry.{Entry};
 
 use crate::keys::{has_one_end, key_at_start, put_key};
 use byteorder::{BigEndian, ByteOrder};
-use dewey_labels::{List, NoMemory};
+use dewey_labels::{Copied, List, NoMemory};
 use std::alloc::Global;
 use tree_model::Key;
 
@@ -27,6 +27,25 @@ pub struct Entry {
     /// Whether it is the record's last.
     pub last: bool,
     pub bytes: List<u8>,
+}
+
+impl Entry {
+    pub fn copy(&self, alloc: Global) -> Result<Entry, NoMemory>
+        ensures { IfOk result (λ copy. copy ≡ self.now) }
+    {
+        Ok(Entry {
+            key: self.key.copy(alloc)?,
+            chunk: self.chunk,
+            last: self.last,
+            bytes: List::from_vec(Vec::from_slice(alloc, self.bytes.as_slice())?),
+        })
+    }
+}
+
+impl Copied for Entry {
+    fn copy(&self, alloc: Global) -> Result<Entry, NoMemory> {
+        Entry::copy(self, alloc)
+    }
 }
 
 /// Writes an entry at the end of `out`: its key, the number of its chunk, whether it is the last, and its bytes with their length before them.

@@ -3,16 +3,18 @@ use std::alloc::Global;
 use std::test::Fail;
 use xpath_parser::{PathError, parse};
 
-/// The refusal's name, place and reason; nothing where the text is a path.
+/// The refusal's name, place and reason, by a copy of it; nothing where the text is a path.
 fn told(alloc: Global, text: &str) -> Result<String, Fail> {
-    match parse(alloc, text) {
-        Ok(_) => Ok(String::new(alloc)),
-        Err(PathError::Syntax { place }) => Ok(format!(in alloc; "Syntax {place}")?),
-        Err(PathError::Unsupported { place, what }) => {
+    let Err(refusal) = parse(alloc, text) else {
+        return Ok(String::new(alloc));
+    };
+    match refusal.copy(alloc)? {
+        PathError::Syntax { place } => Ok(format!(in alloc; "Syntax {place}")?),
+        PathError::Unsupported { place, what } => {
             Ok(format!(in alloc; "Unsupported {place} {}", what.as_str())?)
         }
-        Err(PathError::Deep { place }) => Ok(format!(in alloc; "Deep {place}")?),
-        Err(PathError::NoMemory) => Err(Fail::from("no memory")),
+        PathError::Deep { place } => Ok(format!(in alloc; "Deep {place}")?),
+        PathError::NoMemory => Err(Fail::from("no memory")),
     }
 }
 

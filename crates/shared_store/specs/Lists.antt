@@ -1,12 +1,11 @@
 -- The list behind the turn: the opening, and then the book, with an entry wherever commits were handed out.
-use Rattle.std.specs.Prelude.{◌≡◌, ℕ, ◌-◌, ◌≤◌, Bool, true, false, List, [], ◌∷◌, ◌++◌, map, take, drop, Option, Some, None, IfSome}
+use Rattle.std.specs.Prelude.{ℕ, ◌-◌, ◌≤◌, Bool, true, false, List, [], ◌∷◌, ◌++◌, map, take, drop, Option, Some, None, IfSome}
 use Rattle.tree_model.specs.Entries.{Entries}
 use Rattle.tree_model.specs.Tree.{Tree}
 use Rattle.node_seq.specs.Trees.{StandsFor}
 use Rattle.call_contract.specs.Books.{Book, last}
 use Rattle.call_contract.specs.Calls.{CallMeaning}
 use Rattle.call_contract.specs.States.{State, start}
-use Rattle.call_contract.specs.declared.events.Noted.{Noted}
 use Rattle.tx_core.specs.Cores.{CoreView}
 use Rattle.shared_store.specs.declared.desk.Drain.{Drain}
 use Rattle.shared_store.specs.declared.desk.Entry.{Entry}

@@ -1,10 +1,11 @@
 //! How a call ends that was tried until it needn't wait.
-ghost use Rattle.std.specs.Prelude.{◌≡◌, ◌≢◌, None, Ok};
+ghost use Rattle.std.specs.Prelude.{◌≡◌, ◌≢◌, None, Ok, IfOk};
 ghost use Rattle.shared_store.specs.inside.Ends.{end_by, first_by, later_by};
 
 use crate::errors::StoreError;
 use call_contract::Answer;
-use dewey_labels::List;
+use dewey_labels::{Copied, List, NoMemory};
+use std::alloc::Global;
 use tree_model::Reply;
 
 /// How a call ended that was tried until it needn't wait.
@@ -14,6 +15,25 @@ pub enum Ended {
     Answered(Reply),
     /// Waiting would have closed this cycle of sessions. The transaction is ended.
     Deadlock { cycle: List<u32> },
+}
+
+impl Ended {
+    pub fn copy(&self, alloc: Global) -> Result<Ended, NoMemory>
+        ensures { IfOk result (λ copy. copy ≡ self.now) }
+    {
+        match self {
+            Ended::Answered(reply) => Ok(Ended::Answered(reply.copy(alloc)?)),
+            Ended::Deadlock { cycle } => Ok(Ended::Deadlock {
+                cycle: List::from_vec(Vec::from_slice(alloc, cycle.as_slice())?),
+            }),
+        }
+    }
+}
+
+impl Copied for Ended {
+    fn copy(&self, alloc: Global) -> Result<Ended, NoMemory> {
+        Ended::copy(self, alloc)
+    }
 }
 
 /// The end that an answer is; none where the call has to wait.

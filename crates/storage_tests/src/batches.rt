@@ -323,11 +323,11 @@ fn images_behind(alloc: Global, behind: Behind<'_>) -> Result<List<u8>, NoMemory
     Ok(file)
 }
 
-/// How many images a file has.
+/// How many images a copy of a file's groups has.
 fn images_in(alloc: Global, behind: Behind<'_>) -> Result<usize, OpenError> {
     let file = images_behind(alloc, behind)?;
     let (_, groups) = opened(alloc, file.as_slice(), &[])?;
-    let Groups { images, .. } = groups;
+    let Groups { images, .. } = groups.copy(alloc)?;
     match images {
         Some(images) => Ok(images.pages.len()),
         None => Ok(usize::MAX),

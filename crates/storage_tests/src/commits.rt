@@ -175,10 +175,10 @@ pub fn commit(
     }
 }
 
-/// How many commits a file has, or why it isn't opened.
+/// How many commits a copy of a file's groups has, or why it isn't opened.
 pub fn commits_in(alloc: Global, file: &[u8]) -> Result<usize, OpenError> {
     let (_, groups) = opened(alloc, file, &[])?;
-    Ok(groups.commits.len())
+    Ok(groups.copy(alloc)?.commits.len())
 }
 
 /// The fewest and the most commits that a crash in a call of the disk leaves.

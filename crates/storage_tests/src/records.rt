@@ -1,6 +1,8 @@
 //! The bytes of each form at its edges, and bytes that are of no form.
 use dewey_labels::{Label, List};
-use node_records::{read_change, read_key, read_record, write_change, write_key, write_record};
+use node_records::{
+    Entry, Pending, read_change, read_key, read_record, write_change, write_key, write_record,
+};
 use std::alloc::Global;
 use std::test::Fail;
 use tree_model::{Change, Key, Record};
@@ -382,5 +384,27 @@ fn is_delete_refused(alloc: Global, divisions: &[u32], name: &str) -> Result<boo
 #[test]
 fn a_change_of_a_name_with_a_zero_is_not_written(rt: HostRuntime) -> Result<(), Fail> {
     assert!(rt; is_delete_refused(rt.alloc(), &[1, 1001], "a\0b")?);
+    Ok(())
+}
+
+#[test]
+fn entries_and_pending_commits_are_copied(rt: HostRuntime) -> Result<(), Fail> {
+    let alloc = rt.alloc();
+    let entry = Entry {
+        key: key(alloc, &[1, 1_001], "id")?,
+        chunk: 3,
+        last: true,
+        bytes: List::from_vec(Vec::from_slice(alloc, b"b7")?),
+    };
+    let copy = entry.copy(alloc)?;
+    assert!(rt;
+        copy.key == entry.key && copy.chunk == 3 && copy.last && copy.bytes.as_slice() == b"b7"
+    );
+    let pending = Pending {
+        number: 7,
+        body: entry.bytes,
+    };
+    let copy = pending.copy(alloc)?;
+    assert!(rt; copy.number == 7 && copy.body.as_slice() == b"b7");
     Ok(())
 }

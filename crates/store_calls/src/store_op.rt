@@ -1,5 +1,5 @@
 //! A call on the store's tree as a call of the lock machine.
-ghost use Rattle.std.specs.Prelude.{◌≡◌, ◌++◌, [], IsTrue, OnErr};
+ghost use Rattle.std.specs.Prelude.{◌≡◌, ◌++◌, [], IsTrue, IfOk, OnErr};
 ghost use Rattle.command_lines.specs.ValidCommands.{IsValidWhat};
 ghost use Rattle.command_lines.specs.declared.command.What.TheVariants.{Call};
 ghost use Rattle.store_calls.specs.StoreCalls.{IsValidStoreCall, KeepsItself};
@@ -58,6 +58,20 @@ impl StoreOp {
     {
         tell_call(&self.call);
         &self.call
+    }
+
+    pub fn copy(&self, alloc: Global) -> Result<StoreOp, NoMemory>
+        ensures { IfOk result (λ copy. copy ≡ self.now) }
+    {
+        Ok(StoreOp {
+            call: self.call.copy(alloc)?,
+        })
+    }
+}
+
+impl Copied for StoreOp {
+    fn copy(&self, alloc: Global) -> Result<StoreOp, NoMemory> {
+        StoreOp::copy(self, alloc)
     }
 }
 

@@ -26,7 +26,7 @@ use crate::passed::{end_passed, forget_puts};
 use crate::places::{seat_at, unseat};
 use crate::undrained::Bodies;
 use call_contract::{Event, EventAnswer, Noted, TreeCall};
-use dewey_labels::List;
+use dewey_labels::{Copied, List, NoMemory};
 use node_records::write_change;
 use node_seq::{NodeRead, SortedSeq};
 use overlays::Layers;
@@ -42,6 +42,24 @@ pub struct Prepared {
     pub changes: Changes,
     /// The bytes of these changes, as a journal has them.
     pub body: List<u8>,
+}
+
+impl Prepared {
+    pub fn copy(&self, alloc: Global) -> Result<Prepared, NoMemory>
+        ensures { IfOk result (λ copy. copy ≡ self.now) }
+    {
+        Ok(Prepared {
+            number: self.number,
+            changes: self.changes.copy(alloc)?,
+            body: List::from_vec(Vec::from_slice(alloc, self.body.as_slice())?),
+        })
+    }
+}
+
+impl Copied for Prepared {
+    fn copy(&self, alloc: Global) -> Result<Prepared, NoMemory> {
+        Prepared::copy(self, alloc)
+    }
 }
 
 /// The most bytes that a commit's body may have.

@@ -1,9 +1,9 @@
 // Why a text is no path.
-ghost use Rattle.std.specs.Prelude.{◌≡◌};
+ghost use Rattle.std.specs.Prelude.{◌≡◌, IfOk};
 ghost use Rattle.xpath_parser.specs.Parse.{refusal_name, refusal_place};
 
-use dewey_labels::{NoMemory, Text};
-use std::alloc::AllocError;
+use dewey_labels::{Copied, NoMemory, Text};
+use std::alloc::{AllocError, Global};
 
 /// Why a text is no path. `place` is the first byte of the first token that no path goes on with, or the text's length at its end.
 #[derive(Debug, Drop)]
@@ -59,5 +59,27 @@ impl PathError {
             | PathError::Deep { place } => *place,
             PathError::NoMemory => 0,
         }
+    }
+}
+
+impl PathError {
+    pub fn copy(&self, alloc: Global) -> Result<PathError, NoMemory>
+        ensures { IfOk result (λ copy. copy ≡ self.now) }
+    {
+        match self {
+            PathError::Syntax { place } => Ok(PathError::Syntax { place: *place }),
+            PathError::Unsupported { place, what } => Ok(PathError::Unsupported {
+                place: *place,
+                what: what.copy(alloc)?,
+            }),
+            PathError::Deep { place } => Ok(PathError::Deep { place: *place }),
+            PathError::NoMemory => Ok(PathError::NoMemory),
+        }
+    }
+}
+
+impl Copied for PathError {
+    fn copy(&self, alloc: Global) -> Result<PathError, NoMemory> {
+        PathError::copy(self, alloc)
     }
 }
