@@ -14,7 +14,6 @@ use Rattle.call_contract.specs.Calls.{CallMeaning}
 use Rattle.call_contract.specs.Sessions.{begins, begins_of, commits_in, live_in, queue_after}
 use Rattle.call_contract.specs.States.{start}
 use Rattle.call_contract.specs.declared.events.Answer.{Answer}
-use Rattle.call_contract.specs.declared.events.Event.{Event}
 use Rattle.call_contract.specs.declared.events.Event.TheVariants as event
 use Rattle.call_contract.specs.declared.events.EventAnswer.TheVariants as said
 use Rattle.call_contract.specs.declared.events.Noted.{Noted}

@@ -1,12 +1,12 @@
 -- A call that waits: what other sessions do leaves it, and how it is answered in the end.
-use Rattle.std.proofs.Common.{◌≡◌, ◌≢◌, ◌⊎◌, inl, inr, ℕ, zero, suc, Bool, true, false, List, [], ◌∷◌, ◌++◌, refl, sym, ap, subst, ◌∙◌, true≢false}
+use Rattle.std.proofs.Common.{◌≡◌, ◌≢◌, inl, inr, ℕ, zero, suc, Bool, true, false, List, [], ◌∷◌, ◌++◌, refl, sym, ap, subst, ◌∙◌, true≢false}
 use Rattle.std.specs.Prelude.{Option, Some, None, Result, Ok, Err, IfOk, OnOk}
 use Rattle.std.proofs.lemmas.List.{append_assoc, append-nil}
 use Rattle.tree_model.specs.Entries.{Entries}
-use Rattle.call_contract.specs.Books.{Book, called, called_again, entry, open_after, open_of}
+use Rattle.call_contract.specs.Books.{called, called_again, entry, open_after, open_of}
 use Rattle.call_contract.specs.Calls.{CallMeaning}
 use Rattle.call_contract.specs.Sessions.{live_after, live_in}
-use Rattle.call_contract.specs.States.{Live, Waiting, of_session, others, put}
+use Rattle.call_contract.specs.States.{Live, Waiting, of_session, put}
 use Rattle.call_contract.specs.Steps.{new_live}
 use Rattle.lock_resources.specs.Intentions.{request}
 use Rattle.call_contract.specs.declared.events.Answer.{Answer}
@@ -21,9 +21,8 @@ use Rattle.call_contract.proofs.Lists.{found_ended, found_named, found_others, f
 use Rattle.tx_core.specs.Cores.{waits_in}
 use Rattle.tx_core.specs.Refusals.{refused_abort, refused_call}
 use Rattle.tx_core.specs.Retries.{IsNotedRetry}
-use Rattle.tx_core.specs.declared.errors.SessionError.{SessionError}
 use Rattle.turn_lock.specs.Turns.{AreForeign, GoesOn, has_number}
-use Rattle.shared_store.specs.Calls.{HasAborted, HasCommitted, HasTried, HasTriedAgain, IsAnsweredAgain, IsGivenUp, IsLeft, refusal_in, shown_refusal, with_noted, with_retry}
+use Rattle.shared_store.specs.Calls.{HasAborted, HasCommitted, HasTried, HasTriedAgain, IsGivenUp, IsLeft, refusal_in, shown_refusal, with_noted, with_retry}
 use Rattle.shared_store.specs.Lists.{book_of, number_of}
 use Rattle.shared_store.specs.Sessions.{HasDone, having_seen, SessionView}
 use Rattle.shared_store.specs.Waits.{answer_of, as_first, as_later, EndsWith, HasCalled, HasCalledAgain, HasWaited, HaveWaited, is_wait}

@@ -1,6 +1,6 @@
 -- How the list behind the turn grows with the book and the drains.
-use Rattle.std.proofs.Common.{◌≡◌, ℕ, zero, suc, List, [], ◌∷◌, ◌++◌, ◌+◌, ◌-◌, ◌≤◌, map, length, take, drop, sym, refl, ap, ◌∙◌, subst, arith}
-use Rattle.std.proofs.lemmas.List.{map-append, append_assoc, append-nil, take-append-drop, take_all, length-drop, length-append, length-take-le}
+use Rattle.std.proofs.Common.{◌≡◌, ℕ, zero, suc, List, [], ◌∷◌, ◌++◌, ◌+◌, ◌-◌, ◌≤◌, length, take, drop, sym, refl, ap, ◌∙◌, arith}
+use Rattle.std.proofs.lemmas.List.{map-append, append_assoc, take-append-drop, take_all, length-drop, length-append, length-take-le}
 use Rattle.std.proofs.Math.Seq.{drop-length, drop-nil}
 use Rattle.call_contract.specs.Books.{Book}
 use Rattle.call_contract.specs.declared.events.Noted.{Noted}

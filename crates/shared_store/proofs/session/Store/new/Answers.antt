@@ -1,4 +1,4 @@
-use Rattle.std.proofs.Common.{◌≡◌, refl, sym, subst}
+use Rattle.std.proofs.Common.{refl, sym, subst}
 use Rattle.turn_lock.specs.Turns.{PassView}
 use Rattle.turn_lock.proofs.Numbers.{all_there}
 use Rattle.shared_store.specs.inside.Desks.{IsSession}
