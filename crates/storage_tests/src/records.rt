@@ -398,13 +398,16 @@ fn entries_and_pending_commits_are_copied(rt: HostRuntime) -> Result<(), Fail> {
     };
     let copy = entry.copy(alloc)?;
     assert!(rt;
-        copy.key == entry.key && copy.chunk == 3 && copy.last && copy.bytes.as_slice() == b"b7"
+        copy.key == entry.key
+            && copy.chunk == 3
+            && copy.last
+            && copy.bytes.as_slice() == b"b7".as_slice()
     );
     let pending = Pending {
         number: 7,
         body: entry.bytes,
     };
     let copy = pending.copy(alloc)?;
-    assert!(rt; copy.number == 7 && copy.body.as_slice() == b"b7");
+    assert!(rt; copy.number == 7 && copy.body.as_slice() == b"b7".as_slice());
     Ok(())
 }
