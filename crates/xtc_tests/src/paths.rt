@@ -325,7 +325,12 @@ fn words_of_query(alloc: Global, row: &Query<'_>) -> Result<Vec<String>, AllocEr
 }
 
 /// Runs a query over a journal: it ends and writes as the row says, and the journal's bytes stay.
-fn run_query(rt: &impl Abort, alloc: Global, journal: &[u8], row: &Query<'_>) -> Result<(), Fail> {
+fn run_query<'x>(
+    rt: &impl Abort,
+    alloc: Global,
+    journal: &'x [u8],
+    row: &Query<'x>,
+) -> Result<(), Fail> {
     let words = words_of_query(alloc, row)?;
     let case = Case {
         journal,
@@ -336,11 +341,11 @@ fn run_query(rt: &impl Abort, alloc: Global, journal: &[u8], row: &Query<'_>) ->
     Ok(())
 }
 
-fn run_queries(
+fn run_queries<'x>(
     rt: &impl Abort,
     alloc: Global,
-    journal: &[u8],
-    rows: &[Query<'_>],
+    journal: &'x [u8],
+    rows: &[Query<'x>],
 ) -> Result<(), Fail> {
     for row in rows {
         run_query(rt, alloc, journal, row)?;
