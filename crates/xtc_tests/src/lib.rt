@@ -9,6 +9,8 @@ mod generator;
 #[cfg(test)]
 mod in_pieces;
 #[cfg(test)]
+mod paths;
+#[cfg(test)]
 mod real_files;
 #[cfg(test)]
 mod sessions;

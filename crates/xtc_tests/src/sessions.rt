@@ -6,10 +6,10 @@ use std::test::Fail;
 
 /// The tree of the document x, a script on a store of it alone, and one on the store that this leaves.
 /// The replies to a line stand below it, set in, and all is as `written_out` has it. Session 1 has committed as number 1 and begun once.
-struct Row<'a> {
-    tree: &'a str,
-    script: &'a str,
-    then: &'a str,
+pub struct Row<'a> {
+    pub tree: &'a str,
+    pub script: &'a str,
+    pub then: &'a str,
 }
 
 const ROWS: &[Row<'static>] = &[
@@ -609,7 +609,7 @@ fn run_row(rt: &impl Abort, alloc: Global, row: &Row<'_>) -> Result<(), Fail> {
     run_both(rt, alloc, row.tree, row.script, row.then)
 }
 
-fn run_rows(rt: &impl Abort, alloc: Global, rows: &[Row<'_>]) -> Result<(), Fail> {
+pub fn run_rows(rt: &impl Abort, alloc: Global, rows: &[Row<'_>]) -> Result<(), Fail> {
     for row in rows {
         run_row(rt, alloc, row)?;
     }

@@ -80,7 +80,7 @@ pub fn told(alloc: Global, status: &Status, text: &[u8]) -> Result<Vec<u8>, Allo
     Ok(told)
 }
 
-/// A text as it is meant: `@COUNT PIECE@` stands for so many of the piece.
+/// A text as it is meant: `@COUNT PIECE@` stands for so many of the piece, and `@@` elsewhere for the sign itself.
 pub fn written_out(alloc: Global, text: &str) -> Result<String, AllocError> {
     let mut out = String::new(alloc);
     for (place, part) in text.split('@').enumerate() {
@@ -89,6 +89,7 @@ pub fn written_out(alloc: Global, text: &str) -> Result<String, AllocError> {
             continue;
         }
         let Some((count, piece)) = part.split_once(' ') else {
+            out.push('@')?;
             continue;
         };
         for _time in 0..count.parse::<u32>().unwrap_or(0) {
@@ -221,15 +222,26 @@ fn wanted(alloc: Global, case: &Case<'_>) -> Result<Vec<u8>, AllocError> {
     Ok(wanted)
 }
 
-/// Runs the program, where the calls that the case says fail.
-fn run_as(alloc: Global, case: &Case<'_>) -> Result<Outcome, AllocError> {
+/// Runs the program on these words, where the calls that the case says fail.
+fn run_as(alloc: Global, case: &Case<'_>, words: &Vec<String>) -> Result<Outcome, AllocError> {
     let later = behind_opening(alloc, case.journal, case.later_call)?;
-    run(alloc, case, case.journal_call.max(later))
+    run_words(alloc, case, case.journal_call.max(later), words)
 }
 
 /// Runs the program: it ends, writes and leaves what the case says.
 pub fn run_case(rt: &impl Abort, alloc: Global, case: &Case<'_>) -> Result<Outcome, Fail> {
-    let outcome = run_as(alloc, case)?;
+    let words = words_of(alloc, case.words)?;
+    run_case_on(rt, alloc, case, &words)
+}
+
+/// The same on words that may have blanks in them.
+pub fn run_case_on(
+    rt: &impl Abort,
+    alloc: Global,
+    case: &Case<'_>,
+    words: &Vec<String>,
+) -> Result<Outcome, Fail> {
+    let outcome = run_as(alloc, case, words)?;
     agree_on_end(rt, alloc, case, &outcome)?;
     Ok(outcome)
 }
@@ -513,9 +525,32 @@ fn each_piece_and_fault_leaves_its_prefix_of_the_text(rt: HostRuntime) -> Result
 
 /// Words that are no command.
 const OTHERS: &[&str] = &[
-    "", "Run", "run x", "--help", "run ", " run", "put", "get", "Put x", "put x y", "get x y",
-    "put -x", "get --", "x put", "-- run", "run --f", "run -f", "gen", "gen 1", "gen 1 0",
+    "",
+    "Run",
+    "run x",
+    "--help",
+    "run ",
+    " run",
+    "put",
+    "get",
+    "Put x",
+    "put x y",
+    "get x y",
+    "put -x",
+    "get --",
+    "x put",
+    "-- run",
+    "run --f",
+    "run -f",
+    "gen",
+    "gen 1",
+    "gen 1 0",
     "gen -1 1",
+    "query",
+    "query x",
+    "query x a b",
+    "query x -a",
+    "query -x a",
 ];
 
 fn is_usage(rt: &impl Abort, alloc: Global, words: &str) -> Result<(), Fail> {
