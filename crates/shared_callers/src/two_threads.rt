@@ -5,6 +5,7 @@ ghost use Rattle.tree_model.specs.Tree.{Tree};
 ghost use Rattle.node_seq.specs.Trees.{StandsFor};
 ghost use Rattle.call_contract.specs.Books.{IsSerial};
 ghost use Rattle.turn_lock.specs.Turns.{has_number, only_number};
+ghost use Rattle.shared_store.specs.Bodies.{HasBodies};
 ghost use Rattle.shared_store.specs.Lists.{book_of, SessionsFit};
 ghost use Rattle.shared_store.specs.Sessions.{having_seen};
 ghost use Rattle.shared_callers.specs.Known.{IsAfter, IsKnown, IsMade};
@@ -108,7 +109,8 @@ pub fn call_in_two_threads<
     B: NodeRead + Drop + Send,
     R: Threads + Wait + Sync,
 >(rt: &R, alloc: Global, core: Core<C, B>, first: C, second: C) -> Option<BothMade<C, B>>
-    requires { SessionsFit core.book }
+    requires sessions { SessionsFit core.book }
+    requires bodies { HasBodies C.meaning B.contents core }
     ensures first { IfSome result (λ r. r.first ≡ true → IsKnown 1 first r.core.book) }
     ensures second { IfSome result (λ r. r.second ≡ true → IsKnown 2 second r.core.book) }
     ensures serial { IfSome result (λ r. (t : Tree) → StandsFor (B.contents r.core.opening) t

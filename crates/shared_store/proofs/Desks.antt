@@ -30,7 +30,8 @@ use Rattle.tx_core.specs.declared.errors.CallError.TheVariants as call_error
 use Rattle.tx_core.specs.declared.errors.SessionError.{SessionError}
 use Rattle.tx_core.specs.declared.errors.SessionError.TheVariants as session_error
 use Rattle.turn_lock.specs.Turns.{has_number, is_own_or_none, AreOwn, GrewBy}
-use Rattle.shared_store.specs.Calls.{commit_refusal_in, HasAborted, HasBegun, HasCommitted, HasDrained, HasTried, HasTriedAgain, IsAnsweredAgain, IsGivenUp, IsLeft, shown_refusal, with_noted, with_retry}
+use Rattle.shared_store.specs.Bodies.{HasBodies}
+use Rattle.shared_store.specs.Calls.{commit_refusal_in, HasAborted, HasBegun, HasCommitted, HasDrained, HasTried, HasTriedAgain, IsAnsweredAgain, IsGivenUp, IsLeft, NeverHalted, shown_refusal, with_noted, with_retry}
 use Rattle.shared_store.specs.Lists.{book_of, drained_in, list_of, noted, number_of, SessionsFit, state_in}
 use Rattle.shared_store.specs.declared.desk.Drain.{Drain}
 use Rattle.shared_store.specs.declared.desk.Entry.{Entry}
@@ -38,6 +39,7 @@ use Rattle.shared_store.specs.declared.desk.Entry.TheVariants as kind
 use Rattle.shared_store.specs.declared.errors.StoreError.{StoreError}
 use Rattle.shared_store.specs.declared.errors.StoreError.TheVariants as store_error
 use Rattle.shared_store.specs.inside.Desks.{AddsUnder, AreUnder, as_again, as_called, as_error, as_ended, as_refusal, IsDesk, last_drained, RiseTo}
+use Rattle.shared_store.proofs.Bodies.{bodies_stay}
 use Rattle.shared_store.proofs.Weaves.{last_snoc, list_book, list_drained, list_last, list_more, list_one, rise_more, rise_snoc}
 
 -- ---- entries under a number
@@ -79,6 +81,7 @@ pub record Keeps {C B : Type 0} (s : ℕ) (v w : CoreView C B) : Type 0 where
   pub steps : Steps s v w
   pub commits : commits_in w.book ≡ commits_in v.book
   pub after : w.undrained.after ≡ v.undrained.after
+  pub waiting : w.undrained.waiting ≡ v.undrained.waiting
 
 module _ {C B : Type 0} (s : ℕ) (v w : CoreView C B) where
   -- one entry more, which is no commit's
@@ -96,6 +99,7 @@ module _ {C B : Type 0} (s : ℕ) (v w : CoreView C B) where
         };
         commits = omega (arith, ap commits_in book, commits_append v.book (n ∷ []), none);
         after = ap (λ (x : CoreView C B). x.undrained.after) is;
+        waiting = ap (λ (x : CoreView C B). x.undrained.waiting) is;
       }
 
   -- none
@@ -111,6 +115,7 @@ module _ {C B : Type 0} (s : ℕ) (v w : CoreView C B) where
     };
     commits = ap commits_in (ap (λ (x : CoreView C B). x.book) is);
     after = ap (λ (x : CoreView C B). x.undrained.after) is;
+    waiting = ap (λ (x : CoreView C B). x.undrained.waiting) is;
   }
 
   on_base : (x : CoreView C B) → w ≡ x → w ≡ over x w.base
@@ -154,6 +159,13 @@ module _ {C B : Type 0} (unchanged : B → B → Type 0) (first v w : CoreView C
         room = λ waits. desk.room (omega (arith, waits, is.after, is.steps.number, is.commits));
       }
 
+-- the commits that wait have the bodies that they had
+pub keeps_bodies : {C B : Type 0} (m : CallMeaning C) (told : B → Option Entries) (s : ℕ) (v w : CoreView C B) → Keeps s v w → HasBodies m told v → HasBodies m told w
+keeps_bodies m told s v w is h = bodies_stay m told v w is.steps.added is.steps.book none is.steps.opening is.waiting h
+  where
+    none : commits_in is.steps.added ≡ 0
+    none = omega (arith, is.commits, ap commits_in is.steps.book, commits_append v.book is.steps.added)
+
 -- ---- answers
 
 shown_same : {T : Type 0} (r : Result T SessionError) → shown_refusal (as_ended r) ≡ core.shown_refusal r
@@ -190,6 +202,15 @@ no_fault (Err session_error.TxLimit) e = cc
 no_fault (Err session_error.CommitLimit) e = cc
 no_fault (Err session_error.NoMemory) e = cc
 
+never_halted : {T : Type 0} (r : Result T SessionError) → NeverHalted (as_ended r)
+never_halted (Ok x) = tt
+never_halted (Err session_error.IsWaiting) = refl
+never_halted (Err session_error.InTransaction) = refl
+never_halted (Err session_error.NoTransaction) = refl
+never_halted (Err session_error.TxLimit) = refl
+never_halted (Err session_error.CommitLimit) = refl
+never_halted (Err session_error.NoMemory) = refl
+
 module _ {C B : Type 0} (unchanged : B → B → Type 0) (first v w : CoreView C B) (drains : Vec Drain Global) (desk : IsDesk unchanged v first drains) (s : ℕ) where
   abbrev L : Book C → List (Entry C B)
   L b = list_of first b drains.items
@@ -211,6 +232,7 @@ module _ {C B : Type 0} (unchanged : B → B → Type 0) (first v w : CoreView C
     err = ended_err _ r (err_map _ _ r (λ is. same (ap (λ (y : CoreView C B). y.book) is)) err);
     refused = shown_same r ∙ why ∙ (λ i. refused_begin (desk.number i + told begins i) (desk.limit i) (told (λ b. live_in b s) i));
     fault = no_fault r;
+    unhalted = never_halted r;
   }
 
   above : (count : B → ℕ) (f : ℕ) (n : Noted C) → fault_in n.event ≡ Some f → w.book ≡ v.book ++ n ∷ [] → w.opening ≡ v.opening → FaultsRise (Some (count w.opening)) w.book
@@ -325,6 +347,7 @@ module _ {C B : Type 0} (unchanged : B → B → Type 0) (first v w : CoreView C
         subst (λ (x : (ℕ × ℕ) × Book C). IsPastLimitIn m (last m (start t x.0.0 x.0.1) x.1) s) (λ i. ((desk.number i, desk.limit i), told (λ b. b) i))
         (past (is ∙ ap Err (is_limit e (is_error _ _ at))) t (subst (λ o. StandsFor (told_map o) t) (sym desk.opening) opens));
     fault = no_fault (Err e);
+    unhalted = never_halted {T = ℕ} (Err e);
   }
 
   -- .. for want of memory
@@ -336,6 +359,7 @@ module _ {C B : Type 0} (unchanged : B → B → Type 0) (first v w : CoreView C
     refused = free ∙ told (λ b. refused_call (live_in b s));
     limit = λ at. cc;
     fault = λ at. cc;
+    unhalted = refl;
   }
 
   pub committed : (m : CallMeaning C) (told_map : B → Option Entries) (x : ℕ) → w.book ≡ v.book ++ entry s event.Commit (said.Number x) ∷ [] → x ≡ next_number v → None ≡ refused_call (live_in v.book s) → HasCommitted told_map m (L v.book) s (Ok x) (L w.book)
@@ -346,6 +370,7 @@ module _ {C B : Type 0} (unchanged : B → B → Type 0) (first v w : CoreView C
     refused = free ∙ told (λ b. refused_call (live_in b s));
     limit = λ at. cc;
     fault = λ at. cc;
+    unhalted = tt;
   }
 
 -- who waits by the book is among those that wait
@@ -454,7 +479,7 @@ module _ {C B : Type 0} (unchanged : B → B → Type 0) (first v w : CoreView C
       (handed_out bodies (list_of first w.book others.items) follow all (inl (none, list)), ([], list ∙ sym (append-nil Old), tt))
 
 pub commits_one : {C B : Type 0} (s x : ℕ) (v p w : CoreView C B) (made : Pending) → p ≡ record v { prepared = Some s } → w ≡ with_committed (with_pending (with_entry p (entry s event.Commit (said.Number x))) made) w.committed
-    → Steps s v w × (w.base ≡ v.base) × (w.undrained.after ≡ v.undrained.after) × (w.book ≡ v.book ++ entry s event.Commit (said.Number x) ∷ [])
+    → Steps s v w × (w.base ≡ v.base) × (w.undrained.after ≡ v.undrained.after) × (w.book ≡ v.book ++ entry s event.Commit (said.Number x) ∷ []) × (w.undrained.waiting ≡ v.undrained.waiting ++ made ∷ [])
 commits_one {C = C} {B = B} s x v p w made ready is =
     let all = is ∙ ap (λ (y : CoreView C B). with_committed (with_pending (with_entry y (entry s event.Commit (said.Number x))) made) w.committed) ready in (
       record {
@@ -468,6 +493,7 @@ commits_one {C = C} {B = B} s x v p w made ready is =
       ap (λ (y : CoreView C B). y.base) all,
       ap (λ (y : CoreView C B). y.undrained.after) all,
       ap (λ (y : CoreView C B). y.book) all,
+      ap (λ (y : CoreView C B). y.undrained.waiting) all,
     )
 
 -- where bodies are handed out there was room for the drain

@@ -6,7 +6,7 @@ use Rattle.std.proofs.lemmas.List.{append-nil}
 use Rattle.call_contract.specs.Books.{Book}
 use Rattle.tx_core.specs.Cores.{CoreView}
 use Rattle.turn_lock.specs.Turns.{AreForeign, GoesOn, GrewBy, HasAll, having_seen, having_turn, longer, PassView, has_number}
-use Rattle.shared_store.specs.Lists.{base_in, book_of, is_opened, limit_in, list_of, number_in, number_of, opening_in, SessionsFit}
+use Rattle.shared_store.specs.Lists.{base_in, book_of, drained_from, drained_in, is_opened, limit_in, list_of, number_in, number_of, opening_in, SessionsFit}
 use Rattle.shared_store.specs.Sessions.{HasDone, IsOpenedAs, SessionView}
 use Rattle.shared_store.specs.declared.desk.Drain.{Drain}
 use Rattle.shared_store.specs.declared.desk.Entry.{Entry}
@@ -70,6 +70,28 @@ module _ {C B : Type 0} where
       fit_rest : (xs ys : Book C) → SessionsFit (xs ++ ys) → SessionsFit ys
       fit_rest [] ys f = f
       fit_rest (x ∷ xs) ys f = fit_rest xs ys f.1
+
+  no_drain : (has : List Bool) → HasAll has → (k : ℕ) (es : List (Entry C B)) → AreForeign number_of has es → drained_from k es ≡ k
+  no_drain has all k [] a = refl
+  no_drain has all k (kind.Opening o n l b d ∷ es) a = no_drain has all k es a.1
+  no_drain has all k (kind.Noted n ∷ es) a = no_drain has all k es a.1
+  no_drain has all k (kind.Drained d ∷ es) a = absurd (true≢false (sym (all 0 (omega arith)) ∙ a.0))
+
+  drained_on : (k : ℕ) (xs ys : List (Entry C B)) → drained_from k (xs ++ ys) ≡ drained_from (drained_from k xs) ys
+  drained_on k [] ys = refl
+  drained_on k (kind.Opening o n l b d ∷ xs) ys = drained_on k xs ys
+  drained_on k (kind.Noted n ∷ xs) ys = drained_on k xs ys
+  drained_on k (kind.Drained d ∷ xs) ys = drained_on d xs ys
+
+  pub drained_more : (xs ys : List (Entry C B)) → is_opened xs ≡ true → drained_in (xs ++ ys) ≡ drained_from (drained_in xs) ys
+  drained_more [] ys is = cc
+  drained_more (kind.Noted n ∷ xs) ys is = cc
+  drained_more (kind.Drained k ∷ xs) ys is = cc
+  drained_more (kind.Opening o n l b d ∷ xs) ys is = drained_on d xs ys
+
+  -- .. and tells the last commit that was handed out
+  pub closed_drained : (has : List Bool) (seen list : List (Entry C B)) → HasAll has → is_opened seen ≡ true → GoesOn number_of has seen list → drained_in list ≡ drained_in seen
+  closed_drained has seen list all is g = ap drained_in g.1 ∙ drained_more seen g.0 is ∙ no_drain has all (drained_in seen) g.0 g.2
 
   -- what a list tells of the opening, that goes on from one which begins with an opening
   pub opened_as : (unchanged : B → B → Type 0) (has : List Bool) (seen : List (Entry C B)) (first core : CoreView C B) (book : Book C) (ds : List Drain) → is_opened seen ≡ true → GoesOn number_of has seen (list_of first book ds)

@@ -1,4 +1,5 @@
 pub mod Weaves
+pub mod Bodies
 pub mod Desks
 pub mod Done
 pub mod Sent

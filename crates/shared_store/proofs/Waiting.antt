@@ -183,13 +183,13 @@ first_refused (Ok e) = refl
 first_refused (Err why) = refl
 
 module _ {C B : Type 0} where
-  abbrev Grown : List (Entry C B) → List (Entry C B) → Type 0
+  abbrev pub Grown : List (Entry C B) → List (Entry C B) → Type 0
   Grown before after = (added : List (Entry C B)) × (after ≡ before ++ added)
 
-  as_it_was : (before after : List (Entry C B)) → after ≡ before → Grown before after
+  pub as_it_was : (before after : List (Entry C B)) → after ≡ before → Grown before after
   as_it_was before after is = ([], is ∙ sym (append-nil before))
 
-  grown_on : (a b c : List (Entry C B)) → Grown a b → Grown b c → Grown a c
+  pub grown_on : (a b c : List (Entry C B)) → Grown a b → Grown b c → Grown a c
   grown_on a b c p q = (p.0 ++ q.0, q.1 ∙ (ap (λ (x : List (Entry C B)). x ++ q.0) p.1 ∙ append_assoc a p.0 q.0))
 
   module _ (count : B → ℕ) where
@@ -198,8 +198,9 @@ module _ {C B : Type 0} where
     grown_left before after s call store_error.NoMemory (inl is) = as_it_was before after is
     grown_left before after s call store_error.NoMemory (inr is) = (_, is.2)
     grown_left before after s call store_error.DiskFault is = (_, is.2)
+    grown_left before after s call (store_error.Halted faults) is = absurd is
 
-    grown_first : (before after : List (Entry C B)) (s : ℕ) (call : C) (r : Result Answer StoreError) → HasTried count before s call r after → Grown before after
+    pub grown_first : (before after : List (Entry C B)) (s : ℕ) (call : C) (r : Result Answer StoreError) → HasTried count before s call r after → Grown before after
     grown_first before after s call (Ok a) h = (_, h.ok)
     grown_first before after s call (Err e) h = grown_left before after s call e h.err
 
@@ -207,13 +208,14 @@ module _ {C B : Type 0} where
     grown_given_up before after s (store_error.Session why) is = absurd is
     grown_given_up before after s store_error.NoMemory is = (_, is.1)
     grown_given_up before after s store_error.DiskFault is = (_, is.2)
+    grown_given_up before after s (store_error.Halted faults) is = absurd is
 
     module _ (told : B → Option Entries) (m : CallMeaning C) where
       grown_retry : (found after : List (Entry C B)) (s : ℕ) (a : Answer) (b : Bool) → after ≡ with_retry found s a b → Grown found after
       grown_retry found after s a true is = (_, is)
       grown_retry found after s a false is = as_it_was found after is
 
-      grown_later : (found after : List (Entry C B)) (s : ℕ) (r : Result (Option Answer) StoreError) → HasTriedAgain count told m found s r after → Grown found after
+      pub grown_later : (found after : List (Entry C B)) (s : ℕ) (r : Result (Option Answer) StoreError) → HasTriedAgain count told m found s r after → Grown found after
       grown_later found after s (Ok None) h = as_it_was found after h.ok.1
       grown_later found after s (Ok (Some a)) h = grown_retry found after s a h.ok.1.noted h.ok.1.list
       grown_later found after s (Err e) h = grown_given_up found after s e h.err
@@ -251,6 +253,7 @@ module _ {C B : Type 0} where
         not_refused found after s (Err (store_error.Session why)) h = absurd h.err
         not_refused found after s (Err store_error.DiskFault) h = refl
         not_refused found after s (Err store_error.NoMemory) h = refl
+        not_refused found after s (Err (store_error.Halted faults)) h = refl
 
         -- a call that ended at its first attempt
         pub called_once : (before after : List (Entry C B)) (s : ℕ) (call : C) (r : Result Ended StoreError) → HasTried count before s call (as_first r) after → HasCalled count told m has before s call r after

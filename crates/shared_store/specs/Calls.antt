@@ -21,7 +21,7 @@ use Rattle.shared_store.specs.Lists.{book_of, drained_in, limit_in, number_in, o
 use Rattle.shared_store.specs.declared.desk.Entry.{Entry}
 use Rattle.shared_store.specs.declared.desk.Entry.TheVariants as kind
 use Rattle.shared_store.specs.declared.errors.StoreError.{StoreError}
-use Rattle.shared_store.specs.declared.errors.StoreError.TheVariants.{Session, DiskFault, NoMemory}
+use Rattle.shared_store.specs.declared.errors.StoreError.TheVariants.{Session, DiskFault, NoMemory, Halted}
 
 -- ---- refusals
 
@@ -43,6 +43,14 @@ commit_refusal_in e = None
 abbrev pub shown_commit_refusal : {T : Type 0} → Result T StoreError → Option SessionError
 shown_commit_refusal (Ok x) = None
 shown_commit_refusal (Err e) = commit_refusal_in e
+
+-- the error tells of a journal, which no session's call does
+abbrev pub is_halted : StoreError → Bool
+is_halted (Halted faults) = true
+is_halted e = false
+
+abbrev pub NeverHalted : {T : Type 0} → Result T StoreError → Type 0
+NeverHalted result = IfErr result (λ e. is_halted e ≡ false)
 
 module _ {C B : Type 0} where
   -- ---- entries
@@ -70,6 +78,7 @@ module _ {C B : Type 0} where
   IsLeft count before s call (Session why) after = after ≡ before
   IsLeft count before s call NoMemory after = (after ≡ before) ⊎ ((k : ℕ) × (0 < k) × (after ≡ with_failed before s (Some call) k None))
   IsLeft count before s call DiskFault after = (k f : ℕ) × (after ≡ with_failed before s (Some call) k (Some f)) × IsLaterFault count before f
+  IsLeft count before s call (Halted faults) after = ⊥
 
   -- an attempt of a call, and its answer
   pub record HasTried (count : B → ℕ) (before : List (Entry C B)) (s : ℕ) (call : C) (result : Result Answer StoreError) (after : List (Entry C B)) : Type 0 where
@@ -82,6 +91,7 @@ module _ {C B : Type 0} where
   IsGivenUp count before s (Session why) after = ⊥
   IsGivenUp count before s NoMemory after = (k : ℕ) × (after ≡ with_failed before s None k None)
   IsGivenUp count before s DiskFault after = (k f : ℕ) × (after ≡ with_failed before s None k (Some f)) × IsLaterFault count before f
+  IsGivenUp count before s (Halted faults) after = ⊥
 
   -- a retry was answered so. One that waits again is an entry only where the transaction holds more or waits for something else
   pub record IsAnsweredAgain (told : B → Option Entries) (m : CallMeaning C) (before : List (Entry C B)) (s : ℕ) (a : Answer) (after : List (Entry C B)) : Type 0 where
@@ -105,6 +115,7 @@ module _ {C B : Type 0} where
     pub err : OnErr result (after ≡ before)
     pub refused : shown_refusal result ≡ refused_begin (number_in before + begins (book_of before)) (limit_in before) (live_in (book_of before) s)
     pub fault : result ≢ Err DiskFault
+    pub unhalted : NeverHalted result
 
   -- a commit, which has the next number
   pub record HasCommitted (told : B → Option Entries) (m : CallMeaning C) (before : List (Entry C B)) (s : ℕ) (result : Result ℕ StoreError) (after : List (Entry C B)) : Type 0 where
@@ -114,6 +125,7 @@ module _ {C B : Type 0} where
     pub refused : shown_commit_refusal result ≡ refused_call (live_in (book_of before) s)
     pub limit : result ≡ Err (Session session_error.CommitLimit) → (t : Tree) → OpensFrom told before t → IsPastLimitIn m (state_in m t before) s
     pub fault : result ≢ Err DiskFault
+    pub unhalted : NeverHalted result
 
   pub record HasAborted (before : List (Entry C B)) (s : ℕ) (result : Result (Unit {0}) StoreError) (after : List (Entry C B)) : Type 0 where
     pub ok : IfOk result (λ _. after ≡ with_noted before (entry s event.Abort said.Nothing))

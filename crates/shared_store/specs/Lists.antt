@@ -60,11 +60,12 @@ module _ {C B : Type 0} where
   -- the number of the last commit that was handed out, where it was k before
   abbrev pub drained_from : ℕ → List (Entry C B) → ℕ
   drained_from k [] = k
-  drained_from k (kind.Opening o n l b d ∷ es) = drained_from d es
+  drained_from k (kind.Opening o n l b d ∷ es) = drained_from k es
   drained_from k (kind.Noted n ∷ es) = drained_from k es
   drained_from k (kind.Drained d ∷ es) = drained_from d es
 
   abbrev pub drained_in : List (Entry C B) → ℕ
+  drained_in (kind.Opening o n l b d ∷ es) = drained_from d es
   drained_in es = drained_from 0 es
 
   -- the list tells of a core that was opened over the map of this tree

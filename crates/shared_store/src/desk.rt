@@ -3,7 +3,9 @@
 ghost use Rattle.std.specs.Prelude.{◌≡◌, ◌<◌, ◌≤◌, ◌∷◌, ◌++◌, [], length, nat_lt, vec_capacity, true, IfOk, IfErr};
 ghost use Rattle.tx_core.specs.Queues.{times};
 ghost use Rattle.shared_store.specs.Calls.{HasAborted, HasBegun, HasCommitted, HasDrained, HasTried, HasTriedAgain};
-ghost use Rattle.shared_store.specs.Lists.{book_of, SessionsFit};
+ghost use Rattle.tree_model.specs.Tree.{Tree};
+ghost use Rattle.shared_store.specs.Bodies.{HasBodies, HaveLastBodies};
+ghost use Rattle.shared_store.specs.Lists.{book_of, drained_in, OpensFrom, SessionsFit};
 ghost use Rattle.shared_store.specs.inside.Desks.{AddsUnder, as_again, as_called, as_ended, list_in};
 
 use crate::errors::StoreError;
@@ -54,6 +56,7 @@ pub struct Desk<C: TreeCall + Drop, B: NodeRead + Drop> {
 impl<C: TreeCall + Drop, B: NodeRead + Drop> Model for Desk<C, B> {
     ghost use Rattle.std.specs.Coded.{codes};
     ghost use Rattle.tree_model.specs.contracts.fragment.Fragment as fragment;
+    ghost use Rattle.shared_store.specs.Bodies.{HasBodies};
     ghost use Rattle.shared_store.specs.inside.Desks.{DeskView, IsDesk};
 
     ghost Value = { DeskView C B };
@@ -62,7 +65,7 @@ impl<C: TreeCall + Drop, B: NodeRead + Drop> Model for Desk<C, B> {
 
     ghost view = { λ d. record { core = d.core; first = d.first.value; drains = d.drains.items } };
 
-    ghost invariant = { λ d. IsDesk B.unchanged d.core d.first.value d.drains };
+    ghost invariant = { λ d. IsDesk B.unchanged d.core d.first.value d.drains × HasBodies C.meaning B.contents d.core };
 }
 
 impl<C: TreeCall + Drop, B: NodeRead + Drop> Grows for Desk<C, B> {
@@ -127,7 +130,8 @@ fn make_room(drains: &mut Vec<Drain>) -> bool
 impl<C: TreeCall + Drop, B: NodeRead + Drop> Desk<C, B> {
     /// A desk over a core. For want of memory the core comes back.
     pub fn new(alloc: Global, core: Core<C, B>) -> Result<Desk<C, B>, Core<C, B>>
-        requires { SessionsFit core.book }
+        requires sessions { SessionsFit core.book }
+        requires bodies { HasBodies C.meaning B.contents core }
         ensures ok { IfOk result (λ desk. desk ≡ record { core = core; first = core; drains = [] }) }
         ensures err { IfErr result (λ same. same ≡ core) }
     {
@@ -149,6 +153,8 @@ impl<C: TreeCall + Drop, B: NodeRead + Drop> Desk<C, B> {
         ensures opening { (self.core.opening ≡ self.first.opening) × (self.core.number ≡ self.first.number) × (self.core.limit ≡ self.first.limit) }
         ensures fit { SessionsFit self.core.book }
         ensures list { book_of (list_in self) ≡ self.core.book }
+        ensures bodies { HasBodies C.meaning B.contents self.core }
+        ensures drained { self.core.undrained.after ≡ drained_in (list_in self) }
     {
         let Desk { core, .. } = self;
         core
@@ -186,6 +192,8 @@ impl<C: TreeCall + Drop, B: NodeRead + Drop> Desk<C, B> {
         ensures told { HasCommitted B.contents C.meaning (list_in self.old) session result (list_in self.new) }
         ensures under { AddsUnder session (list_in self.old) (list_in self.new) }
     {
+        // Called for its contract: the book is legal, so its transactions are those of the machine.
+        self.core.is_legal();
         match self.core.prepare(alloc, session) {
             Err(why) => ended(Err(why)),
             Ok(prepared) => {
@@ -201,6 +209,7 @@ impl<C: TreeCall + Drop, B: NodeRead + Drop> Desk<C, B> {
     /// Hands out the commits that weren't handed out yet.
     pub fn drain(&mut self, alloc: Global) -> List<Pending>
         ensures told { HasDrained (list_in self.old) result (list_in self.new) }
+        ensures bodies { (t : Tree) → OpensFrom B.contents (list_in self.new) t → HaveLastBodies C.meaning t (book_of (list_in self.new)) result }
         ensures under { AddsUnder 0 (list_in self.old) (list_in self.new) }
     {
         let at = self.core.book().len();

@@ -4,9 +4,11 @@ ghost use Rattle.std.specs.Prelude.{◌≡◌, ◌≢◌, ◌<◌, [], false, tr
 ghost use Rattle.call_contract.specs.Sessions.{live_in};
 ghost use Rattle.tx_core.specs.Cores.{waits_in};
 ghost use Rattle.turn_lock.specs.Turns.{all_numbers, GoesOn, HasAll, has_number, longer, merged, only_number};
+ghost use Rattle.tree_model.specs.Tree.{Tree};
+ghost use Rattle.shared_store.specs.Bodies.{HasBodies, HaveLastBodies};
 ghost use Rattle.shared_store.specs.Calls.{HasAborted, HasBegun, HasCommitted, HasDrained, HasTried, HasTriedAgain};
 ghost use Rattle.shared_store.specs.Waits.{HasCalled, HasCalledAgain};
-ghost use Rattle.shared_store.specs.Lists.{book_of, list_of, number_of, SessionsFit};
+ghost use Rattle.shared_store.specs.Lists.{book_of, drained_in, is_opened, list_of, number_of, OpensFrom, SessionsFit};
 ghost use Rattle.shared_store.specs.Sessions.{HasDone, having_seen, IsOpenedAs};
 
 use crate::desk::Desk;
@@ -73,6 +75,16 @@ impl<C: TreeCall + Drop, B: NodeRead + Drop> Session<C, B> {
         ensures { result ≡ has_number self.now.has number }
     {
         self.pass.has(number)
+    }
+
+    /// The number that it works under, which it has. What it has seen begins with the opening.
+    pub fn number(&self) -> u32
+        ensures number { result ≡ self.now.under }
+        ensures own { has_number self.now.has self.now.under ≡ true }
+        ensures small { self.now.under < 65 }
+        ensures opened { is_opened self.now.seen ≡ true }
+    {
+        self.number
     }
 
     /// Begins a transaction, and answers how many the session's number has begun.
@@ -206,7 +218,8 @@ impl<C: TreeCall + Drop, B: NodeRead + Drop> Session<C, B> {
     pub fn drain<R: Wait>(&mut self, rt: &R, alloc: Global, store: &Store<C, B>) -> List<Pending>
         requires store { self.old.lock ≡ store.now }
         requires number { has_number self.old.has 0 ≡ true }
-        ensures { HasDone self.old self.new (λ before after. HasDrained before result after) }
+        ensures done { HasDone self.old self.new (λ before after. HasDrained before result after) }
+        ensures bodies { (t : Tree) → OpensFrom B.contents self.new.seen t → HaveLastBodies C.meaning t (book_of self.new.seen) result }
     {
         let mut turn = store.lock.take(rt, &mut self.pass);
         let result = turn.value.drain(alloc);
@@ -239,6 +252,7 @@ impl<C: TreeCall + Drop, B: NodeRead + Drop> Session<C, B> {
 
 impl<C: TreeCall + Drop, B: NodeRead + Drop> Store<C, B> {
     /// Puts a core behind a turn. The session works under the number, has all numbers from 0 to 64, and has seen the whole list.
+    /// Where commits of the core wait to be handed out they have the bodies of its book's last ones: so it is of a core that is new, that was drained, or that `close` answered.
     pub fn new(
         alloc: Global,
         core: Core<C, B>,
@@ -246,6 +260,7 @@ impl<C: TreeCall + Drop, B: NodeRead + Drop> Store<C, B> {
     ) -> Result<(Store<C, B>, Session<C, B>), NoStore<C, B>>
         requires number { (0 < number) × (number < 65) }
         requires sessions { SessionsFit core.book }
+        requires bodies { HasBodies C.meaning B.contents core }
         ensures ok { IfOk result (λ r. r.1 ≡ record { lock = r.0; seen = list_of core core.book []; has = all_numbers; under = number }) }
         ensures err { IfErr result (λ none. none.core ≡ core) }
     {
@@ -279,6 +294,9 @@ impl<C: TreeCall + Drop, B: NodeRead + Drop> Store<C, B> {
         requires all { HasAll session.has }
         ensures book { result.book ≡ book_of session.seen }
         ensures opened { IsOpenedAs B.unchanged session.seen result }
+        ensures sessions { SessionsFit result.book }
+        ensures bodies { HasBodies C.meaning B.contents result }
+        ensures drained { result.undrained.after ≡ drained_in session.seen }
     {
         let Store { lock } = self;
         let Session { pass, number: _ } = session;

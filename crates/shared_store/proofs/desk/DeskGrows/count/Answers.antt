@@ -6,7 +6,7 @@ use Rattle.shared_store.proofs.desk.DeskGrows.count.Goals as goal
 pub returns : goal.returns
 returns g c =
     let d = c.self.inside in
-    let l = list_length d.first.value d.core.book d.drains.items c.self.invariant.rise in
+    let l = list_length d.first.value d.core.book d.drains.items c.self.invariant.0.rise in
     let e = ap (λ z. length (list_in z)) c.self.view_is in
     let a = ap length c.book.ensures.book in
     let b = ap length c.as_slice.ensures.value in
