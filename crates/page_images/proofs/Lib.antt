@@ -1,0 +1,2 @@
+pub mod InstallSteps
+pub mod WrittenLaws
