@@ -3,13 +3,16 @@ ghost use Rattle.std.specs.Prelude.{◌≡◌, ℕ, ◌+◌, true, List, [], Som
 ghost use Rattle.tree_model.specs.Entries.{changed};
 ghost use Rattle.tree_model.specs.StoredTree.{broken_at};
 ghost use Rattle.tree_model.specs.Tree.{Tree, empty_tree};
+ghost use Rattle.page_images.specs.Images.{KeepsOthers};
+ghost use Rattle.node_pages.specs.PageZero.{Header, count_of, header_in};
 ghost use Rattle.journal.specs.Batches.{with_commits as with_commits_behind};
-ghost use Rattle.journal.specs.Groups.{with_commit};
+ghost use Rattle.journal.specs.Groups.{only_commits, with_commit};
 ghost use Rattle.journal.specs.Journals.{read};
 ghost use Rattle.journal.specs.declared.group.Group.{Group};
 ghost use Rattle.journal.specs.declared.group.Groups.{Groups};
 ghost use Rattle.journal.specs.declared.group.Images.{Images};
-ghost use Rattle.store_contents.specs.Contents.{Contents, HoldsCommits, HoldsImages, after_commits, contents_of_files, goes_on_from, with_commits};
+ghost use Rattle.store_contents.specs.Contents.{Contents, HoldsCommits, HoldsImages, after_commits, contents_of_files, goes_on_from, page_among, with_commits};
+ghost use Rattle.store_contents.specs.MadePages.{AreMade};
 ghost use Rattle.store_contents.specs.StoredTrees.{StandFor};
 
 /// Files that stand for a tree stand for no other, and with one number.
@@ -35,6 +38,21 @@ pub fn files_with_images_hold_their_pages()
         → read journal ≡ Ok groups → groups.images ≡ Some images → contents_of_files journal pages ≡ Ok contents → HoldsImages pages images contents }
     ensures stood_for { (journal pages : List ℕ) (groups : Groups) (images : Images) (contents : Contents)
         → read journal ≡ Ok groups → groups.images ≡ Some images → HoldsImages pages images contents → contents_of_files journal pages ≡ Ok contents }
+{}
+
+/// Open images hide what stands in their places: beside a page file that has the other pages, the files stand for the same.
+pub fn images_hide_what_stands_in_their_places()
+    ensures { (journal file pages : List ℕ) (groups : Groups) (images : Images) (contents : Contents)
+        → read journal ≡ Ok groups → groups.images ≡ Some images → contents_of_files journal file ≡ Ok contents → KeepsOthers images.pages file pages
+        → contents_of_files journal pages ≡ Ok contents }
+{}
+
+/// Once those below the count are the pages of their numbers, these pages stand for the same by themselves, beside a journal without groups.
+pub fn pages_made_of_images_stand_for_the_same()
+    ensures { (journal cleared file made : List ℕ) (groups : Groups) (images : Images) (contents : Contents)
+        → read journal ≡ Ok groups → groups.images ≡ Some images → contents_of_files journal file ≡ Ok contents → KeepsOthers images.pages file made
+        → ((h : Header) → header_in (page_among images.pages file 0) ≡ Some h → AreMade (count_of h) made images.pages)
+        → read cleared ≡ Ok (only_commits []) → contents_of_files cleared made ≡ Ok contents }
 {}
 
 /// A commit more makes of what two files stood for the map with its changes, and its own number.

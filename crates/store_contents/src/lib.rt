@@ -9,5 +9,6 @@ mod laws;
 pub use laws::{
     a_commit_more_is_stood_for, commits_more_are_stood_for, empty_files_stand_for_the_empty_tree,
     files_stand_for_one_tree, files_that_break_no_rule_hold_pages_and_commits,
-    files_with_images_hold_their_pages,
+    files_with_images_hold_their_pages, images_hide_what_stands_in_their_places,
+    pages_made_of_images_stand_for_the_same,
 };
