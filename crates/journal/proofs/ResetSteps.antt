@@ -1,5 +1,5 @@
 -- What a crash leaves while the first gate is closed.
-use Rattle.std.proofs.Common.{◌≡◌, ◌≢◌, inl, inr, ℕ, ◌≤◌, Bool, true, false, ◌==◌, List, [], ◌∷◌, ◌++◌, length, get_or, take, drop, Option, Result, Ok, refl, sym, ◌∙◌, ap, subst, arith, append_assoc, length-append, take-append-drop}
+use Rattle.std.proofs.Common.{◌≡◌, ◌≢◌, inl, inr, ℕ, ◌≤◌, Bool, true, false, ◌==◌, List, [], ◌∷◌, ◌++◌, length, get_or, take, drop, Option, None, Result, Ok, refl, sym, ◌∙◌, ap, subst, arith, append_assoc, length-append, take-append-drop}
 use Rattle.std.proofs.lemmas.List.{take_at, drop_at, drop_more, append-nil}
 use Rattle.std.proofs.lemmas.Bool.{cases_eq, ne_eqb, cond-false}
 use Rattle.outside_traits.specs.Disks.{DiskState, OpensRange, Wrote, Synced, Unsynced, all_synced, put_at}
@@ -16,7 +16,7 @@ use Rattle.journal.specs.inside.Settled.{BeginsOpen, IsHeld, IsHolding, IsKept, 
 use Rattle.journal.specs.declared.group.Group.{Group}
 use Rattle.journal.specs.declared.group.Groups.{Groups}
 use Rattle.journal.proofs.ReadLaws.{read-closed}
-use Rattle.journal.proofs.StandLaws.{reads_groups, settled_groups}
+use Rattle.journal.proofs.StandLaws.{found_commits, reads_groups, settled_groups}
 
 -- a closed gate that isn't the first one has an open first gate before it
 begins_of : (pieces : List Piece) (gate : ℕ) (tail : List ℕ) (at : ℕ) → at ≡ length (header ++ bytes_of pieces) → at ≢ 8 → BeginsOpen ((header ++ bytes_of pieces) ++ gate ∷ tail) at
@@ -188,3 +188,7 @@ kept_synced is_known t gate last failed true capacity keeps usable known = ((kee
 pub kept_groups : (is_known : Bool) (t : History) (gate : ℕ) (last : Option ℕ) (failed has_images : Bool) (capacity : ℕ) → IsUsable is_known t gate last failed has_images capacity → failed ≡ false → is_known ≡ true → read t.now.reads ≡ Ok (groups_in t)
 kept_groups is_known t gate last failed false capacity keeps usable known = settled_groups t gate ((keeps.kept usable refl).settled known).stands
 kept_groups is_known t gate last failed true capacity keeps usable known = ((keeps.held usable refl).holding known).groups
+
+pub kept_commits : (is_known : Bool) (t : History) (gate : ℕ) (last : Option ℕ) (failed has_images : Bool) (capacity : ℕ) → IsUsable is_known t gate last failed has_images capacity → failed ≡ false → has_images ≡ false → is_known ≡ true
+    → (groups_in t).images ≡ None
+kept_commits is_known t gate last failed has_images capacity keeps usable unheld known = ap (λ (g : Groups). g.images) (found_commits t gate ((keeps.kept usable unheld).settled known).stands)

@@ -1,6 +1,7 @@
 // A store's journal: it is opened on a disk, takes commits until a call of the disk fails, and hands the disk out.
-ghost use Rattle.std.specs.Prelude.{◌≡◌, ◌≤◌, ◌<◌, false, true, not, Ok, IfOk, IfErr, MatchResult, IsTrue, OnOk, OnErr, length};
+ghost use Rattle.std.specs.Prelude.{◌≡◌, ◌≤◌, ◌<◌, false, true, not, Ok, IfOk, IfErr, MatchResult, IsTrue, None, OnOk, OnErr, length};
 ghost use Rattle.outside_traits.specs.Faults.{HasCause, FaultCounted};
+ghost use Rattle.outside_traits.specs.CrashImages.{IsImage};
 ghost use Rattle.outside_traits.specs.Moments.{IsAllSynced};
 ghost use Rattle.journal.specs.DiskFaults.{disk_fault};
 ghost use Rattle.journal.specs.Batches.{AddsCommits, HasAddedAll, LeavesAllOrNone, batch_steps, pairs_of};
@@ -248,13 +249,15 @@ impl<J: Disk> Journal<J> {
         ensures answer { result ≡ not self.now.failed }
         ensures settled { IsTrue J.is_known → self.now.failed ≡ false → IsAllSynced self.now.history }
         ensures groups { IsTrue J.is_known → self.now.failed ≡ false → read self.now.history.now.reads ≡ Ok (groups_in self.now.history) }
+        ensures commits { IsTrue J.is_known → self.now.failed ≡ false → self.now.has_images ≡ false → (groups_in self.now.history).images ≡ None }
     {
         !self.failed
     }
 
-    /// How many calls of the disk have failed.
+    /// How many calls of the disk have failed. What a read gives is among what a crash may leave, after one that failed too.
     pub fn faults(&self) -> u64
-        ensures { result ≡ self.now.faults }
+        ensures count { result ≡ self.now.faults }
+        ensures reads_an_image { IsTrue J.is_known → IsImage self.now.history.now self.now.history.now.reads }
     {
         self.file.disk.faults()
     }
