@@ -1,0 +1,13 @@
+pub mod Lists
+pub mod MarkLaws
+pub mod Gathered
+pub mod Batches
+pub mod Scribing
+pub mod Belonging
+pub mod Ending
+pub mod Telling
+pub mod Committing
+pub mod Grouping
+pub mod Closed
+pub mod Sent
+pub mod Bodied

@@ -1,0 +1,6 @@
+pub mod Marks
+pub mod Written
+pub mod Members
+pub mod Closings
+-- words that only private functions and the proof use
+pub mod inside

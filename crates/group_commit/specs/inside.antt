@@ -1,0 +1,2 @@
+-- Words of private functions and of the proof.
+pub mod Scribes

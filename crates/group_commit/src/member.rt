@@ -1,0 +1,122 @@
+//! A member of a group commit: a session of the store, with a pass of the journal's turn.
+ghost use Rattle.std.specs.Prelude.{◌≡◌, ◌≢◌, None};
+ghost use Rattle.call_contract.specs.Sessions.{live_in};
+ghost use Rattle.shared_store.specs.Calls.{HasAborted, HasBegun, HasTried, HasTriedAgain};
+ghost use Rattle.shared_store.specs.Lists.{book_of};
+ghost use Rattle.shared_store.specs.Sessions.{HasDone};
+ghost use Rattle.shared_store.specs.Waits.{HasCalled};
+ghost use Rattle.group_commit.specs.Marks.{durable_in};
+
+use crate::scribe::Scribe;
+use call_contract::{Answer, TreeCall};
+use node_seq::NodeRead;
+use outside_traits::Disk;
+use shared_store::{Ended, Session, Store, StoreError};
+use std::alloc::Global;
+use std::marker::Model;
+use std::sync::Wait;
+use turn_lock::Pass;
+
+/// A session whose commits are made durable. It has seen a part of the store's list, and a part of the list behind the journal's turn.
+#[derive(Drop)]
+pub struct Member<C: TreeCall + Drop, B: NodeRead + Drop, J: Disk> {
+    pub(crate) session: Session<C, B>,
+    pub(crate) pass: Pass<Scribe<C, B, J>>,
+    /// The greatest durable number that the pass has seen.
+    pub(crate) durable: u32,
+}
+
+impl<C: TreeCall + Drop, B: NodeRead + Drop, J: Disk> Model for Member<C, B, J> {
+    ghost use Rattle.std.specs.Coded.{codes};
+    ghost use Rattle.atomic_table.specs.Seated.{table_id_coded};
+    ghost use Rattle.tree_model.specs.contracts.fragment.Fragment as fragment;
+    ghost use Rattle.group_commit.specs.Members.{MemberView};
+    ghost use Rattle.group_commit.specs.inside.Scribes.{IsMember};
+
+    ghost Value = { MemberView C B };
+
+    ghost coded = { Prim.hlevel (codes, table_id_coded, fragment.the_row.coded) };
+
+    ghost view = { λ m. record { session = m.session; pass = m.pass } };
+
+    ghost invariant = { λ m. IsMember (record { session = m.session; pass = m.pass }) m.durable };
+}
+
+// Each call is that of the session with the same name. The pass stays as it is.
+impl<C: TreeCall + Drop, B: NodeRead + Drop, J: Disk> Member<C, B, J> {
+    /// Begins a transaction, and answers how many the session's number has begun.
+    pub fn begin<R: Wait>(
+        &mut self,
+        rt: &R,
+        alloc: Global,
+        store: &Store<C, B>,
+    ) -> Result<u32, StoreError>
+        requires store { self.old.session.lock ≡ store.now }
+        requires number { self.old.session.under ≢ 0 }
+        ensures done { HasDone self.old.session self.new.session (λ before after. HasBegun before self.old.session.under result after) }
+        ensures pass { self.new.pass ≡ self.old.pass }
+    {
+        self.session.begin(rt, alloc, store)
+    }
+
+    /// Makes one attempt of a call.
+    pub fn try_call<R: Wait>(
+        &mut self,
+        rt: &R,
+        alloc: Global,
+        store: &Store<C, B>,
+        call: C,
+    ) -> Result<Answer, StoreError>
+        requires { self.old.session.lock ≡ store.now }
+        ensures done { HasDone self.old.session self.new.session (λ before after. HasTried B.count before self.old.session.under call result after) }
+        ensures pass { self.new.pass ≡ self.old.pass }
+    {
+        self.session.try_call(rt, alloc, store, call)
+    }
+
+    /// Makes one further attempt of the call with which the transaction waits; None where it doesn't wait, or there is none.
+    pub fn try_again<R: Wait>(
+        &mut self,
+        rt: &R,
+        alloc: Global,
+        store: &Store<C, B>,
+    ) -> Result<Option<Answer>, StoreError>
+        requires { self.old.session.lock ≡ store.now }
+        ensures done { HasDone self.old.session self.new.session (λ before after. HasTriedAgain B.count B.contents C.meaning before self.old.session.under result after) }
+        ensures pass { self.new.pass ≡ self.old.pass }
+    {
+        self.session.try_again(rt, alloc, store)
+    }
+
+    /// Makes a call, and tries it again until it needn't wait.
+    pub fn call<R: Wait>(
+        &mut self,
+        rt: &R,
+        alloc: Global,
+        store: &Store<C, B>,
+        call: C,
+    ) -> Result<Ended, StoreError>
+        requires { self.old.session.lock ≡ store.now }
+        ensures done { HasDone self.old.session self.new.session (λ before after. HasCalled B.count B.contents C.meaning self.old.session.has before self.old.session.under call result after) }
+        ensures pass { self.new.pass ≡ self.old.pass }
+    {
+        self.session.call(rt, alloc, store, call)
+    }
+
+    /// Ends the transaction, a waiting call with it. The session then has none, whatever the answer. It takes no memory.
+    pub fn abort<R: Wait>(&mut self, rt: &R, store: &Store<C, B>) -> Result<(), StoreError>
+        requires { self.old.session.lock ≡ store.now }
+        ensures done { HasDone self.old.session self.new.session (λ before after. HasAborted before self.old.session.under result after) }
+        ensures ended { live_in (book_of self.new.session.seen) self.new.session.under ≡ None }
+        ensures pass { self.new.pass ≡ self.old.pass }
+    {
+        self.session.abort(rt, store)
+    }
+
+    /// The greatest number of a durable commit that it has seen, 0 where it has seen none.
+    pub fn durable(&self) -> u32
+        ensures { result ≡ durable_in self.now.pass.seen }
+    {
+        self.durable
+    }
+}
