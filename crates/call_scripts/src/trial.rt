@@ -28,7 +28,7 @@ pub fn do_line(alloc: Global, line: &str, map: &mut CountedSeq) -> Result<String
                     what: What::Call(call),
                 },
             ),
-        ) => try_call(alloc, session, &StoreOp::new(call).copy(alloc)?, map),
+        ) => try_call(alloc, session, &StoreOp::new(call), map),
         Ok(_) => Ok(String::from_str(alloc, "no call")?),
         Err(BadLine::Why(why)) => Ok(String::from_str(alloc, why.as_str())?),
         Err(BadLine::NoMemory) => Err(SeqError::NoMemory),

@@ -1,13 +1,11 @@
 //! Each toy on a document with a text, worked by hand.
 use crate::{Clear, Look, Never};
-use call_contract::{Answer, EventAnswer, TreeCall};
+use call_contract::TreeCall;
 use dewey_labels::{Label, List, Text};
-use lock_modes::{Ask, Mode};
-use lock_resources::Resource;
 use node_seq::SortedSeq;
 use std::alloc::Global;
 use std::test::Fail;
-use tree_model::{Key, Record, Reply};
+use tree_model::{Key, Record};
 
 /// The document `<a>t</a>`, without its name.
 fn document(alloc: Global) -> Result<SortedSeq, Fail> {
@@ -81,29 +79,5 @@ fn each_toy_is_answered_with_ample_memory(rt: HostRuntime) -> Result<(), Fail> {
         },
     )?;
     assert!(rt; requests == 0 && changes == 0 && reply.contains("Dom(9)"));
-    Ok(())
-}
-
-/// Whether a copy of the answer is shown as the answer.
-fn is_copied(alloc: Global, answer: Answer) -> Result<bool, Fail> {
-    let answer = EventAnswer::Call(answer);
-    let copy = answer.copy(alloc)?;
-    let shown = format!(in alloc; "{answer:?}")?;
-    Ok(format!(in alloc; "{copy:?}")?.as_str() == shown.as_str())
-}
-
-#[test]
-fn answers_are_copied(rt: HostRuntime) -> Result<(), Fail> {
-    let alloc = rt.alloc();
-    let sessions = [1, 64];
-    assert!(rt; is_copied(alloc, Answer::Answered(Reply::Nothing))?);
-    let waits = Answer::Waits {
-        resource: Resource::Node(read(alloc, "1.1001")?),
-        asks: Ask::Node(Mode::CX),
-        holders: List::from_vec(Vec::from_slice(alloc, &sessions)?),
-    };
-    assert!(rt; is_copied(alloc, waits)?);
-    let cycle = List::from_vec(Vec::from_slice(alloc, &sessions)?);
-    assert!(rt; is_copied(alloc, Answer::Deadlock { cycle })?);
     Ok(())
 }
