@@ -15,7 +15,8 @@ use Rattle.tree_model.proofs.Lists.{all_append, all_before, all_behind}
 use Rattle.node_seq.specs.ChangeLists.{IsChangeList}
 use Rattle.overlays.specs.inside.Runs.{all_laid, joint}
 use Rattle.overlays.proofs.Laying.{at_newest}
-use Rattle.overlays.specs.inside.FewRuns.{IsFilled, FallByFour, but_newest, AreFew, IsFewFor}
+use Rattle.overlays.specs.Layered.{IsFewFor}
+use Rattle.overlays.specs.inside.FewRuns.{IsFilled, FallByFour, but_newest, AreFew}
 
 -- ---- lengths of what is laid over what
 

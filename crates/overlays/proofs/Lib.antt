@@ -1,3 +1,4 @@
+pub mod CountLaws
 pub mod DeletionLaws
 pub mod Directions
 pub mod Ends

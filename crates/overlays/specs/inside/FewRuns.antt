@@ -1,5 +1,5 @@
 -- How many runs changes are kept in: each is far longer than the next, so they are few.
-use Rattle.std.specs.Prelude.{ℕ, ◌+◌, ◌-◌, ◌*◌, ◌^◌, ◌≤◌, List, [], ◌∷◌, length}
+use Rattle.std.specs.Prelude.{◌*◌, ◌≤◌, List, [], ◌∷◌, length}
 use Rattle.std.specs.List.{AllByRecursion}
 use Rattle.tree_model.specs.declared.change.Change.{Change}
 
@@ -23,7 +23,3 @@ but_newest (r ∷ (s ∷ rs)) = r ∷ but_newest (s ∷ rs)
 pub record AreFew (runs : List (List Change)) : Type 0 where
   pub filled : AllByRecursion IsFilled runs
   pub fall : FallByFour (but_newest runs)
-
--- so many runs for so many changes: two and a logarithm, at most
-abbrev pub IsFewFor : ℕ → List Change → Type 0
-IsFewFor n cs = 4 ^ (n - 2) ≤ 1 + length cs

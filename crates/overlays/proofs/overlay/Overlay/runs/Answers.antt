@@ -1,7 +1,7 @@
 use Rattle.std.proofs.Common.{List, length, sym, subst, ap, ◌∙◌}
 use Rattle.tree_model.specs.declared.change.Change.{Change}
 use Rattle.node_seq.specs.ChangeLists.{IsChangeList}
-use Rattle.overlays.specs.inside.FewRuns.{IsFewFor}
+use Rattle.overlays.specs.Layered.{IsFewFor}
 use Rattle.overlays.specs.inside.Runs.{joint}
 use Rattle.overlays.proofs.FewLaws.{few_runs}
 use Rattle.overlays.proofs.Laying.{list_joint}
