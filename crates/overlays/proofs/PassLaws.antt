@@ -21,7 +21,7 @@ use Rattle.overlays.specs.Steps.{end_toward, ends_ahead, most_steps, NoneOpen}
 use Rattle.overlays.specs.declared.direction.Direction.{Direction}
 use Rattle.overlays.specs.declared.direction.Direction.TheVariants.{Up, Down}
 use Rattle.overlays.specs.declared.gaps.Stretch.{Stretch}
-use Rattle.overlays.specs.inside.Nearest.{IsNearest, as_pair, entry_beside, comes_before, key_before}
+use Rattle.overlays.specs.inside.Nearest.{IsNearest, LiesAhead, KeyLiesAhead, as_pair, entry_beside, comes_before, key_before}
 use Rattle.overlays.specs.inside.Passing.{Spans, gone_key, key_gone, key_put, entry_put, first_gone, first_seen, first_key_seen, is_past, with_piece, AllCovered, NoneGone, IsSettled, Sees, SeesKey}
 use Rattle.overlays.proofs.Directions.{toward_trans, toward_itself}
 use Rattle.overlays.proofs.NearestLaws.{nearest_on, nearest_same, entry_found}
@@ -243,3 +243,27 @@ key_seen_valid w at cs o (Some c) h a v = tested (IsKeyOfTrees (cond (key_before
 pub empty_with : (p : Option Stretch) (ss new : List Stretch) (es : Entries) → IfSome p (λ s. IsEmpty s es) → AreEmpty ss es → AreWithin new (with_piece p ss) → AreEmpty new es
 empty_with None ss new es i e f = empty_within new ss es f e
 empty_with (Some s) ss new es i e f = empty_within new (s ∷ ss) es f (empty_more s ss es i e)
+
+-- ---- what comes first lies ahead
+
+entry_ahead : (w : Direction) (k : Key) (c : Change) (r : Option Record) → Ahead w k c.key → LiesAhead w k (entry_put c r)
+entry_ahead w k c None h = tt
+entry_ahead w k c (Some r) h = h
+
+pub first_ahead : (w : Direction) (k : Key) (f : Key → Option (Option Record)) (o : Option (Key × Record)) (c : Option Change) → IsNearest w k f (as_pair c) → LiesAhead w k o → LiesAhead w k (first_seen w o c)
+first_ahead w k f o None n h = h
+first_ahead w k f o (Some c) n h = elim (comes_before w o c.key) as (λ b. LiesAhead w k (cond b o (entry_put c c.now))) [
+  | true ↦ h
+  | false ↦ entry_ahead w k c c.now n.0
+]
+
+key_ahead : (w : Direction) (k : Key) (c : Change) (r : Option Record) → Ahead w k c.key → KeyLiesAhead w k (key_put c r)
+key_ahead w k c None h = tt
+key_ahead w k c (Some r) h = h
+
+pub first_key_ahead : (w : Direction) (k : Key) (f : Key → Option (Option Record)) (o : Option Key) (c : Option Change) → IsNearest w k f (as_pair c) → KeyLiesAhead w k o → KeyLiesAhead w k (first_key_seen w o c)
+first_key_ahead w k f o None n h = h
+first_key_ahead w k f o (Some c) n h = elim (key_before w o c.key) as (λ b. KeyLiesAhead w k (cond b o (key_put c c.now))) [
+  | true ↦ h
+  | false ↦ key_ahead w k c c.now n.0
+]

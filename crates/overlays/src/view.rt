@@ -10,6 +10,7 @@ ghost use Rattle.node_seq.specs.Reads.{Finds, IsEntryOfTrees, IsRecordOfTrees, I
 ghost use Rattle.node_seq.specs.ChangeLists.{IsChangeList};
 ghost use Rattle.overlays.specs.Directions.{Ahead};
 ghost use Rattle.overlays.specs.declared.direction.Direction.TheVariants.{Up, Down};
+ghost use Rattle.overlays.specs.inside.Runs.{ChangeList};
 ghost use Rattle.overlays.specs.inside.Nearest.{IsNearest, as_pair, entry_beside, LiesAhead, comes_before, key_beside, KeyLiesAhead, key_before};
 ghost use Rattle.overlays.specs.Views.{contents_after};
 ghost use Rattle.overlays.specs.Stretches.{AreEmpty, AreWithin, IsEmpty};
@@ -26,7 +27,7 @@ use tree_model::{Change, Key, Record};
 
 /// What a transaction sees: a base changed by the layers of commits, and then by what the transaction has changed itself.
 ///
-/// A read asks each run of changes by one binary search, and the base once. A read to the side of a key does so again for each deletion that it passes;
+/// A read looks into each run of changes by at most one binary search, and asks the base once. A read to the side of a key does so again for each deletion that it passes;
 /// what took more than a few such steps is noted in `gaps`, and the next reads jump over it.
 #[derive(Drop)]
 pub struct View<'a, S: NodeRead> {
@@ -72,30 +73,35 @@ fn change_at<'o>(layers: &'o Layers, own: &'o Overlay, key: &Key) -> Option<&'o 
     }
 }
 
-/// How far a walk has come, where it isn't still at its key, and the stretch that it passed on the way, where that is worth to be kept.
-struct Come {
+/// How far a walk has come, where it isn't still at its key, and the nearest change ahead of there.
+#[derive(Drop)]
+struct Come<'o> {
     at: Option<Key>,
-    stretch: Option<Stretch>,
+    next: Option<&'o Change>,
 }
 
 /// So many steps over deletions are made without being kept.
 const FEW: usize = 4;
 
 /// Passes over what is gone ahead of a key, and comes to one behind which no deletion comes first.
-fn pass_gone<'o, S: NodeRead>(
+/// It answers the stretch that was passed, too, where that is worth to be kept.
+fn pass_gone<'g, 'o: 'g, S: NodeRead>(
     alloc: Global,
     base: &mut S,
     layers: &'o Layers,
     own: &'o Overlay,
-    gaps: &'o Gaps,
+    gaps: &'g Gaps,
     toward: Direction,
-    key: &'o Key,
-) -> Result<Come, SeqError>
+    key: &'g Key,
+) -> Result<(Come<'o>, Option<Stretch>), SeqError>
     requires empty { (es : Entries) → contents_after own.now (contents_after layers.now.changes (S.contents base.old)) ≡ Some es → AreEmpty gaps.now es }
-    ensures come { IfOk result (λ c. HasCome toward key.now (laid own.now layers.now.changes) (S.contents base.old) (unwrap_or c.at key.now)) }
-    ensures passed { IfOk result (λ c. IfSome c.stretch (λ s. (es : Entries) → contents_after own.now (contents_after layers.now.changes (S.contents base.old)) ≡ Some es → IsEmpty s es)) }
+    ensures come { IfOk result (λ c. HasCome toward key.now (laid own.now layers.now.changes) (S.contents base.old) (unwrap_or c.0.at key.now)) }
+    ensures next { IfOk result (λ c. IsNearest toward (unwrap_or c.0.at key.now) (λ j. now_at j (laid own.now layers.now.changes)) (as_pair (option_copied c.0.next))) }
+    ensures passed { IfOk result (λ c. IfSome c.1 (λ s. (es : Entries) → contents_after own.now (contents_after layers.now.changes (S.contents base.old)) ≡ Some es → IsEmpty s es)) }
     ensures noted { IfOk result (λ c. (S.reads base.new ≤ S.reads base.old + 5)
-        ⊎ AllCovered toward key.now (unwrap_or c.at key.now) (laid own.now layers.now.changes) gaps.now (with_piece c.stretch [])) }
+        ⊎ AllCovered toward key.now (unwrap_or c.0.at key.now) (laid own.now layers.now.changes) gaps.now (with_piece c.1 [])) }
+    ensures own { IsChangeList own.now }
+    ensures layers { IsChangeList layers.now.changes }
     ensures unchanged { S.unchanged base.old base.new }
     ensures reads { OnOk result (S.reads base.new ≤ S.reads base.old + most_steps toward key.now gaps.now (laid own.now layers.now.changes)) }
     ensures all_reads { S.reads base.new ≤ S.reads base.old + (1 + most_steps toward key.now gaps.now (laid own.now layers.now.changes)) }
@@ -114,7 +120,7 @@ fn pass_gone<'o, S: NodeRead>(
     }
     let stretch = spanned(alloc, toward, near, at, steps)?;
     let at = copy_other(alloc, toward, key, at)?;
-    Ok(Come { at, stretch })
+    Ok((Come { at, next: change }, stretch))
 }
 
 /// A key where it lies ahead of another.
@@ -208,29 +214,32 @@ fn spanned(
     }
 }
 
-/// Passes over what is gone ahead of a key, and notes the stretch that was passed. It answers how far it came, where that isn't the key.
-fn note_gone<S: NodeRead>(
+/// Passes over what is gone ahead of a key, and notes the stretch that was passed. It answers how far it came.
+fn note_gone<'o, S: NodeRead>(
     alloc: Global,
     base: &mut S,
-    layers: &Layers,
-    own: &Overlay,
+    layers: &'o Layers,
+    own: &'o Overlay,
     gaps: &mut Gaps,
     toward: Direction,
     key: &Key,
-) -> Result<Option<Key>, SeqError>
+) -> Result<Come<'o>, SeqError>
     requires empty { (es : Entries) → contents_after own.now (contents_after layers.now.changes (S.contents base.old)) ≡ Some es → AreEmpty gaps.old es }
-    ensures come { IfOk result (λ at. HasCome toward key.now (laid own.now layers.now.changes) (S.contents base.old) (unwrap_or at key.now)) }
+    ensures come { IfOk result (λ c. HasCome toward key.now (laid own.now layers.now.changes) (S.contents base.old) (unwrap_or c.at key.now)) }
+    ensures next { IfOk result (λ c. IsNearest toward (unwrap_or c.at key.now) (λ j. now_at j (laid own.now layers.now.changes)) (as_pair (option_copied c.next))) }
     ensures empty { (es : Entries) → contents_after own.now (contents_after layers.now.changes (S.contents base.old)) ≡ Some es → AreEmpty gaps.new es }
-    ensures noted { IfOk result (λ at. (S.reads base.new ≤ S.reads base.old + 5)
-        ⊎ AllCovered toward key.now (unwrap_or at key.now) (laid own.now layers.now.changes) gaps.old gaps.new) }
+    ensures noted { IfOk result (λ c. (S.reads base.new ≤ S.reads base.old + 5)
+        ⊎ AllCovered toward key.now (unwrap_or c.at key.now) (laid own.now layers.now.changes) gaps.old gaps.new) }
+    ensures own { IsChangeList own.now }
+    ensures layers { IsChangeList layers.now.changes }
     ensures unchanged { S.unchanged base.old base.new }
     ensures reads { OnOk result (S.reads base.new ≤ S.reads base.old + most_steps toward key.now gaps.old (laid own.now layers.now.changes)) }
     ensures all_reads { S.reads base.new ≤ S.reads base.old + (1 + most_steps toward key.now gaps.old (laid own.now layers.now.changes)) }
     ensures cause { HasCause DiskFault (S.count base.old) (S.count base.new) result }
 {
-    let Come { at, stretch } = pass_gone(alloc, base, layers, own, gaps, toward, key)?;
+    let (come, stretch) = pass_gone(alloc, base, layers, own, gaps, toward, key)?;
     note_if(gaps, stretch)?;
-    Ok(at)
+    Ok(come)
 }
 
 /// Notes a stretch where there is one, and answers the one that went for it.
@@ -370,52 +379,46 @@ fn key_lies_before(toward: Direction, found: &Option<Key>, key: &Key) -> bool
     }
 }
 
-/// The entry at the nearest key ahead of one behind which no deletion comes first.
+/// The entry at the nearest key ahead of one behind which no deletion comes first, where the nearest change is known.
 fn seen_behind<S: NodeRead>(
     alloc: Global,
     base: &mut S,
-    layers: &Layers,
-    own: &Overlay,
     toward: Direction,
     at: &Key,
+    next: Option<&Change>,
 ) -> Result<Option<(Key, Record)>, SeqError>
-    ensures value { IfOk result (λ found. (es : Entries) → S.contents base.old ≡ Some es → IsSettled toward at.now (laid own.now layers.now.changes) es → Sees toward at.now (laid own.now layers.now.changes) es found) }
-    ensures ahead { IfOk result (LiesAhead toward at.now) }
-    ensures valid { S.contents base.old ≡ None → IfOk result IsEntryOfTrees }
-    ensures own { IsChangeList own.now }
-    ensures layers { IsChangeList layers.now.changes }
+    ensures value { IfOk result (λ found. (cs : ChangeList) (es : Entries) → IsNearest toward at.now (λ j. now_at j cs) (as_pair (option_copied next.entry)) → S.contents base.old ≡ Some es
+        → IsSettled toward at.now cs es → Sees toward at.now cs es found) }
+    ensures ahead { (cs : ChangeList) → IsNearest toward at.now (λ j. now_at j cs) (as_pair (option_copied next.entry)) → IfOk result (LiesAhead toward at.now) }
+    ensures valid { (cs : ChangeList) → IsNearest toward at.now (λ j. now_at j cs) (as_pair (option_copied next.entry)) → IsChangeList cs → S.contents base.old ≡ None → IfOk result IsEntryOfTrees }
     ensures unchanged { S.unchanged base.old base.new }
     ensures reads { S.reads base.new ≤ S.reads base.old + 1 }
     ensures cause { HasCause DiskFault (S.count base.old) (S.count base.new) result }
 {
     let _faults = base.faults();
-    let change = change_ahead(layers, own, toward, at);
     let found = base_beside(alloc, base, toward, at)?;
-    Ok(first_of(alloc, toward, found, change)?)
+    Ok(first_of(alloc, toward, found, next)?)
 }
 
-/// The nearest key ahead of one behind which no deletion comes first; no record is copied.
+/// The nearest key ahead of one behind which no deletion comes first, where the nearest change is known; no record is copied.
 fn key_behind<S: NodeRead>(
     alloc: Global,
     base: &mut S,
-    layers: &Layers,
-    own: &Overlay,
     toward: Direction,
     at: &Key,
+    next: Option<&Change>,
 ) -> Result<Option<Key>, SeqError>
-    ensures value { IfOk result (λ found. (es : Entries) → S.contents base.old ≡ Some es → IsSettled toward at.now (laid own.now layers.now.changes) es → SeesKey toward at.now (laid own.now layers.now.changes) es found) }
-    ensures ahead { IfOk result (KeyLiesAhead toward at.now) }
-    ensures valid { S.contents base.old ≡ None → IfOk result IsKeyOfTrees }
-    ensures own { IsChangeList own.now }
-    ensures layers { IsChangeList layers.now.changes }
+    ensures value { IfOk result (λ found. (cs : ChangeList) (es : Entries) → IsNearest toward at.now (λ j. now_at j cs) (as_pair (option_copied next.entry)) → S.contents base.old ≡ Some es
+        → IsSettled toward at.now cs es → SeesKey toward at.now cs es found) }
+    ensures ahead { (cs : ChangeList) → IsNearest toward at.now (λ j. now_at j cs) (as_pair (option_copied next.entry)) → IfOk result (KeyLiesAhead toward at.now) }
+    ensures valid { (cs : ChangeList) → IsNearest toward at.now (λ j. now_at j cs) (as_pair (option_copied next.entry)) → IsChangeList cs → S.contents base.old ≡ None → IfOk result IsKeyOfTrees }
     ensures unchanged { S.unchanged base.old base.new }
     ensures reads { S.reads base.new ≤ S.reads base.old + 1 }
     ensures cause { HasCause DiskFault (S.count base.old) (S.count base.new) result }
 {
     let _faults = base.faults();
-    let change = change_ahead(layers, own, toward, at);
     let found = base_key(alloc, base, toward, at)?;
-    Ok(first_key(alloc, toward, found, change)?)
+    Ok(first_key(alloc, toward, found, next)?)
 }
 
 /// The entry at the nearest key ahead, with the changes laid over the base; what was passed on the way is noted.
@@ -440,8 +443,8 @@ pub(crate) fn seen_beside<S: NodeRead>(
     ensures cause { HasCause DiskFault (S.count base.old) (S.count base.new) result }
 {
     let _faults = base.faults();
-    let at = note_gone(alloc, base, layers, own, gaps, toward, key)?;
-    seen_behind(alloc, base, layers, own, toward, place(&at, key))
+    let Come { at, next } = note_gone(alloc, base, layers, own, gaps, toward, key)?;
+    seen_behind(alloc, base, toward, place(&at, key), next)
 }
 
 /// The nearest key ahead, with the changes laid over the base; what was passed on the way is noted, and no record is copied.
@@ -466,8 +469,8 @@ pub(crate) fn key_seen_beside<S: NodeRead>(
     ensures cause { HasCause DiskFault (S.count base.old) (S.count base.new) result }
 {
     let _faults = base.faults();
-    let at = note_gone(alloc, base, layers, own, gaps, toward, key)?;
-    key_behind(alloc, base, layers, own, toward, place(&at, key))
+    let Come { at, next } = note_gone(alloc, base, layers, own, gaps, toward, key)?;
+    key_behind(alloc, base, toward, place(&at, key), next)
 }
 
 // A view keeps no count of reads itself (`reads`); those of its base are told (`of_base`).

@@ -10,7 +10,7 @@ use Rattle.overlays.specs.Views.{contents_after}
 use Rattle.overlays.specs.Directions.{cmp_toward, Ahead}
 use Rattle.overlays.specs.Stretches.{is_covered, IsEmpty}
 use Rattle.overlays.specs.Steps.{most_steps}
-use Rattle.overlays.specs.inside.Nearest.{entry_beside}
+use Rattle.overlays.specs.inside.Nearest.{IsNearest, as_pair, entry_beside}
 use Rattle.overlays.specs.inside.Passing.{key_gone, first_gone, Spans, HasCome, is_past, AllCovered, with_piece}
 use Rattle.overlays.specs.declared.direction.Direction.{Direction}
 use Rattle.overlays.specs.declared.gaps.Stretch.{Stretch}
@@ -133,6 +133,10 @@ returns-clause-come g c =
       goes_on = inv.goes_on;
       settled = λ es t. settled_at w at cs es change inv.change (sym (subst (λ (v : Option (Bor Key)). option_copied v ≡ first_gone w (entry_beside w at es) change) none (c.in_ok-gone.ensures.value es (law.unchanged_contents _ _ inv.unchanged ∙ t))));
     })
+
+pub returns-clause-next : goal.returns-clause-next
+returns-clause-next g c =
+    subst (λ v. IsNearest c.args.toward v (λ j. now_at j (laid c.args.own.now c.args.layers.now.changes)) (as_pair (option_copied c.loop-gone.change))) (sym c.in_ok-at.ensures) c.loop-gone.invariant.change
 
 pub returns-clause-passed : goal.returns-clause-passed
 returns-clause-passed g c =
