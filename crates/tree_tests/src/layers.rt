@@ -210,6 +210,26 @@ fn folds_keep_the_deletions(rt: HostRuntime) -> Result<(), Fail> {
     Ok(())
 }
 
+/// In how many runs so many changes stand that were added one by one.
+fn runs_of(alloc: Global, added: u32) -> Result<usize, Fail> {
+    let mut overlay = Overlay::new(alloc);
+    for n in 0..added.min(100) {
+        overlay.add(alloc, one_change(alloc, 1001 + 2 * n, "a")?)?;
+    }
+    Ok(overlay.run_count())
+}
+
+/// How many changes are added and in how many runs they stand then, by hand: each but the newest is at least four times as long as the next.
+const RUNS: [(u32, usize); 6] = [(0, 0), (1, 1), (2, 2), (5, 2), (6, 3), (7, 2)];
+
+#[test]
+fn changes_added_one_by_one_stand_in_few_runs(rt: HostRuntime) -> Result<(), Fail> {
+    for (added, want) in RUNS {
+        agree(&rt, &added, &runs_of(rt.alloc(), added)?, &want);
+    }
+    Ok(())
+}
+
 /// The base with the commits laid over it.
 fn stacked_base(alloc: Global) -> Result<Stacked<SortedSeq>, Fail> {
     let base = base(alloc, BASE)?;

@@ -1,5 +1,5 @@
 -- A core as contracts see it: what it was opened with, its base, and its book.
-use Rattle.std.specs.Prelude.{◌≡◌, ◌⊎◌, ℕ, ◌+◌, ◌<◌, ◌≤◌, Bool, false, [], ◌∷◌, ◌++◌, length, Option, Some, None, is_some}
+use Rattle.std.specs.Prelude.{◌≡◌, ◌⊎◌, ℕ, ◌+◌, ◌/◌, ◌<◌, ◌≤◌, Bool, false, [], ◌∷◌, ◌++◌, length, Option, Some, None, is_some}
 use Rattle.node_records.specs.Pending.{FollowOn}
 use Rattle.node_records.specs.declared.pending.Pending.{Pending}
 use Rattle.tree_model.specs.Entries.{Entries}
@@ -47,6 +47,11 @@ with_entry v n = record v { book = v.book ++ n ∷ []; prepared = None }
 -- over a base that was read
 abbrev pub over : {C B : Type 0} → CoreView C B → B → CoreView C B
 over v base = record v { base = base }
+
+-- the base has at most 64 and a 256th of its entries more than the committed map, where that is known
+abbrev pub HasFewMore : Entries → Option Entries → Type 0
+HasFewMore base None = Unit {0}
+HasFewMore base (Some es) = length base ≤ length es + (64 + length base / 256)
 
 -- with this committed map
 abbrev pub with_committed : {C B : Type 0} → CoreView C B → Option Entries → CoreView C B

@@ -1,10 +1,11 @@
 //! Commits: what one needs is prepared first, and then it takes no memory.
 
-ghost use Rattle.std.specs.Prelude.{◌≡◌, ◌≢◌, ℕ, cond, ◌==◌, ◌+◌, ◌≤◌, ◌<◌, [], Some, None, Err, true, nat_lt, length, vec_capacity, IfOk, OnOk, OnErr};
+ghost use Rattle.std.specs.Prelude.{◌≡◌, ◌≢◌, ℕ, cond, ◌==◌, ◌+◌, ◌/◌, ◌≤◌, ◌<◌, [], Some, None, Err, true, nat_lt, length, vec_capacity, IfOk, OnOk, OnErr};
 ghost use Rattle.std.specs.Ordering.{nat_cmp};
 ghost use Rattle.std.specs.BTreeMap.{get};
 ghost use Rattle.node_records.specs.Changes.{changes_bytes, changes_of as changes_read};
 ghost use Rattle.node_seq.specs.ChangeLists.{IsChangeList};
+ghost use Rattle.overlays.specs.Layered.{deletions_in};
 ghost use Rattle.tree_model.specs.Entries.{changed};
 ghost use Rattle.tree_model.specs.Tree.{map_of};
 ghost use Rattle.call_contract.specs.States.{State, without};
@@ -181,15 +182,21 @@ pub fn commit<C: TreeCall + Drop, B: NodeRead>(parts: &mut Parts<C, B>, session:
 }
 
 /// Merges what was committed into the base, where the layers keep so many deletions that it is due. For want of memory all stays as it is.
-pub fn merge<C: TreeCall + Drop>(alloc: Global, parts: &mut Parts<C, SortedSeq>)
+pub fn merge<C: TreeCall + Drop>(
+    alloc: Global,
+    parts: &mut Parts<C, SortedSeq>,
+) -> Result<(), NoMemory>
+    ensures merged { OnOk result (parts.new.layers.deletions ≤ 64 + length parts.new.base / 256) }
+    ensures all_counted { OnOk result (deletions_in parts.new.layers.changes ≤ parts.new.layers.deletions) }
+    ensures err { OnErr result (parts.new.base ≡ parts.old.base) }
     ensures spare { parts.new.layers.spare ≡ parts.old.layers.spare }
     ensures same { parts.new ≡ record parts.old { base = parts.new.base; layers = parts.new.layers } }
     ensures contents { changed parts.new.layers.changes parts.new.base ≡ changed parts.old.layers.changes parts.old.base }
 {
-    if parts.layers.is_due(&parts.base) {
-        // An error changes nothing, and the next commit tries again.
-        let _merged = parts.layers.merge_into(alloc, &mut parts.base);
+    if !parts.layers.is_due(&parts.base) {
+        return Ok(());
     }
+    parts.layers.merge_into(alloc, &mut parts.base)
 }
 
 /// Goes on over another base that stands for the committed tree, with no layers, and answers the old one.

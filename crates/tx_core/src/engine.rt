@@ -1,6 +1,6 @@
 //! The core: what it was opened with, and its calls.
 
-ghost use Rattle.std.specs.Prelude.{◌≡◌, ◌≢◌, ℕ, ◌+◌, ◌≤◌, [], length, None, Some, Err, IfOk, IfErr, IfSome, OnErr, Option, IsTrue};
+ghost use Rattle.std.specs.Prelude.{◌≡◌, ◌≢◌, ℕ, ◌+◌, ◌≤◌, [], length, None, Some, Err, IfOk, IfErr, IfSome, OnOk, OnErr, Option, IsTrue};
 ghost use Rattle.lock_resources.specs.declared.resource.Resource.{Resource};
 ghost use Rattle.lock_table.specs.Tables.{held};
 ghost use Rattle.wait_graph.specs.Graphs.{waits};
@@ -15,7 +15,7 @@ ghost use Rattle.call_contract.specs.declared.events.Event.TheVariants as event;
 ghost use Rattle.call_contract.specs.declared.events.EventAnswer.TheVariants as said;
 ghost use Rattle.node_records.specs.Pending.{FollowOn};
 ghost use Rattle.tx_core.specs.Commits.{IsPrepared, HasChangesOf, IsPastLimitIn, ReplaysOthers, pending_of};
-ghost use Rattle.tx_core.specs.Cores.{opened_over, with_entry, with_committed, with_pending, drained, over, state_from, next_number, waits_in, IsLeftBy, IsGivenUpBy, IsUndrained};
+ghost use Rattle.tx_core.specs.Cores.{opened_over, with_entry, with_committed, with_pending, drained, over, HasFewMore, state_from, next_number, waits_in, IsLeftBy, IsGivenUpBy, IsUndrained};
 ghost use Rattle.tx_core.specs.Queues.{HasQueue};
 ghost use Rattle.tx_core.specs.Refusals.{begin_refused, call_refused, abort_refused, shown_refusal, shown_prepare_refusal, shown_call_refusal};
 ghost use Rattle.tx_core.specs.Retries.{HasRetried};
@@ -311,10 +311,12 @@ impl<C: TreeCall + Drop, B: NodeRead + Drop> Core<C, B> {
 
 impl<C: TreeCall + Drop> Core<C, SortedSeq> {
     /// Merges what was committed into the base, where it has so many deletions that this is due: then a read passes over few of them.
-    /// Called after each commit it costs a constant number of moves for each deleted entry, amortised. For want of memory all stays as it is.
-    pub fn merge(&mut self, alloc: Global)
-        ensures { self.new ≡ over self.old self.new.base }
+    /// Called after each commit it costs a constant number of moves for each deleted entry, amortised.
+    pub fn merge(&mut self, alloc: Global) -> Result<(), NoMemory>
+        ensures merged { OnOk result (HasFewMore self.new.base self.new.committed) }
+        ensures same { self.new ≡ over self.old self.new.base }
+        ensures err { OnErr result (self.new ≡ self.old) }
     {
-        merge(alloc, &mut self.parts);
+        merge(alloc, &mut self.parts)
     }
 }

@@ -53,6 +53,11 @@ const ENDS: &[Case<'static>] = &[
         text: "{\"books\":200,\"commits\":402,\"deadlocks\":0,\"errors\":0,\"found\":120,\"lines\":1232,\"ok\":1232,\"waits\":25}\n",
         ..GEN
     },
+    Case {
+        words: "gen 7 2000",
+        text: "{\"books\":2000,\"commits\":4002,\"deadlocks\":0,\"errors\":0,\"found\":1200,\"lines\":12257,\"ok\":12257,\"waits\":250}\n",
+        ..GEN
+    },
     // A store with a document stays as it is.
     Case {
         journal: SIXTY,
