@@ -41,6 +41,7 @@ use Rattle.durable_sessions.specs.Asked.{MayBeAsked}
 use Rattle.durable_sessions.specs.Durable.{HoldState, HoldsAll, HoldsEither}
 use Rattle.durable_sessions.specs.InTurn.{AllAnswered, AskNoCommit, StopsBy}
 use Rattle.durable_sessions.specs.Reasons.{first_reason}
+use Rattle.durable_sessions.specs.declared.reasons.Reason.{Reason}
 use Rattle.durable_sessions.specs.declared.in_turn.Stop.{Stop}
 use Rattle.durable_sessions.specs.declared.in_turn.Stop.TheVariants as stop
 use Rattle.durable_sessions.proofs.InTurnLaws.{image_holds}
@@ -170,6 +171,39 @@ module _ (is_known : Bool) (s : State StoreCall) (c : Command) (read : List ℕ)
           };
           shown = shown ∙ ap (text_of c s) (sym whole);
         }
+
+  -- all would be answered, and commits nothing: nothing is done to the journal
+  pub document_alone : (all : List (Asked StoreCall)) → asks_of c s read ≡ Ok all → length read ≤ whole_limit → (journal : History) (text : List ℕ) → AreValidAsks all
+      → first_reason (stops_at c) (said s all) ≡ None → (after s all).tree ≡ s.tree → (after s all).number ≡ s.number → text ≡ text_of c s all → HasText is_known s c read journal journal text
+  document_alone all is short journal text valid unrefused same_tree same_number shown =
+      let whole : all ++ [] ≡ all = append-nil all in
+      record {
+        went = record {
+          answered = all;
+          more = [];
+          first = subst (AreFirst (all ++ [])) (sym is) ([], append-nil (all ++ []) ∙ whole);
+          few = omega arith;
+          valid = subst AreValidAsks (sym whole) valid;
+          stops = record { front = all; last = []; parts = refl; one = omega arith; unrefused = unrefused };
+          end = (is ∙ ap Ok (sym whole), ap (λ (l : List (Asked StoreCall)). end_by (first_reason (stops_at c) (said s l))) whole ∙ ap end_by unrefused);
+          short = short;
+          moments = λ known holds. started (HoldsFirst s (all ++ [])) journal;
+          left = λ known holds image is_image. inl (image_holds (after s all) journal (record {
+            synced = holds.synced;
+            holds = holds.holds
+                ∙ ap (λ (u : Tree). Ok (record { entries = map_of u; number = s.number })) (sym same_tree)
+                ∙ ap (λ (m : ℕ). Ok (record { entries = map_of (after s all).tree; number = m })) (sym same_number);
+          }) image is_image);
+          still = λ commits_none. refl;
+        };
+        shown = shown ∙ ap (text_of c s) (sym whole);
+      }
+
+  -- the same where a reply refuses it
+  pub document_refused : (all : List (Asked StoreCall)) → asks_of c s read ≡ Ok all → length read ≤ whole_limit → (journal : History) (why : Reason) → first_reason (stops_at c) (said s all) ≡ Some why
+      → DocumentWent is_known s c read journal journal (DocumentRefused why)
+  document_refused all is short journal why refused =
+      nothing_asked journal (DocumentRefused why) (ap (end_of c s) is ∙ ap end_by refused) short
 
   -- where the text can't be written, it went as where it can
   pub write_failed : (old new : History) → DocumentWent is_known s c read old new Done → DocumentWent is_known s c read old new WriteFault

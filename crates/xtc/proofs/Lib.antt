@@ -4,6 +4,7 @@ pub mod CommitCounts
 pub mod CountingLaws
 pub mod DocumentLaws
 pub mod LiveLaws
+pub mod LoneLines
 pub mod OnTreeLaws
 pub mod OpeningLaws
 pub mod PromiseLaws

@@ -32,13 +32,15 @@ use Rattle.tx_core.specs.Commits.{is_past_limit}
 use Rattle.session_driver.specs.Lines.{Asked, after_line, stepped, unless_refused}
 use Rattle.session_driver.specs.Progress.{Progress, and_then, stays}
 use Rattle.session_driver.specs.declared.doing.Doing.TheVariants.{Begin, Commit, Abort, Call}
-use Rattle.store_calls.specs.StoreCalls.{store_meaning}
+use Rattle.store_calls.specs.StoreCalls.{IsValidStoreCall, store_meaning}
 use Rattle.xtc.specs.Book.{after_asked}
 use Rattle.durable_sessions.specs.Reasons.{reason_in, reason_of}
 use Rattle.durable_sessions.proofs.LoneLaws.{lone_line}
 use Rattle.xtc.specs.Documents.{asks, call_of, calls, put_asks, find_asks, question_asks, show_asks, label_in, tree_in, hits_in}
 use Rattle.xtc.specs.declared.question.Question.{Question}
 use Rattle.xtc.specs.declared.question.Question.TheVariants.{Whole, FoundBy}
+use Rattle.xtc.specs.inside.Asking.{AreValidAsks}
+use Rattle.xtc.specs.inside.Showing.{AreLinesOf, said_line}
 use Rattle.xtc.specs.DocumentsOnTree.{PutOnTree, GetOnTree, QueryOnTree, IsAtOnce, label_shown}
 use Rattle.durable_sessions.specs.declared.reasons.Reason.TheVariants as reason
 
@@ -61,7 +63,7 @@ module _ (t : Tree) (n limit : ℕ) where
   abbrev at_work : List (Answered StoreCall) → List Request → State StoreCall
   at_work cs gs = record (begun_by opened 1) { live = alone cs gs ∷ []; waiting = [] }
 
-  same_numbers : n ≡ limit → (n + 0 == limit) ≡ true
+  pub same_numbers : n ≡ limit → (n + 0 == limit) ≡ true
   same_numbers is = grind (arith, nat_tests, is)
 
   other_numbers : n ≢ limit → (n + 0 == limit) ≡ false
@@ -236,6 +238,43 @@ module _ (t : Tree) (n limit : ℕ) where
           ∙ ap (λ (p : Reply). lines_by p (answer_of found_calls asked_of)) is_found
           ∙ ap (λ (p : Reply). lines_by (reply.Place (Some at)) p) is_shown
 
+    -- ---- the lines of one that isn't asked, since what it would be answered is known
+
+    -- it begins, and this is answered to finding the document
+    abbrev found_lines : Reply → List LineReply
+    found_lines r = said_line (reply.Number 1) ∷ said_line r ∷ []
+
+    place_is : (r : Reply) (place : Option Label) → r ≡ answer_of [] doc → place ≡ label_in (found_lines r) → label_shown (answer_of [] doc) ≡ place
+    place_is r place is at = ap label_shown (sym is) ∙ sym (or_none (label_shown r)) ∙ sym at
+
+    asks_by : (n + 0 == limit) ≡ false → (place : Option Label) → label_shown (answer_of [] doc) ≡ place → show_asks opened name q ≡ find_asks name ++ question_asks q place
+    asks_by some_left place is =
+        ap (λ (at : Option Label). find_asks name ++ question_asks q at)
+        (ap (λ (p : Progress StoreCall). label_in p.lines) (found_is some_left []) ∙ or_none (label_shown (answer_of [] doc)) ∙ is)
+
+    pub lines_without : (r : Reply) → n ≢ limit → r ≡ answer_of [] doc → None ≡ label_in (found_lines r) → IsValidStoreCall doc → AreLinesOf opened name q (found_lines r)
+    lines_without r apart is none valid =
+        let some_left = other_numbers apart in
+        let place = place_is r None is none in
+        record {
+          valid = subst AreValidAsks (sym (asks_by some_left None place)) (tt, (valid, tt));
+          same = ap found_lines is ∙ sym (ap (λ (p : Progress StoreCall). p.lines) (got_by some_left None place));
+        }
+
+    pub lines_with : (r p : Reply) (at : Label) → n ≢ limit → r ≡ answer_of [] doc → Some at ≡ label_in (found_lines r) → p ≡ answer_of found_calls (call_of q at)
+        → IsValidStoreCall doc → IsValidStoreCall (call_of q at) → AreLinesOf opened name q (found_lines r ++ said_line p ∷ said_line reply.Nothing ∷ [])
+    lines_with r p at apart is label_is shown_is_this valid valid_question =
+        let some_left = other_numbers apart in
+        let place = place_is r (Some at) is label_is in
+        let last : Reply → List LineReply = λ x. said_line x ∷ said_line reply.Nothing ∷ [] in
+        record {
+          valid = subst AreValidAsks (sym (asks_by some_left (Some at) place)) (tt, (valid, (valid_question, (tt, tt))));
+          same =
+              ap (λ (x : Reply). found_lines x ++ last p) is
+              ∙ ap (λ (x : Reply). found_lines (answer_of [] doc) ++ last x) shown_is_this
+              ∙ sym (ap (λ (x : Progress StoreCall). x.lines) (got_by some_left (Some at) place) ∙ ap (λ (x : Progress StoreCall). begun.lines ++ (found.lines ++ x.lines)) (shown_is at));
+        }
+
     missing : (why : Refusal) → (n + 0 == limit) ≡ false → (dom (Doc name) t).0 ≡ reply.Refused why → reason_in got.lines ≡ Some (reason.Call why)
     missing why some_left is =
         ap (λ (p : Progress StoreCall). reason_in p.lines) (got_by some_left None (ap label_shown is))
@@ -267,7 +306,7 @@ module _ (t : Tree) (n limit : ℕ) where
             subst (λ (p : Progress StoreCall). AllByRecursion IsAtOnce p.lines) (sym (got_by some_left (Some at) is ∙ ap (λ (p : Progress StoreCall). and_then begun (and_then found p)) (shown_is at)))
             (tt, (tt, (tt, (tt, tt))))
 
-    spent_limit : (n + 0 == limit) ≡ true → reason_in got.lines ≡ Some reason.Limit
+    pub spent_limit : (n + 0 == limit) ≡ true → reason_in got.lines ≡ Some reason.Limit
     spent_limit spent = ap (λ (p : Progress StoreCall). reason_in p.lines) (got_nothing spent)
 
   pub get_on_tree : (name : Name) → GetOnTree t n limit name (got name Whole)

@@ -1,45 +1,41 @@
 // The commands that write something of the document with a name: `get` the whole of it, `query` what a path finds from it.
-ghost use Rattle.std.specs.Prelude.{◌≡◌, ◌≢◌, IsTrue, [], None, Some, Ok, Err, IfOk, IfErr, OnOk};
+ghost use Rattle.std.specs.Prelude.{◌≡◌, ◌≢◌, ◌++◌, ◌∷◌, ℕ, Bool, [], IfOk, IfErr, OnOk};
 ghost use Rattle.outside_traits.specs.DiskPairs.{pair_of};
+ghost use Rattle.outside_traits.specs.Faults.{HasCause};
+ghost use Rattle.outside_traits.specs.Moments.{History};
 ghost use Rattle.tree_model.specs.StoredTree.{IsStoredTree};
 ghost use Rattle.tree_model.specs.Tree.{Tree};
-ghost use Rattle.node_seq.specs.Trees.{StandsFor};
+ghost use Rattle.node_seq.specs.Trees.{OnTree, StandsFor};
 ghost use Rattle.recovery.specs.Openings.{TakesBehind};
-ghost use Rattle.call_contract.specs.States.{State, start};
+ghost use Rattle.call_contract.specs.States.{start};
 ghost use Rattle.command_lines.specs.ValidCommands.{IsValidWhat};
+ghost use Rattle.command_lines.specs.declared.command.StoreCall.TheVariants.{Dom};
 ghost use Rattle.command_lines.specs.declared.command.What.TheVariants.{Call};
-ghost use Rattle.command_lines.specs.declared.command.StoreCall.{StoreCall};
+ghost use Rattle.tree_model.specs.declared.dom_call.DomCall.TheVariants.{Doc};
+ghost use Rattle.tree_model.specs.declared.reply.Reply.TheVariants as reply;
 ghost use Rattle.command_words.specs.Commands.{Command, get as get_command, query as query_command};
-ghost use Rattle.durable_sessions.specs.Asked.{counts_of, MayBeAsked};
-ghost use Rattle.durable_sessions.specs.InTurn.{AskedInTurn};
-ghost use Rattle.durable_sessions.specs.Reasons.{reason_in, reason_of};
-ghost use Rattle.durable_sessions.specs.Standing.{Stands};
-ghost use Rattle.script_runs.specs.Counts.{DisksCountedWhere};
 ghost use Rattle.store_calls.specs.StoreCalls.{IsValidStoreCall, store_meaning};
-ghost use Rattle.xtc.specs.Documents.{answer_line, call_of, find_asks, label_in, question_asks};
+ghost use Rattle.xtc.specs.Documents.{call_of};
 ghost use Rattle.xtc.specs.TopCall.{tx_limit};
-ghost use Rattle.xtc.specs.inside.Asking.{all_asks, AreValidAsks, DocumentDone, IsStop};
+ghost use Rattle.xtc.specs.inside.Asking.{DocumentDone, IsStop};
 ghost use Rattle.xtc.specs.inside.CommandRuns.{Input, RunsCommand};
-ghost use Rattle.xtc.specs.inside.Showing.{IsLawful, Shows};
-ghost use Rattle.xtc.specs.inside.Stores.{Counts};
+ghost use Rattle.xtc.specs.inside.Showing.{AddsAnswer, AreLinesOf, IsHalt, IsLawful, said_line, Shows};
 
 use crate::answers::{answer_line, label_in};
-use crate::document::{SESSION, doing_of, open_core, written};
+use crate::document::{SESSION, written};
 use crate::question::Question;
 use crate::status::Status;
-use crate::top_call::{Finish, with_disks};
-use command_lines::{LineReply, StoreCall};
-use dewey_labels::{Label, NoMemory, Text};
-use durable_sessions::{Base, Stop, ask_in_turn};
-use journal::Journal;
-use node_seq::SortedSeq;
+use crate::top_call::{Finish, TX_LIMIT, with_disks};
+use call_contract::TreeCall;
+use command_lines::{LineAnswer, LineReply, StoreCall};
+use dewey_labels::{Label, List, NoMemory, Text};
+use durable_sessions::{Reason, Stop, reason_in};
+use node_seq::{NodeRead, SeqError};
 use outside_traits::{Disk, Sink};
 use recovery::Opened;
-use session_driver::Doing;
 use std::alloc::Global;
 use store_calls::StoreOp;
-use tree_model::DomCall;
-use tx_core::Core;
+use tree_model::{DomCall, Reply};
 use xpath_parser::parse;
 
 /// Writes the document with a name.
@@ -63,12 +59,12 @@ pub fn run_get<K: Sink, J: Disk, P: Disk>(
         }) }
 {
     let Opened {
-        mut journal,
+        journal,
         pages,
-        base,
+        mut base,
         number,
     } = store;
-    let text = show_document(alloc, name, Question::Whole, base, number, &mut journal);
+    let text = show_document(alloc, name, &Question::Whole, &mut base, number);
     with_disks(written(sink, text), journal.into_disk(), pages)
 }
 
@@ -94,145 +90,157 @@ pub fn run_query<K: Sink, J: Disk, P: Disk>(
         }) }
 {
     let Opened {
-        mut journal,
+        journal,
         pages,
-        base,
+        mut base,
         number,
     } = store;
-    let text = query_document(alloc, name, path, base, number, &mut journal);
+    let text = query_document(alloc, name, path, &mut base, number);
     with_disks(written(sink, text), journal.into_disk(), pages)
 }
 
 /// Answers the line of what a path finds from the document with a name.
-fn query_document<J: Disk>(
+fn query_document<S: NodeRead>(
     alloc: Global,
     name: &str,
     path: &str,
-    base: SortedSeq,
+    seq: &mut S,
     number: u32,
-    journal: &mut Journal<J>,
 ) -> Result<Vec<u8>, Status>
-    requires tree { IsStoredTree base }
-    requires next { TakesBehind journal.old number }
-    ensures done { (t : Tree) → StandsFor (Some base) t → DocumentDone J.is_known (start t number tx_limit) (query_command name.now path.now) []
-        journal.old.history journal.new.history (λ text. text.items) result }
+    ensures done { (is_known : Bool) (journal : History) (t : Tree) → StandsFor (S.contents seq.old) t
+        → DocumentDone is_known (start t number tx_limit) (query_command name.now path.now) [] journal journal (λ text. text.items) result }
     ensures stops { IfErr result IsStop }
-    ensures counts { Counts (result ≡ Err Status.DiskFault) journal.old.faults journal.new.faults }
+    ensures cause { HasCause Status.DiskFault (S.count seq.old) (S.count seq.new) result }
 {
     let path = parse(alloc, path)?;
-    show_document(alloc, name, Question::FoundBy(path), base, number, journal)
+    show_document(alloc, name, &Question::FoundBy(path), seq, number)
 }
 
-/// Answers the line of what is asked of the document with a name.
-fn show_document<J: Disk>(
+/// Answers the line of what is asked of the document with a name. Session 1 would be alone, and each of its calls answered at once by the committed tree;
+/// so the tree itself is asked, no request is listed, and no journal is needed.
+fn show_document<S: NodeRead>(
     alloc: Global,
     name: &str,
-    question: Question,
-    base: SortedSeq,
+    question: &Question,
+    seq: &mut S,
     number: u32,
-    journal: &mut Journal<J>,
 ) -> Result<Vec<u8>, Status>
-    requires tree { IsStoredTree base }
-    requires next { TakesBehind journal.old number }
-    requires lawful { IsLawful question }
-    ensures done { (c : Command) (t : Tree) → StandsFor (Some base) t → Shows c (start t number tx_limit) name.now question
-        → DocumentDone J.is_known (start t number tx_limit) c [] journal.old.history journal.new.history (λ text. text.items) result }
+    requires lawful { IsLawful question.now }
+    ensures done { (is_known : Bool) (journal : History) (c : Command) (t : Tree) → StandsFor (S.contents seq.old) t → Shows c (start t number tx_limit) name.now question.now
+        → DocumentDone is_known (start t number tx_limit) c [] journal journal (λ text. text.items) result }
     ensures stops { IfErr result IsStop }
-    ensures counts { Counts (result ≡ Err Status.DiskFault) journal.old.faults journal.new.faults }
+    ensures cause { HasCause Status.DiskFault (S.count seq.old) (S.count seq.new) result }
 {
-    let mut core = open_core(alloc, base, number)?;
-    show(alloc, &mut core, journal, name, &question)
+    if number == TX_LIMIT {
+        return Err(Status::DocumentRefused(Reason::Limit));
+    }
+    let lines = lines_alone(alloc, name, question, seq)?;
+    if let Some(why) = reason_in(lines.as_slice()) {
+        return Err(Status::DocumentRefused(why));
+    }
+    Ok(answer_line(alloc, question, lines.as_slice())?)
 }
 
-/// Finds the document with a name, asks it this, aborts, and answers the answer's line.
-fn show<B: Base, J: Disk>(
+/// What session 1 is answered, where nobody else is live: it begins, finds the document with a name, asks it this, and aborts.
+fn lines_alone<S: NodeRead>(
     alloc: Global,
-    core: &mut Core<StoreOp, B>,
-    journal: &mut Journal<J>,
     name: &str,
     question: &Question,
-) -> Result<Vec<u8>, Status>
-    requires may { MayBeAsked store_meaning B.contents core.old journal.old }
+    seq: &mut S,
+) -> Result<Vec<LineReply>, Stop>
     requires lawful { IsLawful question.now }
-    ensures done { (c : Command) (s : State StoreCall) → Stands store_meaning B.contents core.old s → Shows c s name.now question.now
-        → DocumentDone J.is_known s c [] journal.old.history journal.new.history (λ text. text.items) result }
-    ensures stops { IfErr result IsStop }
-    ensures counts { DisksCountedWhere (result ≡ Err Status.DiskFault) (counts_of B.count core.old journal.old) (counts_of B.count core.new journal.new) }
+    ensures lines { OnTree (S.contents seq.old) result (λ t lines. (n : ℕ) → n ≢ tx_limit → AreLinesOf (start t n tx_limit) name.now question.now lines.items) }
+    ensures unrefused { IfErr result IsHalt }
+    ensures cause { HasCause Stop.DiskFault (S.count seq.old) (S.count seq.new) result }
 {
-    let mut replies = Vec::new(alloc);
-    let label = find(alloc, core, journal, name, &mut replies)?;
-    Ok(ask_question(alloc, core, journal, question, label, &mut replies)?)
+    let doc = doc_of(alloc, name)?;
+    let found = reply_of(alloc, seq, doc)?;
+    let lines = found_lines(alloc, found)?;
+    match label_in(alloc, lines.as_slice())? {
+        Some(at) => with_answer(alloc, seq, question, at, lines),
+        None => Ok(lines),
+    }
 }
 
-/// Finds the document with a name.
-fn find<B: Base, J: Disk>(
-    alloc: Global,
-    core: &mut Core<StoreOp, B>,
-    journal: &mut Journal<J>,
-    name: &str,
-    replies: &mut Vec<LineReply>,
-) -> Result<Option<Label>, Stop>
-    requires may { MayBeAsked store_meaning B.contents core.old journal.old }
-    requires unrefused { reason_in replies.old.items ≡ None }
-    ensures asked { (s : State StoreCall) → Stands store_meaning B.contents core.old s
-        → AskedInTurn IsValidStoreCall store_meaning B.contents reason_of J.is_known s (find_asks name.now)
-        journal.old.history core.new journal.new.history replies.old.items replies.new.items result }
-    ensures label { IfOk result (λ label. label ≡ label_in replies.new.items) }
-    ensures may { OnOk result (MayBeAsked store_meaning B.contents core.new journal.new) }
-    ensures unrefused { OnOk result (reason_in replies.new.items ≡ None) }
-    ensures counts { DisksCountedWhere (result ≡ Err Stop.DiskFault) (counts_of B.count core.old journal.old) (counts_of B.count core.new journal.new) }
+/// The call that finds the document with a name.
+fn doc_of(alloc: Global, name: &str) -> Result<StoreCall, NoMemory>
+    ensures call { IfOk result (λ call. call ≡ Dom (Doc name.now)) }
+    ensures valid { IfOk result (λ call. IsValidWhat (Call call)) }
 {
-    let doings = find_doings(alloc, name)?;
-    ask_in_turn(alloc, core, journal, SESSION, doings, replies)?;
-    Ok(label_in(alloc, replies.as_slice())?)
+    Ok(StoreCall::Dom(DomCall::Doc(Text::of(alloc, name)?)))
 }
 
-/// Asks this of the document at a label and aborts, and answers the answer's line.
-fn ask_question<B: Base, J: Disk>(
+/// The lines, and behind them what is answered to this at a label, and to the abort.
+fn with_answer<S: NodeRead>(
     alloc: Global,
-    core: &mut Core<StoreOp, B>,
-    journal: &mut Journal<J>,
+    seq: &mut S,
     question: &Question,
-    label: Option<Label>,
-    replies: &mut Vec<LineReply>,
-) -> Result<Vec<u8>, Stop>
-    requires may { MayBeAsked store_meaning B.contents core.old journal.old }
-    requires unrefused { reason_in replies.old.items ≡ None }
+    at: Label,
+    mut lines: Vec<LineReply>,
+) -> Result<Vec<LineReply>, Stop>
     requires lawful { IsLawful question.now }
-    ensures asked { (s : State StoreCall) → Stands store_meaning B.contents core.old s
-        → AskedInTurn IsValidStoreCall store_meaning B.contents reason_of J.is_known s (question_asks question.now label)
-        journal.old.history core.new journal.new.history replies.old.items replies.new.items result }
-    ensures text { IfOk result (λ text. text.items ≡ answer_line question.now replies.new.items) }
-    ensures counts { DisksCountedWhere (result ≡ Err Stop.DiskFault) (counts_of B.count core.old journal.old) (counts_of B.count core.new journal.new) }
+    ensures lines { OnTree (S.contents seq.old) result (λ t now. AddsAnswer question.now at t lines.items now.items) }
+    ensures unrefused { IfErr result IsHalt }
+    ensures cause { HasCause Stop.DiskFault (S.count seq.old) (S.count seq.new) result }
 {
-    let doings = question_doings(alloc, question, label)?;
-    ask_in_turn(alloc, core, journal, SESSION, doings, replies)?;
-    Ok(answer_line(alloc, question, replies.as_slice())?)
+    let call = call_of(alloc, question, at)?;
+    let answer = reply_of(alloc, seq, call)?;
+    put_answer(&mut lines, answer)?;
+    Ok(lines)
 }
 
-fn find_doings(alloc: Global, name: &str) -> Result<Vec<Doing<StoreOp>>, NoMemory>
-    ensures asks { IfOk result (λ doings. all_asks doings.items ≡ find_asks name.now) }
-    ensures valid { IfOk result (λ doings. AreValidAsks (all_asks doings.items)) }
+/// The lines of the begin, the session's first, and of what was found.
+fn found_lines(alloc: Global, found: Reply) -> Result<Vec<LineReply>, NoMemory>
+    ensures { IfOk result (λ lines. lines.items ≡ said_line (reply.Number 1) ∷ said_line found ∷ []) }
 {
-    let doc = StoreCall::Dom(DomCall::Doc(Text::of(alloc, name)?));
-    Ok(vec![in alloc; Doing::Begin, doing_of(doc)]?)
+    Ok(vec![in alloc; said(Reply::Number(1)), said(found)]?)
 }
 
-fn question_doings(
-    alloc: Global,
-    question: &Question,
-    label: Option<Label>,
-) -> Result<Vec<Doing<StoreOp>>, NoMemory>
-    requires { IsLawful question.now }
-    ensures asks { IfOk result (λ doings. all_asks doings.items ≡ question_asks question.now label) }
-    ensures valid { IfOk result (λ doings. AreValidAsks (all_asks doings.items)) }
+/// Puts the lines of an answer and of the abort behind.
+fn put_answer(lines: &mut Vec<LineReply>, answer: Reply) -> Result<(), NoMemory>
+    ensures { OnOk result (lines.new.items ≡ lines.old.items ++ said_line answer ∷ said_line reply.Nothing ∷ []) }
 {
-    match label {
-        Some(at) => {
-            let call = call_of(alloc, question, at)?;
-            Ok(vec![in alloc; doing_of(call), Doing::Abort]?)
-        }
-        None => Ok(Vec::new(alloc)),
+    lines.push(said(answer))?;
+    lines.push(said(Reply::Nothing))?;
+    Ok(())
+}
+
+/// A line of session 1.
+fn said(reply: Reply) -> LineReply
+    ensures { result ≡ said_line reply }
+{
+    LineReply::Said {
+        session: SESSION,
+        woke: false,
+        answer: LineAnswer::Reply(reply),
+    }
+}
+
+/// What a map answers to a call.
+fn reply_of<S: NodeRead>(alloc: Global, seq: &mut S, call: StoreCall) -> Result<Reply, Stop>
+    requires valid { IsValidWhat (Call call) }
+    ensures reply { OnTree (S.contents seq.old) result (λ t reply. reply ≡ store_meaning.reply call t) }
+    ensures valid { IsValidStoreCall call }
+    ensures unchanged { S.unchanged seq.old seq.new }
+    ensures unrefused { IfErr result IsHalt }
+    ensures cause { HasCause Stop.DiskFault (S.count seq.old) (S.count seq.new) result }
+{
+    answered(alloc, seq, &StoreOp::new(call))
+}
+
+/// What a map answers to a call of any kind. What the call changes is left behind.
+fn answered<C: TreeCall, S: NodeRead>(alloc: Global, seq: &mut S, call: &C) -> Result<Reply, Stop>
+    ensures reply { OnTree (S.contents seq.old) result (λ t reply. reply ≡ C.meaning.reply call.now t) }
+    ensures valid { C.is_valid call.now }
+    ensures unchanged { S.unchanged seq.old seq.new }
+    ensures unrefused { IfErr result IsHalt }
+    ensures cause { HasCause Stop.DiskFault (S.count seq.old) (S.count seq.new) result }
+{
+    let mut changes = List::new(alloc);
+    match call.apply(alloc, seq, &mut changes) {
+        Ok(reply) => Ok(reply),
+        Err(SeqError::DiskFault) => Err(Stop::DiskFault),
+        Err(SeqError::NoMemory) => Err(Stop::NoMemory),
     }
 }
 

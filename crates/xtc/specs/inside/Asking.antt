@@ -1,5 +1,5 @@
 -- What the commands that ask in turn leave of the journal of a store, by their statuses, and what they write.
-use Rattle.std.specs.Prelude.{◌≡◌, ◌≤◌, ◌+◌, ℕ, Bool, false, List, [], ◌++◌, length, Option, Some, Result, Ok, Err}
+use Rattle.std.specs.Prelude.{◌≡◌, ◌≤◌, ◌+◌, ℕ, Bool, false, List, ◌++◌, length, Option, Some, Result, Ok, Err}
 use Rattle.outside_traits.specs.Moments.{History}
 use Rattle.tree_model.specs.declared.fragment.Fragment.{Fragment}
 use Rattle.call_contract.specs.States.{State}

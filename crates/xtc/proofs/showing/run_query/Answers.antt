@@ -1,11 +1,12 @@
-use Rattle.std.proofs.Common.{◌≡◌, ℕ, refl, sym, subst}
+use Rattle.std.proofs.Common.{◌≡◌, refl, sym, subst}
 use Rattle.std.specs.Prelude.{Err}
 use Rattle.outside_traits.specs.DiskPairs.{pair_of}
 use Rattle.xtc.specs.declared.status.Status.TheVariants.{DiskFault}
 use Rattle.xtc.specs.declared.top_call.Finish.{Finish}
 use Rattle.xtc.specs.inside.CommandRuns.{Output, Disks, RunsCommand}
-use Rattle.xtc.specs.inside.Stores.{Counts}
 use Rattle.command_words.specs.Commands.{query}
+use Rattle.xtc.proofs.CommandRunLaws.{still_counts}
+use Rattle.xtc.proofs.LoneLines.{none_counted}
 use Rattle.xtc.proofs.ShownLaws.{shown_runs}
 use Rattle.xtc.proofs.showing.run_query.Goals as goal
 
@@ -23,8 +24,8 @@ returns g c = λ input.
       faults = record { journal = g.J.Disk.faults f.journal; pages = g.P.Disk.faults f.pages };
     })) (sym c.with_disks.ensures.same)
     (shown_runs g.J.Disk.is_known g.P.Disk.is_known store.base store.number (query c.args.name.now c.args.path.now) (record { unread = refl; ran = λ t n limit status opening o r. r }) shown.result (λ t. t.items) c.written.result
-    input output output_now store.journal.history (history store.pages) shown.new.journal.history before.faults (record { journal = g.J.Disk.faults disk; pages = g.P.Disk.faults store.pages })
+    input output output_now store.journal.history (history store.pages) store.journal.history before.faults (record { journal = g.J.Disk.faults disk; pages = g.P.Disk.faults store.pages })
     (pair_of (g.J.Disk.history disk) (history store.pages)) shown.ensures.stops
-    (shown.ensures.done)
+    (λ t is. shown.ensures.done g.J.Disk.is_known store.journal.history t is)
     c.written.ensures.text c.written.ensures.none c.into_disk.ensures.history refl c.with_disks.ensures.journal c.with_disks.ensures.pages c.written.ensures.write
-    (subst (λ (n : ℕ). Counts (shown.result ≡ Err DiskFault) store.journal.faults n) (sym c.into_disk.ensures.faults) shown.ensures.counts) refl)
+    (still_counts (shown.result ≡ Err DiskFault) store.journal.faults (g.J.Disk.faults disk) c.into_disk.ensures.faults (λ is. none_counted (shown.ensures.cause.failed is))) refl)
