@@ -6,6 +6,7 @@ use Rattle.std.proofs.lemmas.Option.{none-some, same_Some}
 use Rattle.std.proofs.lemmas.Result.{err_from_is_err_and}
 use Rattle.tree_model.specs.Entries.{Entries}
 use Rattle.node_pages.proofs.FileLaws.{indexed}
+use Rattle.node_pages.proofs.FirstBroken.{broken_there, file_broken, kept_before}
 use Rattle.node_pages.specs.PageFiles.{Index, IsIndex, contents_of_file, file_page, index_behind, index_of_file}
 use Rattle.paged_seq.specs.PagedMaps.{entries_or_none, file_entries, map_of_file, records_of, valid_entries}
 use Rattle.node_pages.specs.PageZero.{Header, header_in}
@@ -15,7 +16,7 @@ use Rattle.node_records.specs.declared.open_error.OpenError.TheVariants.{Damaged
 use Rattle.page_store.specs.Pages.{page_of}
 use Rattle.node_pages.specs.PagesIn.{after_pages, starts_in}
 use Rattle.node_pages.specs.Scanning.{and_then}
-use Rattle.paged_seq.specs.PagedFiles.{HasReason, IsIndexOf, IsPageWith, index_at}
+use Rattle.paged_seq.specs.PagedFiles.{AllPagesKeepRules, HasReason, IsFirstBroken, IsIndexOf, IsPageWith, index_at}
 
 take_whole : (n : ℕ) (bytes : List ℕ) → length bytes ≤ n → take n bytes ≡ bytes
 take_whole zero [] h = refl
@@ -35,6 +36,19 @@ pub reason_on : (P Q : ℕ → Type 0) (C D : Type 0) → ((n : ℕ) → P n →
 reason_on P Q C D f h (Damaged place) r = (r.0, r.1, f r.0 r.2)
 reason_on P Q C D f h DiskFault r = h r
 reason_on P Q C D f h NoMemory r = r
+
+-- ---- the first page that breaks a rule
+
+pub first_broken : (file : List ℕ) (n : ℕ) → contents_of_file file ≡ Err n → IsFirstBroken file n
+first_broken file n is =
+    let pages = file_broken file n is in
+    record { breaks = broken_there (file_page file) n pages; before = λ m less. kept_before (file_page file) (Err n) m pages less }
+
+pub all_kept : (file : List ℕ) (es : Entries) (base : ℕ) → contents_of_file file ≡ Ok (es, base) → AllPagesKeepRules file
+all_kept [] es base is = tt
+all_kept (b ∷ bs) es base is = λ m. kept_before (file_page (b ∷ bs)) (Ok (es, base)) m is tt
+
+-- ---- pages that are taken
 
 module _ {S : Type 0} (after : S → List ℕ → Result S ℕ) (page : ℕ → List ℕ) where
   -- one page more was taken

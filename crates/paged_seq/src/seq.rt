@@ -6,7 +6,7 @@ ghost use Rattle.tree_model.specs.Entries.{Sorted, first_above, get, last_below}
 ghost use Rattle.node_pages.specs.PageFiles.{contents_of_file};
 ghost use Rattle.node_seq.specs.Reads.{IsEntryOfTrees, LiesAbove, LiesBelow};
 ghost use Rattle.node_seq.specs.declared.node_read.SeqError.TheVariants.{DiskFault};
-ghost use Rattle.paged_seq.specs.PagedFiles.{BreaksPages, HasReason};
+ghost use Rattle.paged_seq.specs.PagedFiles.{AllPagesKeepRules, BreaksPages, HasReason, IfDamagedAtFirst};
 ghost use Rattle.paged_seq.specs.PagedMaps.{chunks_found, chunks_of_entry, file_entries, valid_entries};
 
 use crate::opening::{PagesFault, read_index};
@@ -53,6 +53,9 @@ impl<P: Disk + Drop> PagedSeq<P> {
         // Damaged is a file of which `contents_of_file` is a page, the first that breaks a rule; the place is where it begins.
         ensures reason { IfErr result (λ refused. HasReason (BreaksPages P.is_known (P.history disk).now.reads)
             (FaultCounted (P.faults disk) (P.faults refused.disk)) refused.fault) }
+        // The rules are those of one page each: that page breaks one, no page before it does, and in a file that opens none does.
+        ensures first { IfErr result (λ refused. IfDamagedAtFirst P.is_known (P.history disk).now.reads refused.fault) }
+        ensures whole { OnOk result (IsTrue P.is_known → AllPagesKeepRules (P.history disk).now.reads) }
         ensures same { IsTrue P.is_known → MatchResult result (λ seq. P.history seq.disk ≡ P.history disk) (λ refused. P.history refused.disk ≡ P.history disk) }
         ensures faults { MatchResult result (λ seq. P.faults seq.disk ≡ P.faults disk) (λ refused. P.faults disk ≤ P.faults refused.disk) }
     {
