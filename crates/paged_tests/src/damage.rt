@@ -1,0 +1,107 @@
+//! Page files that break a rule, as docs/FILE_FORMAT.md tells what becomes of them.
+use crate::files::{document, file_of, key, letters, opened, padded};
+use std::alloc::Global;
+use std::test::Fail;
+use tree_model::Record;
+
+/// Where a file is damaged, with bytes at some places set to others.
+fn place_with(
+    alloc: Global,
+    mut bytes: Vec<u8>,
+    others: &[(usize, u8)],
+) -> Result<Option<u64>, Fail> {
+    for &(at, byte) in others {
+        if at < bytes.len() {
+            bytes[at] = byte;
+        }
+    }
+    match opened(alloc, bytes, 1)? {
+        Ok(_) => Ok(None),
+        Err(place) => Ok(Some(place)),
+    }
+}
+
+/// The page file of "A page file byte by byte": how long it is, which bytes are others, and where it is damaged; three pages have 24,576 bytes.
+const ROWS: [(usize, &[(usize, u8)], Option<u64>); 23] = [
+    (0, &[], None),
+    (24_576, &[], None),
+    (30_000, &[(24_576, 7)], None),
+    // Page 0: its length, magic, zeros and counts.
+    (100, &[], Some(0)),
+    (24_576, &[(0, 2)], Some(0)),
+    (24_576, &[(24, 2)], Some(0)),
+    (24_576, &[(15, 4)], Some(0)),
+    // A data page: its length, count and zeros.
+    (8_300, &[], Some(8_192)),
+    (24_576, &[(8_193, 4)], Some(8_192)),
+    (24_576, &[(8_193, 0)], Some(8_192)),
+    (24_576, &[(16_383, 1)], Some(8_192)),
+    // A label that begins with 2, a name that is no UTF-8.
+    (24_576, &[(8_194, 2)], Some(8_192)),
+    (24_576, &[(8_196, 0xFF)], Some(8_192)),
+    // A record that begins with chunk 1, chunks that are too short or of no kind, keys that fall, a kind of no record.
+    (24_576, &[(8_216, 1)], Some(8_192)),
+    (24_576, &[(8_217, 0)], Some(8_192)),
+    (24_576, &[(8_217, 2)], Some(8_192)),
+    (24_576, &[(8_223, 0x67)], Some(8_192)),
+    (24_576, &[(8_233, 5)], Some(8_192)),
+    // The directory: its bytes, no page of it, one too few, one too many; and the first of two faults.
+    (24_576, &[(16_386, 2)], Some(16_384)),
+    (16_384, &[], Some(16_384)),
+    (16_384, &[(15, 2), (23, 0)], Some(0)),
+    (32_768, &[(15, 4), (23, 2)], Some(24_576)),
+    (24_576, &[(16_386, 2), (8_193, 0)], Some(8_192)),
+];
+
+#[test]
+fn each_file_is_damaged_at_its_place(rt: HostRuntime) -> Result<(), Fail> {
+    let alloc = rt.alloc();
+    for &(length, others, want) in &ROWS {
+        let mut bytes = file_of(alloc, &mut document(alloc)?)?;
+        bytes.resize(length, 0)?;
+        let place = place_with(alloc, bytes, others)?;
+        assert_eq!(rt; place, want, "with {length} bytes and {others:?}");
+    }
+    Ok(())
+}
+
+/// How long the text of the document is, which byte is another, and where the file is damaged. It begins on page 1 and ends on page 3.
+const LONG: [(usize, usize, u8, u64); 5] = [
+    // The flag of its second chunk, no UTF-8 in its last, the count of page 2, and the last byte of page 3.
+    (20_000, 9_284, 1, 8_192),
+    (20_000, 24_600, 0xFF, 8_192),
+    (20_000, 16_385, 9, 16_384),
+    (20_000, 32_767, 1, 24_576),
+    // The flag of its last chunk, which is a whole one: the record doesn't end.
+    (20_479, 29_779, 0, 8_192),
+];
+
+#[test]
+fn a_record_that_is_none_is_damage_where_it_begins(rt: HostRuntime) -> Result<(), Fail> {
+    let alloc = rt.alloc();
+    for &(length, at, byte, want) in &LONG {
+        let mut seq = document(alloc)?;
+        let text = key(alloc, &[1, 1001, 1001, 1001], "")?;
+        seq.put(alloc, text, Record::Text(letters(alloc, length)?))?;
+        let bytes = file_of(alloc, &mut seq)?;
+        assert_eq!(rt; bytes.len(), 40_960);
+        let place = place_with(alloc, bytes, &[(at, byte)])?;
+        assert_eq!(rt; place, Some(want), "at {at} of a text of {length}");
+    }
+    Ok(())
+}
+
+/// The document's entries on two pages, though one has room for them: page 0, the two, and their directory.
+const ROOMY: [&[u8]; 4] = [
+    b"XTCPAGE1\x00\x00\x00\x01\x00\x00\x00\x04\x00\x00\x00\x02\x00\x00\x00\x01",
+    b"\x00\x02\x01\x00x\x00\x00\x00\x01\x00\x07\x041.1001\x01\x83\x69\x00\x00\x00\x00\x01\x00\x01\x01",
+    b"\x00\x01\x01\x83\x69\x83\x69\x00\x00\x00\x00\x01\x00\x02\x02a",
+    b"\x00\x02\x01\x00x\x00\x00\x00\x00\x00\x00\x01\x01\x83\x69\x83\x69\x00\x00\x00\x00\x00\x00\x00\x02",
+];
+
+#[test]
+fn a_page_with_room_is_the_one_that_breaks_the_rule(rt: HostRuntime) -> Result<(), Fail> {
+    let place = place_with(rt.alloc(), padded(rt.alloc(), &ROOMY)?, &[])?;
+    assert_eq!(rt; place, Some(8_192));
+    Ok(())
+}
