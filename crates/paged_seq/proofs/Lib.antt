@@ -2,4 +2,5 @@ pub mod CountLaws
 pub mod MapLaws
 pub mod OpenLaws
 pub mod PlaceLaws
+pub mod RecordLaws
 pub mod ValidLaws

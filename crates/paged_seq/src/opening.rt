@@ -53,6 +53,7 @@ fn page_bytes<P: Disk + Drop>(
 ) -> Result<Vec<u8>, SeqError>
     requires count { IsTrue P.is_known → count ≡ length (P.history file.old.disk).now.reads }
     ensures bytes { IfOk result (λ bytes. IsTrue P.is_known → bytes.items ≡ page_of page (P.history file.old.disk).now.reads) }
+    ensures most { file.new.pool.most ≡ file.old.pool.most }
     ensures same { IsTrue P.is_known → P.history file.new.disk ≡ P.history file.old.disk }
     ensures cause { HasCause seq.DiskFault (P.faults file.old.disk) (P.faults file.new.disk) result }
 {
@@ -84,6 +85,7 @@ fn take_page<P: Disk + Drop, T: PagePass>(
     ensures ok { OnOk result (IsTrue P.is_known → T.after pass.old (file_page (P.history file.old.disk).now.reads page) ≡ Ok pass.new) }
     ensures reason { IfErr result (HasReason (IsPageWith (λ n. IsTrue P.is_known → T.after pass.old (file_page (P.history file.old.disk).now.reads page) ≡ Err n))
         (FaultCounted (P.faults file.old.disk) (P.faults file.new.disk))) }
+    ensures most { file.new.pool.most ≡ file.old.pool.most }
     ensures same { IsTrue P.is_known → P.history file.new.disk ≡ P.history file.old.disk }
     ensures cause { HasCause DiskFault (P.faults file.old.disk) (P.faults file.new.disk) result }
 {
@@ -112,6 +114,7 @@ fn take_pages<P: Disk + Drop, T: PagePass>(
     ensures ok { OnOk result (IsTrue P.is_known → after_pages T.after (file_page (P.history file.old.disk).now.reads) first pages pass.old ≡ Ok pass.new) }
     ensures reason { IfErr result (HasReason (IsPageWith (λ n. IsTrue P.is_known → after_pages T.after (file_page (P.history file.old.disk).now.reads) first pages pass.old ≡ Err n))
         (FaultCounted (P.faults file.old.disk) (P.faults file.new.disk))) }
+    ensures most { file.new.pool.most ≡ file.old.pool.most }
     ensures same { IsTrue P.is_known → P.history file.new.disk ≡ P.history file.old.disk }
     ensures cause { HasCause DiskFault (P.faults file.old.disk) (P.faults file.new.disk) result }
 {
@@ -131,6 +134,7 @@ fn read_zero<P: Disk + Drop>(
     ensures header { IfOk result (λ h. IsTrue P.is_known → header_in (file_page (P.history file.old.disk).now.reads 0) ≡ Some h) }
     ensures reason { IfErr result (HasReason (IsPageWith (λ n. (n ≡ 0) × (IsTrue P.is_known → header_in (file_page (P.history file.old.disk).now.reads 0) ≡ None)))
         (FaultCounted (P.faults file.old.disk) (P.faults file.new.disk))) }
+    ensures most { file.new.pool.most ≡ file.old.pool.most }
     ensures same { IsTrue P.is_known → P.history file.new.disk ≡ P.history file.old.disk }
     ensures cause { HasCause DiskFault (P.faults file.old.disk) (P.faults file.new.disk) result }
 {
@@ -157,6 +161,7 @@ fn read_starts<P: Disk + Drop>(
     ensures few { IfOk result (λ starts. length starts < 2 ^ 32) }
     ensures reason { IfErr result (HasReason (IsPageWith (λ n. IsTrue P.is_known → starts_in (file_page (P.history file.old.disk).now.reads) header.now ≡ Err n))
         (FaultCounted (P.faults file.old.disk) (P.faults file.new.disk))) }
+    ensures most { file.new.pool.most ≡ file.old.pool.most }
     ensures same { IsTrue P.is_known → P.history file.new.disk ≡ P.history file.old.disk }
     ensures cause { HasCause DiskFault (P.faults file.old.disk) (P.faults file.new.disk) result }
 {
@@ -205,6 +210,7 @@ pub(crate) fn read_index<P: Disk + Drop>(
     ensures few { IfOk result (λ i. length i.1 < 2 ^ 32) }
     ensures reason { IfErr result (HasReason (IsPageWith (λ n. IsTrue P.is_known → index_of_file (P.history file.old.disk).now.reads ≡ Err n))
         (FaultCounted (P.faults file.old.disk) (P.faults file.new.disk))) }
+    ensures most { file.new.pool.most ≡ file.old.pool.most }
     ensures same { IsTrue P.is_known → P.history file.new.disk ≡ P.history file.old.disk }
     ensures cause { HasCause DiskFault (P.faults file.old.disk) (P.faults file.new.disk) result }
 {

@@ -106,6 +106,7 @@ impl<P: Disk + Drop> PageFile<P> {
         requires within { IsTrue P.is_known → length (page_of page (P.history self.old.disk).now.reads) ≡ 8_192 }
         ensures there { OnOk result (is_kept page self.new.pool ≡ true) }
         ensures reads { self.new.pool.reads ≤ self.old.pool.reads + 1 }
+        ensures most { self.new.pool.most ≡ self.old.pool.most }
         ensures same { IsTrue P.is_known → P.history self.new.disk ≡ P.history self.old.disk }
         ensures cause { HasCause DiskFault (P.faults self.old.disk) (P.faults self.new.disk) result }
     {

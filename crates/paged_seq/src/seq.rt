@@ -12,6 +12,7 @@ ghost use Rattle.paged_seq.specs.PagedMaps.{chunks_found, chunks_of_entry, file_
 use crate::opening::{PagesFault, read_index};
 use crate::page_file::PageFile;
 use crate::place::Place;
+use crate::records::read_records;
 use crate::valid::{pass_over, valid_at};
 use dewey_labels::List;
 use node_pages::PageStart;
@@ -57,6 +58,7 @@ impl<P: Disk + Drop> PagedSeq<P> {
         ensures first { IfErr result (λ refused. IfDamagedAtFirst P.is_known (P.history disk).now.reads refused.fault) }
         ensures whole { OnOk result (IsTrue P.is_known → AllPagesKeepRules (P.history disk).now.reads) }
         ensures same { IsTrue P.is_known → MatchResult result (λ seq. P.history seq.disk ≡ P.history disk) (λ refused. P.history refused.disk ≡ P.history disk) }
+        ensures most { IfOk result (λ seq. seq.pool.most ≡ pool.most) }
         ensures faults { MatchResult result (λ seq. P.faults seq.disk ≡ P.faults disk) (λ refused. P.faults disk ≤ P.faults refused.disk) }
     {
         let mut file = PageFile::new(disk, pool);
@@ -95,6 +97,22 @@ impl<P: Disk + Drop> PagedSeq<P> {
         ensures { result ≡ self.now.pool.reads }
     {
         self.file.reads()
+    }
+
+    /// All entries, whether a valid tree may have them or not, in the order of their keys. It reads each data page once, and copies no record.
+    pub fn entries(&mut self, alloc: Global) -> Result<List<(Key, Record)>, SeqError>
+        ensures value { IfOk result (λ all. IsTrue P.is_known → all ≡ file_entries (P.history self.old.disk).now.reads) }
+        ensures sorted { IsTrue P.is_known → Sorted (file_entries (P.history self.old.disk).now.reads) }
+        ensures reads { self.new.pool.reads ≤ self.old.pool.reads + length self.old.index.starts }
+        ensures most { self.new.pool.most ≡ self.old.pool.most }
+        ensures same { IsTrue P.is_known → P.history self.new.disk ≡ P.history self.old.disk }
+        ensures index { self.new.index ≡ self.old.index }
+        ensures cause { HasCause DiskFault (P.faults self.old.disk) (P.faults self.new.disk) result }
+    {
+        // It tells that they are in order.
+        let _sorted = self.most_entries();
+        let all = read_records(alloc, &mut self.file, self.starts.as_slice());
+        all
     }
 
     /// The record at a key, whether a valid tree may have it or not. At most two pages are read, and one a chunk of the record.

@@ -15,6 +15,7 @@ loop-page-preserved g c =
     record {
       same = λ known. c.take_page.ensures.same known ∙ inv.same known;
       faults = c.in_ok-take_page.ensures.cause.exact ∙ inv.faults;
+      most = c.take_page.ensures.most ∙ inv.most;
       taken = λ known.
           let page = file_page (g.P.Disk.history c.args.file.now.disk).now.reads in
           let end = c.args.first + c.args.pages in
@@ -40,3 +41,6 @@ returns-in_err-take_page-clause-reason g c =
     (λ m broken known. one_broken g.T.PagePass.after page all n (end - n) (end - (n + 1)) c.loop-page.pass m (omega (arith, less)) (inv.taken known)
     (subst (λ (h : History). g.T.PagePass.after c.loop-page.pass (file_page h.now.reads n) ≡ Err m) (inv.same known) (broken known)))
     (λ counted. subst (λ (f : ℕ). FaultCounted f after) inv.faults counted) x c.in_err-take_page.ensures.reason)
+
+pub returns-in_err-take_page-clause-most : goal.returns-in_err-take_page-clause-most
+returns-in_err-take_page-clause-most g c = c.take_page.ensures.most ∙ c.loop-page.invariant.most
