@@ -1,0 +1,7 @@
+mod AnswerLaws
+mod BaseLaws
+mod MergeLaws
+mod NetLaws
+mod OverLaws
+mod PagedSteps
+mod SyncSteps

@@ -1,0 +1,28 @@
+use Rattle.std.proofs.Common.{◌≡◌, false, true, ◌++◌, ◌∷◌, List, option_copied, sym, ap, subst, ◌∙◌}
+use Rattle.tree_model.specs.Changes.{Rising}
+use Rattle.tree_model.specs.Entries.{Entries, changed}
+use Rattle.tree_model.specs.declared.change.Change.{Change}
+use Rattle.paged_recovery.specs.inside.Merging.{NoneBefore, comes_before}
+use Rattle.paged_recovery.proofs.MergeLaws.{none_first, one_put}
+use Rattle.paged_recovery.proofs.merging.put_before.Goals as goal
+
+pub loop-change-preserved : goal.loop-change-preserved
+loop-change-preserved c =
+    let limit = option_copied c.args.limit in
+    let change = c.in-Some.change.now in
+    let behind = c.in-Some.behind.now in
+    let is : c.loop-change.left.now ≡ change ∷ behind = c.in-Some.ensures.cases.0 in
+    let inv = c.loop-change.invariant in
+    let rising = subst Rising is inv.rising in
+    let before : comes_before change.key limit ≡ true = sym c.comes_before.ensures ∙ c.if-not-comes_before.false in
+    record {
+      rising = rising.1;
+      put = λ es h. one_put limit change behind c.loop-change.made.items c.put_copy.new.made.items es (c.args.made.now.items ++ changed c.args.changes.now es) rising before c.in_ok-put_copy.ensures h
+          (ap (λ (cs : List Change). c.loop-change.made.items ++ changed cs es) (sym is) ∙ inv.put es h);
+    }
+
+pub returns-then-not-comes_before-clause-none : goal.returns-then-not-comes_before-clause-none
+returns-then-not-comes_before-clause-none c =
+    let limit = option_copied c.args.limit in
+    let is : c.loop-change.left.now ≡ c.in-Some.change.now ∷ c.in-Some.behind.now = c.in-Some.ensures.cases.0 in
+    subst (NoneBefore limit) (sym is) (sym c.comes_before.ensures ∙ c.if-not-comes_before.true)

@@ -1,0 +1,8 @@
+use Rattle.std.proofs.Common.{[], List, ap, ◌∙◌}
+use Rattle.tree_model.specs.Changes.{laid}
+use Rattle.tree_model.specs.declared.change.Change.{Change}
+use Rattle.paged_recovery.proofs.NetLaws.{layer_is}
+use Rattle.paged_recovery.proofs.netting.layer_of.Goals as goal
+
+pub returns : goal.returns
+returns c = layer_is c.args.changes c.new-own.result c.add.new.self c.new-layers.result.changes c.push_layer.new.self.changes c.requires.list c.new-own.ensures c.in_ok-add.ensures.changes (ap (λ l. l.changes) c.new-layers.ensures) c.push_layer.ensures.changes

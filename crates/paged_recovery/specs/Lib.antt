@@ -1,0 +1,4 @@
+-- What contracts say.
+pub mod Openings
+-- Words that only private functions and the proofs use.
+pub mod inside

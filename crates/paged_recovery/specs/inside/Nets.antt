@@ -1,0 +1,27 @@
+-- The net changes of commits over the records that pages hold (docs/DECISIONS.md, "Commits over pages are one layer").
+use Rattle.std.specs.Prelude.{◌≡◌, ℕ, List, [], ◌∷◌, Option, Some}
+use Rattle.tree_model.specs.Entries.{Entries, changed}
+use Rattle.tree_model.specs.StoredTree.{IsStoredTree, broken_at}
+use Rattle.tree_model.specs.declared.change.Change.{Change}
+use Rattle.tree_model.specs.declared.key.Key.{Key}
+use Rattle.tree_model.specs.declared.record.Record.{Record}
+use Rattle.node_records.specs.declared.open_error.Place.{Place}
+use Rattle.node_records.specs.declared.open_error.File.TheVariants.{Tree}
+use Rattle.journal.specs.declared.group.Group.{Group}
+use Rattle.paged_seq.specs.PagedMaps.{valid_entries}
+use Rattle.store_contents.specs.Contents.{after_commits, last_of, place_in}
+
+-- what is said of keys, as changes
+abbrev pub as_changes : List (Key × Option Record) → List Change
+as_changes [] = []
+as_changes (e ∷ es) = record { key = e.0; now = e.1 } ∷ as_changes es
+
+-- these changes make of the valid records that pages hold what the commits make of all of them, which is a tree's map; and this is the last number
+pub record NetOf (records : Entries) (base : ℕ) (commits : List Group) (changes : List Change) (number : ℕ) : Type 0 where
+  pub last : number ≡ last_of commits base
+  pub map : changed changes (valid_entries records) ≡ after_commits commits records
+  pub tree : IsStoredTree (after_commits commits records)
+
+-- the place of the first of these entries that breaks a rule of the tree
+abbrev pub IsMisfit : Entries → Place → Type 0
+IsMisfit es place = (n : ℕ) × (broken_at es ≡ Some n) × (place ≡ place_in Tree n)

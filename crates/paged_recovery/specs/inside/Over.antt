@@ -1,0 +1,52 @@
+-- What is answered of a journal, by what was read of the pages beside it.
+use Rattle.std.specs.Prelude.{◌≡◌, ℕ, Bool, true, not, ◌&&◌, IsTrue, if◌then◌else◌, List, Option, Some, None, is_some, Result, Ok, Err}
+use Rattle.dewey_labels.specs.Lists.{is_empty}
+use Rattle.outside_traits.specs.Moments.{History}
+use Rattle.tree_model.specs.Entries.{Entries}
+use Rattle.tree_model.specs.declared.change.Change.{Change}
+use Rattle.node_records.specs.declared.open_error.Place.{Place}
+use Rattle.node_records.specs.declared.open_error.File.TheVariants.{Journal, Pages}
+use Rattle.journal.specs.Groups.{only_commits}
+use Rattle.journal.specs.Heads.{first_gate}
+use Rattle.journal.specs.Journals.{read}
+use Rattle.journal.specs.Openings.{Opens}
+use Rattle.journal.specs.declared.group.Group.{Group}
+use Rattle.journal.specs.declared.group.Groups.{Groups}
+use Rattle.store_contents.specs.Contents.{Contents, checked, first_broken, goes_on_from, place_in, with_commits}
+use Rattle.paged_recovery.specs.inside.Nets.{NetOf}
+
+-- no group at all
+abbrev pub has_none : Groups → Bool
+has_none groups = is_empty groups.commits && not (is_some groups.images)
+
+-- what is answered of a journal's groups over these records with this base
+abbrev pub groups_over : Entries × ℕ → Groups → Result Contents Place
+groups_over held groups =
+    if is_some groups.images then Err (place_in Pages 0)
+    else if goes_on_from (Some held.1) groups.commits then checked (with_commits groups.commits held) else Err (place_in Journal first_gate)
+
+-- the same of a journal's bytes
+abbrev pub answer_over : Entries × ℕ → List ℕ → Result Contents Place
+answer_over held journal = elim (read journal) [
+  | Ok groups ↦ groups_over held groups
+  | Err at ↦ Err (place_in Journal (first_broken (Some held.1) journal at))
+]
+
+-- the place in a journal, or of its images, that comes before a rule which the pages with this base break, if there is one
+abbrev pub groups_before : Option ℕ → Groups → Option Place
+groups_before base groups =
+    if is_some groups.images then Some (place_in Pages 0)
+    else if goes_on_from base groups.commits then None else Some (place_in Journal first_gate)
+
+abbrev pub answer_before : Option ℕ → List ℕ → Option Place
+answer_before base journal = elim (read journal) [
+  | Ok groups ↦ groups_before base groups
+  | Err at ↦ Some (place_in Journal (first_broken base journal at))
+]
+
+-- the journal was opened beside these records: its commits go on from their base, and this is what they make of them
+pub record FollowsOver (is_known : Bool) (records : Entries) (base : ℕ) (old new : History) (changes : List Change) (number : ℕ) : Type 0 where
+  pub commits : List Group
+  pub goes_on : goes_on_from (Some base) commits ≡ true
+  pub net : NetOf records base commits changes number
+  pub opens : IsTrue is_known → Opens old new (only_commits commits)

@@ -1,0 +1,2 @@
+mod CatalogueLaws
+mod StandLaws

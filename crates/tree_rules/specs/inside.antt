@@ -1,0 +1,2 @@
+-- Words that only private functions and the proofs use.
+pub mod Named
