@@ -1,0 +1,176 @@
+//! Stores with pages as their two files have them, damaged at each rule's place, and failing at each call of their disks.
+use dewey_labels::{Label, List, NoMemory};
+use node_records::{File, OpenError, Place};
+use node_seq::{SeqError, entries_above};
+use outside_kinds::MemDisk;
+use outside_traits::Disk;
+use overlays::Stacked;
+use paged_recovery::{Opened, open_store};
+use std::alloc::Global;
+use std::test::Fail;
+use tree_model::Key;
+
+/// The three pages of the document x with the element a, without the zeros behind, as FILE_FORMAT has them.
+const PAGES: [&[u8]; 3] = [
+    b"XTCPAGE1\x00\x00\x00\x01\x00\x00\x00\x03\x00\x00\x00\x01\x00\x00\x00\x01",
+    b"\x00\x03\x01\x00x\x00\x00\x00\x01\x00\x07\x041.1001\x01\x83\x69\x00\x00\x00\x00\x01\x00\x01\x01\x01\x83\x69\x83\x69\x00\x00\x00\x00\x01\x00\x02\x02a",
+    b"\x00\x01\x01\x00x\x00\x00\x00\x00\x00\x00\x01",
+];
+
+/// A journal without commits.
+const NEW: &[u8] = b"\x01XTCJRN1\x00";
+
+/// A put of the text `t` as the child 1.1001.1001.1001 of the element, and deletes of the document and of the element.
+const TEXT: &[u8] = b"\x01\x01\x83\x69\x83\x69\x83\x69\0\0\0\0\0\x02\x03t";
+
+const NO_DOCUMENT: &[u8] = b"\x02\x01\x83\x69\0\0";
+
+const NO_ELEMENT: &[u8] = b"\x02\x01\x83\x69\x83\x69\0\0";
+
+/// The pages with the byte at one place changed, the first so many bytes of them.
+fn paged(alloc: Global, keep: usize, at: usize, byte: u8) -> Result<Vec<u8>, NoMemory> {
+    let mut bytes = vec![in alloc; 0; 3 * 8_192]?;
+    for (page, content) in PAGES.iter().enumerate() {
+        let start = page * 8_192;
+        bytes[start..start + content.len()].copy_from_slice(content);
+    }
+    bytes[at] = byte;
+    bytes.truncate(keep);
+    Ok(bytes)
+}
+
+/// A journal with one commit of this number and body; none for an empty body.
+fn journal(alloc: Global, number: u8, body: &[u8]) -> Result<Vec<u8>, NoMemory> {
+    let mut bytes = Vec::from_slice(alloc, NEW)?;
+    if body.is_empty() {
+        return Ok(bytes);
+    }
+    bytes[8] = 1;
+    bytes.extend_from_slice(&[0, 0, 0, 0, number, 0, 0, 0, body.len() as u8])?;
+    bytes.extend_from_slice(body)?;
+    bytes.push(0)?;
+    Ok(bytes)
+}
+
+/// A disk with this file that fails at one call; at none for 0.
+fn disk(alloc: Global, file: &[u8], call: u64) -> Result<MemDisk, NoMemory> {
+    let bytes = List::from_vec(Vec::from_slice(alloc, file)?);
+    let mut calls = List::new(alloc);
+    calls.push(call)?;
+    Ok(MemDisk::new(bytes, calls))
+}
+
+/// The number of a store, and how many records are seen through its commits.
+fn seen(alloc: Global, store: Opened<MemDisk, MemDisk>) -> Result<(u32, usize), SeqError> {
+    let mut map = Stacked::new(store.base, store.layers);
+    let root = Label::root(alloc)?;
+    let first = Key::of_node(alloc, &root)?;
+    let entries = entries_above(alloc, &first, &mut map)?;
+    Ok((store.number, entries.len()))
+}
+
+/// The number and the count of records that two files open with, or why they aren't opened.
+fn opens(alloc: Global, journal: &[u8], pages: &[u8]) -> Result<(u32, usize), OpenError> {
+    let journal = disk(alloc, journal, 0)?;
+    let pages = disk(alloc, pages, 0)?;
+    match open_store(alloc, journal, pages, 1) {
+        Ok(store) => match seen(alloc, store) {
+            Ok(found) => Ok(found),
+            Err(SeqError::DiskFault) => Err(OpenError::DiskFault),
+            Err(SeqError::NoMemory) => Err(OpenError::NoMemory),
+        },
+        Err(refused) => Err(refused.fault),
+    }
+}
+
+/// The number and the count of records that two files open with, or the place of their damage.
+type Stands = Result<(u32, usize), (File, u64)>;
+
+fn told(stands: Stands) -> Result<(u32, usize), OpenError> {
+    match stands {
+        Ok(store) => Ok(store),
+        Err((file, at)) => Err(OpenError::Damaged(Place { file, at })),
+    }
+}
+
+/// How many bytes the page file has, the place that is changed, and the byte there.
+type Pages = (usize, usize, u8);
+
+/// Three whole pages.
+const WHOLE: Pages = (24_576, 0, 0x58);
+
+/// The number and the body of the journal's commit, the pages, and what the files stand for.
+const ROWS: [((u8, &[u8]), Pages, Stands); 15] = [
+    ((0, b""), WHOLE, Ok((1, 3))),
+    ((2, TEXT), WHOLE, Ok((2, 4))),
+    ((0, b""), (0, 0, 0x58), Ok((0, 0))),
+    ((1, TEXT), WHOLE, Err((File::Journal, 8))),
+    ((3, TEXT), WHOLE, Err((File::Journal, 8))),
+    // Page 0 breaks a rule of its own, and tells no number.
+    ((3, TEXT), (24_576, 0, 0x59), Err((File::Pages, 0))),
+    ((3, TEXT), (100, 0, 0x58), Err((File::Pages, 0))),
+    ((0, b""), (24_576, 15, 4), Err((File::Pages, 0))),
+    // A rule of the journal comes before one of the pages.
+    ((3, TEXT), (24_576, 8_193, 4), Err((File::Journal, 8))),
+    ((2, TEXT), (24_576, 8_193, 4), Err((File::Pages, 8_192))),
+    ((2, TEXT), (24_576, 16_385, 2), Err((File::Pages, 16_384))),
+    ((2, TEXT), (24_575, 0, 0x58), Err((File::Pages, 16_384))),
+    // And one of the pages before one of the tree.
+    (
+        (2, NO_DOCUMENT),
+        (24_576, 8_193, 4),
+        Err((File::Pages, 8_192)),
+    ),
+    ((2, NO_DOCUMENT), WHOLE, Err((File::Tree, 1))),
+    ((2, NO_ELEMENT), WHOLE, Ok((2, 2))),
+];
+
+fn opens_row(
+    alloc: Global,
+    (number, body): (u8, &[u8]),
+    (keep, at, byte): Pages,
+) -> Result<(u32, usize), OpenError> {
+    let journal = journal(alloc, number, body)?;
+    let pages = paged(alloc, keep, at, byte)?;
+    opens(alloc, &journal, &pages)
+}
+
+/// The first row with which the files open otherwise than it says, and what they open with.
+fn first_otherwise(alloc: Global) -> Option<(usize, Result<(u32, usize), OpenError>)> {
+    for (row, &(commit, pages, want)) in ROWS.iter().enumerate() {
+        let found = opens_row(alloc, commit, pages);
+        if found != told(want) {
+            return Some((row, found));
+        }
+    }
+    None
+}
+
+#[test]
+fn files_with_pages_open_or_are_damaged_at_their_place(rt: HostRuntime) -> Result<(), Fail> {
+    assert_eq!(rt; first_otherwise(rt.alloc()), None);
+    Ok(())
+}
+
+/// Whether an opening with one failing call of a disk is answered as a fault, or made no such call.
+fn answers_fault(alloc: Global, of_journal: bool, call: u64) -> Result<bool, OpenError> {
+    let (first, second) = if of_journal { (call, 0) } else { (0, call) };
+    let journal = disk(alloc, &journal(alloc, 2, TEXT)?, first)?;
+    let pages = disk(alloc, &paged(alloc, 24_576, 0, 0x58)?, second)?;
+    match open_store(alloc, journal, pages, 1) {
+        Ok(store) => Ok(store.journal.faults() == 0),
+        Err(refused) => {
+            let counted = refused.journal.faults() + refused.pages.faults();
+            Ok(refused.fault == OpenError::DiskFault && counted == 1)
+        }
+    }
+}
+
+#[test]
+fn a_failing_call_of_either_disk_is_answered_as_a_fault(rt: HostRuntime) -> Result<(), Fail> {
+    for call in 1..12 {
+        assert_eq!(rt; answers_fault(rt.alloc(), true, call), Ok(true));
+        assert_eq!(rt; answers_fault(rt.alloc(), false, call), Ok(true));
+    }
+    Ok(())
+}
