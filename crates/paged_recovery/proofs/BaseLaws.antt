@@ -1,8 +1,8 @@
 -- What page 0 tells of the last commit, by how many bytes the page file has.
-use Rattle.std.proofs.Common.{◌≡◌, ◌<◌, ◌*◌, ◌&&◌, ◌==◌, ℕ, Bool, false, if◌then◌else◌, List, [], ◌∷◌, length, drop, Option, Some, None, refl, ap, ◌∙◌, arith, length-take, length-drop}
+use Rattle.std.proofs.Common.{◌≡◌, ◌<◌, ◌*◌, ◌==◌, ℕ, Bool, false, if◌then◌else◌, List, [], ◌∷◌, length, drop, Some, None, refl, ap, ◌∙◌, arith, length-take, length-drop}
 use Rattle.std.proofs.lemmas.Bool.{and_left, ne_eqb}
 use Rattle.node_pages.specs.PageFiles.{file_page}
-use Rattle.node_pages.specs.PageZero.{header_in, header_of, is_page_zero}
+use Rattle.node_pages.specs.PageZero.{header_in, header_of}
 use Rattle.store_contents.specs.Contents.{base_of, base_told}
 
 -- an empty file holds no commit

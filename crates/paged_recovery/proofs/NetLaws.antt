@@ -1,10 +1,10 @@
 -- The net changes of commits, and what they make of the valid records alone.
-use Rattle.std.proofs.Common.{◌≡◌, ℕ, Bool, true, false, cond, ◌&&◌, IsTrue, List, [], ◌∷◌, ◌++◌, Option, Some, None, Less, Equal, Greater, is_eq, refl, sym, ap, subst, ◌∙◌}
+use Rattle.std.proofs.Common.{◌≡◌, ℕ, Bool, true, false, cond, ◌&&◌, List, [], ◌∷◌, ◌++◌, Option, Some, None, Less, Equal, Greater, is_eq, refl, sym, ap, subst, ◌∙◌}
 use Rattle.std.specs.BTreeMap.{insert_entry}
 use Rattle.std.specs.List.{AllByRecursion}
 use Rattle.std.specs.Ordering.{match_ordering}
 use Rattle.std.specs.Prelude.{IfSome}
-use Rattle.tree_model.specs.Changes.{IsBehind, Rising, laid, now_at, seen, with_change}
+use Rattle.tree_model.specs.Changes.{Rising, laid, now_at, seen, with_change}
 use Rattle.tree_model.specs.Entries.{Entries, Sorted, get, changed}
 use Rattle.tree_model.specs.Keys.{key_cmp}
 use Rattle.tree_model.specs.Orders.{by_order}

@@ -1,5 +1,5 @@
 -- What an opening answers over pages, by what was read of them.
-use Rattle.std.proofs.Common.{◌≡◌, ◌⊎◌, inl, inr, ℕ, ◌+◌, Bool, true, false, not, ◌&&◌, List, [], ◌∷◌, Option, Some, None, unwrap_or, Result, Ok, Err, IsTrue, cond, if◌then◌else◌, refl, sym, ◌∙◌, ap, subst}
+use Rattle.std.proofs.Common.{◌≡◌, inl, inr, ℕ, ◌+◌, Bool, true, false, not, ◌&&◌, List, [], ◌∷◌, Option, Some, None, unwrap_or, Result, Ok, Err, IsTrue, if◌then◌else◌, refl, sym, ◌∙◌, ap, subst}
 use Rattle.std.specs.Prelude.{is_some}
 use Rattle.dewey_labels.specs.Lists.{is_empty}
 use Rattle.outside_traits.specs.DiskPairs.{pair_of}
@@ -8,8 +8,6 @@ use Rattle.tree_model.specs.Entries.{Entries, changed}
 use Rattle.tree_model.specs.StoredTree.{IsStoredTree, broken_at}
 use Rattle.tree_model.specs.declared.change.Change.{Change}
 use Rattle.tree_model.proofs.UnbrokenTrees.{unbroken}
-use Rattle.node_records.specs.declared.open_error.OpenError.{OpenError}
-use Rattle.node_records.specs.declared.open_error.OpenError.TheVariants.{Damaged, DiskFault, NoMemory}
 use Rattle.node_records.specs.declared.open_error.Place.{Place}
 use Rattle.node_records.specs.declared.open_error.File.TheVariants.{Journal, Pages, Tree}
 use Rattle.node_pages.specs.PageFiles.{contents_of_file, place_of_page}
@@ -24,12 +22,12 @@ use Rattle.journal.specs.declared.group.Groups.{Groups}
 use Rattle.journal.specs.declared.group.Images.{Images}
 use Rattle.journal.proofs.FreshSteps.{fresh_reads}
 use Rattle.overlays.specs.Views.{contents_after}
-use Rattle.paged_seq.specs.PagedMaps.{entries_or_none, file_entries, map_of_file, valid_entries}
-use Rattle.store_contents.specs.Contents.{Contents, after_commits, base_of, checked, commits_over, contents_beside, contents_from, first_broken, goes_on_from, last_of, over_pages, place_in, with_commits}
+use Rattle.paged_seq.specs.PagedMaps.{entries_or_none, map_of_file, valid_entries}
+use Rattle.store_contents.specs.Contents.{Contents, after_commits, base_of, checked, contents_beside, contents_from, first_broken, goes_on_from, last_of, over_pages, place_in, with_commits}
 use Rattle.store_contents.proofs.ContentsLaws.{base_is, by_damage, by_groups, of_parts, over_commits}
 use Rattle.store_contents.proofs.TreeLaws.{stand_for_one}
 use Rattle.recovery.specs.Openings.{TakesBehind}
-use Rattle.paged_recovery.specs.Openings.{HasImages, IsRefusedAt, OpensPages}
+use Rattle.paged_recovery.specs.Openings.{IsRefusedAt, OpensPages}
 use Rattle.paged_recovery.specs.inside.Nets.{IsMisfit, NetOf}
 use Rattle.paged_recovery.specs.inside.Over.{FollowsOver, answer_before, answer_over, groups_before, groups_over, has_none}
 use Rattle.paged_recovery.proofs.AnswerLaws.{follows}

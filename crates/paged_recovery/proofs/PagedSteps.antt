@@ -1,11 +1,11 @@
 -- What a crash leaves while the journal is opened over pages, and what holds of files from before their sync.
-use Rattle.std.proofs.Common.{◌≡◌, ◌⊎◌, inl, inr, ℕ, ◌+◌, ◌≤◌, le_trans, Bool, true, false, List, [], Option, Result, Ok, Err, IsTrue, OnOk, refl, sym, ◌∙◌, ap, subst}
-use Rattle.std.specs.Prelude.{IfOk, IfErr, MatchResult, is_some}
+use Rattle.std.proofs.Common.{◌≡◌, ◌⊎◌, inl, inr, ℕ, ◌≤◌, le_trans, Bool, true, List, [], Result, Ok, Err, IsTrue, refl, sym, ◌∙◌, ap, subst}
+use Rattle.std.specs.Prelude.{IfOk, IfErr, MatchResult}
 use Rattle.outside_traits.specs.CrashImages.{IsImage}
 use Rattle.outside_traits.specs.DiskPairs.{Pair, pair_of}
 use Rattle.outside_traits.specs.Disks.{DiskState, Synced, all_synced}
 use Rattle.outside_traits.specs.Faults.{FaultCounted}
-use Rattle.outside_traits.specs.Moments.{History, IsAllSynced, LeavesOnly}
+use Rattle.outside_traits.specs.Moments.{History, IsAllSynced}
 use Rattle.outside_traits.proofs.ImageLaws.{image-all_synced}
 use Rattle.outside_traits.proofs.MomentLaws.{started, weaker}
 use Rattle.outside_traits.proofs.PairLaws.{journal_phase, none, pairs_joined, pairs_now, pairs_weaker}
@@ -16,7 +16,6 @@ use Rattle.journal.specs.Groups.{only_commits}
 use Rattle.journal.specs.Journals.{is_fresh, read}
 use Rattle.journal.specs.Openings.{LeavesSameGroups}
 use Rattle.journal.specs.Refusals.{BreaksJournal, HasReason, UnlessFault}
-use Rattle.journal.specs.declared.group.Groups.{Groups}
 use Rattle.journal.proofs.FreshSteps.{fresh_reads}
 use Rattle.paged_seq.specs.PagedFiles.{HasReason as HasPagedReason}
 use Rattle.paged_seq.specs.PagedMaps.{file_entries}

@@ -1,8 +1,8 @@
 -- What a sync leaves could have been left before it.
-use Rattle.std.proofs.Common.{◌≡◌, ℕ, List, refl, sym, subst}
+use Rattle.std.proofs.Common.{ℕ, List, refl, sym, subst}
 use Rattle.outside_traits.specs.CrashImages.{IsImage}
 use Rattle.outside_traits.specs.DiskPairs.{pair_of}
-use Rattle.outside_traits.specs.Disks.{DiskState, Synced, Unsynced, all_synced}
+use Rattle.outside_traits.specs.Disks.{DiskState, Synced, Unsynced}
 use Rattle.outside_traits.specs.Moments.{History, TakesStep, Fails}
 use Rattle.outside_traits.proofs.ImageLaws.{image-all_synced, image-unsynced}
 use Rattle.outside_traits.proofs.MomentLaws.{started, goes_on, goes_wrong}

@@ -1,4 +1,4 @@
-use Rattle.std.proofs.Common.{◌≡◌, ◌∙◌, Some, ap, sym}
+use Rattle.std.proofs.Common.{◌∙◌, Some, ap, sym}
 use Rattle.store_contents.specs.Contents.{goes_on_from}
 use Rattle.paged_recovery.proofs.OverLaws.{commits_alone, groups_apart, groups_misfit, groups_with_images}
 use Rattle.paged_recovery.proofs.PagedSteps.{err_then, ok_then, reason_at, reason_leads}

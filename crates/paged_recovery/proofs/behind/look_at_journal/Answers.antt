@@ -1,4 +1,4 @@
-use Rattle.std.proofs.Common.{◌≡◌, ◌≤◌, ◌∙◌, Option, unwrap_or, IsTrue, sym, ap}
+use Rattle.std.proofs.Common.{◌≡◌, ◌∙◌, Option, unwrap_or, IsTrue, sym, ap}
 use Rattle.node_records.specs.declared.open_error.Place.{Place}
 use Rattle.paged_recovery.specs.inside.Over.{answer_before}
 use Rattle.paged_recovery.proofs.AnswerLaws.{first_reason, unless_both, unless_first}

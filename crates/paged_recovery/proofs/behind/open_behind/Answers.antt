@@ -1,4 +1,4 @@
-use Rattle.std.proofs.Common.{◌≡◌, ◌∙◌, IsTrue, inl, sym, ap}
+use Rattle.std.proofs.Common.{inl, ap}
 use Rattle.outside_traits.specs.Moments.{History}
 use Rattle.paged_recovery.proofs.AnswerLaws.{unless_of}
 use Rattle.paged_recovery.proofs.PagedSteps.{damage_is, err_then, ok_then, same_moments}

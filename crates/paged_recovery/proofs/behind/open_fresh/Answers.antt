@@ -1,5 +1,4 @@
-use Rattle.std.proofs.Common.{◌≡◌, ◌∙◌, IsTrue, List, [], inl, inr, refl, sym, ap, subst}
-use Rattle.outside_traits.specs.Moments.{History}
+use Rattle.std.proofs.Common.{List, [], inl, refl, subst}
 use Rattle.journal.specs.declared.group.Group.{Group}
 use Rattle.store_contents.specs.Contents.{after_commits}
 use Rattle.paged_recovery.specs.inside.Nets.{IsMisfit, NetOf}

@@ -1,5 +1,4 @@
-use Rattle.std.proofs.Common.{◌≡◌, ◌≤◌, ℕ, ◌∙◌, Some, Err, IsTrue, sym, ap, subst}
-use Rattle.outside_traits.specs.Moments.{History}
+use Rattle.std.proofs.Common.{◌≡◌, ◌∙◌, Some, Err, IsTrue, subst}
 use Rattle.tree_model.specs.Entries.{Sorted}
 use Rattle.journal.specs.Openings.{Opens}
 use Rattle.paged_recovery.specs.inside.Over.{answer_over}

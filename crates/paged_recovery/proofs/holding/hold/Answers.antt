@@ -1,7 +1,7 @@
-use Rattle.std.proofs.Common.{◌≡◌, ◌≤◌, ℕ, ◌∙◌, Err, sym, ap, subst}
+use Rattle.std.proofs.Common.{◌≤◌, ℕ, ◌∙◌, Err, sym, ap, subst}
 use Rattle.outside_traits.specs.Faults.{FaultCounted}
 use Rattle.outside_traits.specs.Moments.{History}
-use Rattle.tree_model.specs.Entries.{Entries, Sorted}
+use Rattle.tree_model.specs.Entries.{Sorted}
 use Rattle.node_seq.specs.declared.node_read.SeqError.{SeqError}
 use Rattle.node_pages.specs.PageFiles.{Index}
 use Rattle.paged_seq.specs.PagedFiles.{BreaksPages}

@@ -1,4 +1,4 @@
-use Rattle.std.proofs.Common.{◌≡◌, true, false, ◌∙◌, sym, subst, ap, length, arith}
+use Rattle.std.proofs.Common.{◌≡◌, true, ◌∙◌, sym, subst, ap, length, arith}
 use Rattle.tree_model.specs.Entries.{Sorted}
 use Rattle.paged_recovery.specs.inside.Merging.{rises_above}
 use Rattle.paged_recovery.proofs.MergeLaws.{sorted_more, unsorted}

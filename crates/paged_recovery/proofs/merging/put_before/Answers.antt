@@ -1,9 +1,9 @@
-use Rattle.std.proofs.Common.{◌≡◌, false, true, ◌++◌, ◌∷◌, List, option_copied, sym, ap, subst, ◌∙◌}
+use Rattle.std.proofs.Common.{◌≡◌, true, ◌++◌, ◌∷◌, List, option_copied, sym, ap, subst, ◌∙◌}
 use Rattle.tree_model.specs.Changes.{Rising}
-use Rattle.tree_model.specs.Entries.{Entries, changed}
+use Rattle.tree_model.specs.Entries.{changed}
 use Rattle.tree_model.specs.declared.change.Change.{Change}
 use Rattle.paged_recovery.specs.inside.Merging.{NoneBefore, comes_before}
-use Rattle.paged_recovery.proofs.MergeLaws.{none_first, one_put}
+use Rattle.paged_recovery.proofs.MergeLaws.{one_put}
 use Rattle.paged_recovery.proofs.merging.put_before.Goals as goal
 
 pub loop-change-preserved : goal.loop-change-preserved

@@ -1,7 +1,7 @@
-use Rattle.std.proofs.Common.{◌≡◌, List, Some, refl, sym, ap, subst, ◌∙◌}
+use Rattle.std.proofs.Common.{◌≡◌, List, sym, ap, subst, ◌∙◌}
 use Rattle.tree_model.specs.Changes.{Rising}
 use Rattle.tree_model.specs.Entries.{Entries, Sorted, changed}
-use Rattle.tree_model.specs.StoredTree.{IsStoredTree, broken_at}
+use Rattle.tree_model.specs.StoredTree.{IsStoredTree}
 use Rattle.tree_model.specs.declared.change.Change.{Change}
 use Rattle.tree_model.proofs.Entries.{sorted_changed}
 use Rattle.node_records.specs.declared.open_error.Place.{Place}

@@ -1,6 +1,4 @@
-use Rattle.std.proofs.Common.{[], List, ap, ◌∙◌}
-use Rattle.tree_model.specs.Changes.{laid}
-use Rattle.tree_model.specs.declared.change.Change.{Change}
+use Rattle.std.proofs.Common.{ap}
 use Rattle.paged_recovery.proofs.NetLaws.{layer_is}
 use Rattle.paged_recovery.proofs.netting.layer_of.Goals as goal
 

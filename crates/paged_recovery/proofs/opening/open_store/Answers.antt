@@ -1,5 +1,5 @@
-use Rattle.std.proofs.Common.{◌≡◌, ◌≤◌, ℕ, ◌∙◌, IsTrue, inl, inr, refl, sym, ap, subst}
-use Rattle.outside_traits.specs.DiskPairs.{Pair, pair_of}
+use Rattle.std.proofs.Common.{ℕ, ◌∙◌, inl, ap, subst}
+use Rattle.outside_traits.specs.DiskPairs.{pair_of}
 use Rattle.outside_traits.specs.Disks.{DiskState}
 use Rattle.page_store.specs.Pages.{PoolView}
 use Rattle.recovery.specs.Causes.{OneRose, RiseOnlyAtFault}

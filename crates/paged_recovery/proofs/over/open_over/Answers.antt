@@ -1,5 +1,4 @@
-use Rattle.std.proofs.Common.{◌≡◌, ◌≤◌, ℕ, ◌∙◌, Ok, IsTrue, refl, sym, ap, subst, le_refl}
-use Rattle.outside_traits.specs.Disks.{DiskState}
+use Rattle.std.proofs.Common.{◌≤◌, ℕ, ◌∙◌, Ok, refl, sym, ap, subst, le_refl}
 use Rattle.outside_traits.specs.Moments.{History}
 use Rattle.paged_recovery.proofs.AnswerLaws.{made_or_same, reason_then, unless_then}
 use Rattle.paged_recovery.proofs.OverLaws.{follows_known, opened_over, opened_tree, refused_over}

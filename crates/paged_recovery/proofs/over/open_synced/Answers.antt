@@ -1,4 +1,4 @@
-use Rattle.std.proofs.Common.{◌≡◌, ◌≤◌, ℕ, ◌∙◌, Ok, Err, IsTrue, inl, inr, refl, sym, ap, subst}
+use Rattle.std.proofs.Common.{◌≡◌, ℕ, ◌∙◌, Ok, Err, inl, sym, ap, subst}
 use Rattle.outside_traits.specs.DiskPairs.{pair_of}
 use Rattle.outside_traits.specs.Disks.{all_synced}
 use Rattle.outside_traits.specs.Moments.{History, IsAllSynced}

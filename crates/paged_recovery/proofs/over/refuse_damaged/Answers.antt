@@ -1,4 +1,4 @@
-use Rattle.std.proofs.Common.{◌≡◌, ◌≤◌, ℕ, ◌∙◌, Option, unwrap_or, IsTrue, inl, inr, refl, sym, ap, subst, le_refl}
+use Rattle.std.proofs.Common.{ℕ, ◌∙◌, Option, unwrap_or, inl, inr, refl, sym, ap, subst, le_refl}
 use Rattle.node_records.specs.declared.open_error.Place.{Place}
 use Rattle.store_contents.specs.Contents.{base_of}
 use Rattle.paged_recovery.specs.Openings.{IsRefusedAt}

@@ -1,11 +1,9 @@
-use Rattle.std.proofs.Common.{◌≡◌, ◌≤◌, ◌+◌, ◌*◌, ℕ, List, [], length, ◌∙◌, Err, sym, ap, subst, arith}
+use Rattle.std.proofs.Common.{ℕ, List, length, ◌∙◌, sym, ap, subst, arith}
 use Rattle.outside_traits.specs.Moments.{History}
 use Rattle.page_store.specs.Pages.{ArePagesOf, PoolView, page_of}
-use Rattle.page_store.specs.declared.page_error.PageError.{PageError}
 use Rattle.node_pages.specs.PageZero.{header_in}
 use Rattle.store_contents.specs.Contents.{base_told}
 use Rattle.paged_recovery.proofs.BaseLaws.{empty_base, page_base, short_base}
-use Rattle.paged_recovery.proofs.PagedSteps.{counted_same, reason_leads, told_reason, told_uncounted}
 use Rattle.paged_recovery.proofs.page_zero.base_in.Goals as goal
 
 pub returns-then-count-eq0-clause-base : goal.returns-then-count-eq0-clause-base
