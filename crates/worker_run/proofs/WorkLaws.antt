@@ -1,6 +1,6 @@
 -- How a worker goes on line by line.
-use Rattle.std.proofs.Common.{◌≡◌, ◌∙◌, ◌<◌, ◌≤◌, ◌+◌, ◌==◌, ℕ, cond, true, false, suc, refl, sym, ap, subst, arith, List, [], ◌∷◌, ◌++◌, map, length, drop, None, Some, Ok, Err, append_assoc, append-nil, length-append, drop-cons, drop_of_length-le}
-use Rattle.std.specs.List.{slice_index_or}
+use Rattle.std.proofs.Common.{◌≡◌, ◌∙◌, ◌<◌, ◌≤◌, ◌+◌, ◌==◌, ℕ, cond, true, false, zero, suc, refl, sym, ap, subst, arith, List, [], ◌∷◌, ◌++◌, map, length, drop, None, Some, Ok, Err, append_assoc, append-nil, length-append, drop-cons, drop_of_length-le}
+use Rattle.std.specs.List.{AllByRecursion, slice_index_or}
 use Rattle.std.proofs.lemmas.List.{map-append}
 use Rattle.command_lines.specs.declared.command.Command.{Command}
 use Rattle.command_lines.specs.declared.line_reply.LineReply.{LineReply}
@@ -15,6 +15,15 @@ pub next_line : (lines : List Command) (i : ℕ) (c : Command) → i < length li
 next_line lines i c lt at =
     let one_more : suc i ≡ i + 1 = omega arith in
     drop-cons lines i c lt ∙ ap (λ x. x ∷ drop (suc i) lines) (sym at) ∙ ap (λ k. c ∷ drop k lines) one_more
+
+-- what holds of each line holds of this one
+pub line_at : (P : Command → Type 0) (lines : List Command) (i : ℕ) (c : Command) → i < length lines → c ≡ slice_index_or lines i c → AllByRecursion P lines → P c
+line_at P lines i c lt at all = subst P (sym at) (go lines i lt all)
+  where
+    go : (ls : List Command) (k : ℕ) → k < length ls → AllByRecursion P ls → P (slice_index_or ls k c)
+    go [] k less a = absurd (omega arith)
+    go (l ∷ ls) zero less a = a.0
+    go (l ∷ ls) (suc k) less a = go ls k (omega arith) a.1
 
 own : (lines : List Command) (i s : ℕ) (c : Command) → i < length lines → c ≡ slice_index_or lines i c → (c.session == s) ≡ true
     → own_lines s (drop i lines) ≡ c ∷ own_lines s (drop (i + 1) lines)

@@ -1,5 +1,6 @@
 //! The sessions of workers.
 ghost use Rattle.std.specs.Prelude.{◌≡◌, ◌++◌, [], List, None};
+ghost use Rattle.command_lines.specs.ValidCommands.{IsValidCommand};
 ghost use Rattle.worker_run.specs.Ports.{Ended, Exchange, LineDone, Ports};
 
 use command_lines::{Command, LineReply};
@@ -30,6 +31,7 @@ pub trait SessionPort {
     ) -> Result<LineReply, PortFault>
         requires session { command.now.session ≡ (ports.told self.old).session }
         requires usable { (ports.told self.old).fault ≡ None }
+        requires valid { IsValidCommand command.now }
         ensures { LineDone ports self.old command.now self.new result };
 
     /// The number of its session.

@@ -1,6 +1,7 @@
 //! The workers of a script, one for each port.
 ghost use Rattle.std.specs.Prelude.{◌≡◌, ◌+◌, ◌≤◌, ◌<◌, ◌⊎◌, ℕ, [], length, vec_capacity, None, Some, Err, IfOk, IfErr};
 ghost use Rattle.std.specs.List.{AllByRecursion, AllZip, slice_index_or};
+ghost use Rattle.command_lines.specs.ValidCommands.{IsValidCommand};
 ghost use Rattle.worker_run.specs.Ports.{Ended};
 ghost use Rattle.worker_run.specs.Workers.{HasReplied, HasWorked, HaveOnePort, first_fault as first_told, own_lines};
 ghost use Rattle.worker_run.specs.inside.Merging.{IsSeated, ports_in};
@@ -36,6 +37,7 @@ fn run_all<R: Threads + Wait + Sync, T: SessionPort + Send, G: Gate + Sync>(
     gate: &G,
 )
     requires ready { AllByRecursion (IsSeated T.ports lines.now) workers.old }
+    requires valid { AllByRecursion IsValidCommand lines.now }
     ensures len { length workers.new ≡ length workers.old }
     ensures each { (i : ℕ) (d : Worker T) → i < length workers.old
         → HasServed T.ports lines.now (slice_index_or workers.old i d).port (slice_index_or workers.new i d).port
@@ -50,8 +52,9 @@ fn run_all<R: Threads + Wait + Sync, T: SessionPort + Send, G: Gate + Sync>(
         workers,
         count,
         &|_, worker: &mut Worker<T>|
-            requires { length worker.old.replies.items + length (own_lines (T.ports.told worker.old.port).session lines.now)
+            requires room { length worker.old.replies.items + length (own_lines (T.ports.told worker.old.port).session lines.now)
                 ≤ vec_capacity worker.old.replies }
+            requires valid { AllByRecursion IsValidCommand lines.now }
             ensures { HasServed T.ports lines.entry.now worker.old.port worker.new.port worker.old.replies.items worker.new.replies.items }
         { work(rt, alloc, worker, lines, gate) },
     );
@@ -83,6 +86,7 @@ fn replies_of<R: Threads + Wait + Sync, T: SessionPort + Send, G: Gate + Sync>(
     requires one_port { HaveOnePort T.ports (ports_in workers.old) lines.now }
     requires empty { out.items ≡ [] }
     requires room { length lines.now ≤ vec_capacity out }
+    requires valid { AllByRecursion IsValidCommand lines.now }
     ensures { RunLeaves T.ports lines.now (ports_in workers.old) (ports_in workers.new) result }
 {
     run_all(rt, alloc, workers, lines, gate);
@@ -138,6 +142,7 @@ pub fn run_workers<R: Threads + Wait + Sync, T: SessionPort + Send + Drop, G: Ga
     gate: &G,
 ) -> Worked<T>
     requires one_port { HaveOnePort T.ports ports lines.now }
+    requires valid { AllByRecursion IsValidCommand lines.now }
     ensures ports { AllZip (HasWorked T.ports lines.now) ports result.ports
         ⊎ ((result.replies ≡ Err PortFault.NoMemory) × AllZip (Ended T.ports) ports result.ports) }
     ensures all { IfOk result.replies (λ replies. length replies ≡ length lines.now) }

@@ -1,5 +1,7 @@
 //! What a worker does.
 ghost use Rattle.std.specs.Prelude.{◌≡◌, ◌+◌, ◌++◌, ◌∷◌, [], ◌≤◌, ◌<◌, length, None, vec_capacity};
+ghost use Rattle.std.specs.List.{AllByRecursion};
+ghost use Rattle.command_lines.specs.ValidCommands.{IsValidCommand};
 ghost use Rattle.worker_run.specs.Workers.{own_lines};
 ghost use Rattle.worker_run.specs.inside.Working.{HasAnswered, HasServed};
 
@@ -38,6 +40,7 @@ fn do_lines<R: Wait, T: SessionPort, G: Gate>(
 )
     requires usable { (T.ports.told port.old).fault ≡ None }
     requires room { length replies.old.items + length (own_lines (T.ports.told port.old).session lines.now) ≤ vec_capacity replies.old }
+    requires valid { AllByRecursion IsValidCommand lines.now }
     ensures { HasAnswered T.ports lines.now port.old port.new replies.old.items replies.new.items }
 {
     let session = port.session();
@@ -65,6 +68,7 @@ pub(crate) fn work<R: Wait, T: SessionPort, G: Gate>(
     gate: &G,
 )
     requires room { length worker.old.replies.items + length (own_lines (T.ports.told worker.old.port).session lines.now) ≤ vec_capacity worker.old.replies }
+    requires valid { AllByRecursion IsValidCommand lines.now }
     ensures { HasServed T.ports lines.now worker.old.port worker.new.port worker.old.replies.items worker.new.replies.items }
 {
     match worker.port.fault() {

@@ -1,4 +1,8 @@
 //! Workers over ports that count.
+ghost use Rattle.std.specs.Prelude.{IfOk};
+ghost use Rattle.std.specs.List.{AllByRecursion};
+ghost use Rattle.command_lines.specs.ValidCommands.{IsValidCommand};
+
 use crate::counting::CountingPort;
 use crate::gates::{InTurn, Rounds};
 use command_lines::{Command, LineAnswer, LineReply, What};
@@ -21,7 +25,10 @@ fn port(session: u32, stops: Option<(u32, PortFault)>) -> CountingPort {
     }
 }
 
-fn lines(alloc: Global, sessions: &[u32]) -> Result<List<Command>, NoMemory> {
+#[tactic(auto, using(crate::proofs::Lines::all_with))]
+fn lines(alloc: Global, sessions: &[u32]) -> Result<List<Command>, NoMemory>
+    ensures { IfOk result (AllByRecursion IsValidCommand) }
+{
     let mut lines = List::new(alloc);
     for session in sessions {
         lines.push(Command {

@@ -1,5 +1,6 @@
 use Rattle.std.proofs.Common.{rules, ◌≡◌, ◌<◌, ◌==◌, true, false, length, vec_capacity, slice_index_or}
-use Rattle.worker_run.proofs.WorkLaws.{answered, failed, passed, room_answered, room_passed}
+use Rattle.command_lines.specs.ValidCommands.{IsValidCommand}
+use Rattle.worker_run.proofs.WorkLaws.{answered, failed, line_at, passed, room_answered, room_passed}
 use Rattle.worker_run.proofs.worker.do_lines.Goals as goal
 use Rattle.worker_run.proofs.worker.do_lines.Goals.{then-command-session+in-Ok, else-command-session}
 
@@ -34,3 +35,9 @@ loop-command-preserved g c =
           let room = room_passed c.args.lines.now c.loop-command.command-index old.session c.loop-command.replies.items (vec_capacity c.loop-command.replies) c.command-item.result lt at is c.loop-command.invariant.1 in
           (rw (w.port-is, w.replies-is) next, rw w.replies-is room, c.loop-command.invariant.2)
     ]
+
+pub line-answer-requires-clause-valid : goal.line-answer-requires-clause-valid
+line-answer-requires-clause-valid g c =
+    let lt : c.loop-command.command-index < length c.args.lines.now = search rules in
+    let at : c.command-item.result ≡ slice_index_or c.args.lines.now c.loop-command.command-index c.command-item.result = search rules in
+    line_at IsValidCommand c.args.lines.now c.loop-command.command-index c.command-item.result lt at c.requires.valid
