@@ -1,2 +1,14 @@
-mod SessionLaws
 mod OtherSessions
+mod Lines
+mod Calls
+mod Waits
+mod Ends
+mod Answered
+mod Splits
+mod Joins
+mod Runs
+mod Orders
+mod Undrained
+mod Started
+mod Over
+mod Told

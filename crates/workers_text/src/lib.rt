@@ -1,32 +1,23 @@
-//! What the workers of a script may print: one book of the store shows it, with each session's lines among its entries.
-//! A worker that knows its own entries and where the others' stood has shown its session's part (`stretches_follow_one_another`, `entries_of_others_are_passed_over`); the parts of all sessions over one legal book make the text.
-//! How the lines come to be done is left to worker_run and the ports.
+//! What the workers of a script may print, and the sessions of a store that print it.
+//! One book of the store shows a text, with each session's lines among its entries (`WorkersText` of the definitions). `run_lines` does a script's lines by workers over one core,
+//! and each session's replies are those that the core's book has of it.
+//! Who writes the text, and when its commits are made durable, is left to the caller.
 #![tactic(auto)]
 
-ghost use Rattle.std.specs.Prelude.{◌≡◌, ◌==◌, ◌++◌, ℕ, List, [], None, false};
-ghost use Rattle.call_contract.specs.Books.{Book, last, next};
-ghost use Rattle.call_contract.specs.States.{State, of_session};
-ghost use Rattle.call_contract.specs.declared.events.Noted.{Noted};
-ghost use Rattle.workers_text.specs.Sessions.{AreOthers, Part, Printed};
+mod answers;
+mod asking;
+mod joining;
+mod laws;
+mod line_call;
+mod order;
+mod port;
+mod run;
 
-use call_contract::TreeCall;
-
-/// What a session's lines do in one stretch of a book and then in the next one, they do in both.
-#[tactic(auto, using(crate::proofs::SessionLaws::stretches))]
-pub fn stretches_follow_one_another<C: TreeCall>()
-    ensures { (s : ℕ) (es fs : Book C) (st : State C) (ps qs : List (Printed C)) → Part C.meaning s st es None ps
-        → Part C.meaning s (last C.meaning st es) fs None qs → Part C.meaning s st (es ++ fs) None (ps ++ qs) }
-{}
-
-/// Entries of other sessions are no line's.
-#[tactic(auto, using(crate::proofs::SessionLaws::skipped))]
-pub fn entries_of_others_are_passed_over<C: TreeCall>()
-    ensures { (s : ℕ) (es : Book C) (st : State C) → AreOthers s es → Part C.meaning s st es None [] }
-{}
-
-/// An entry of another session leaves the session's transaction, with the call that waits, and how many it has begun.
-#[tactic(auto, using(crate::proofs::OtherSessions::same_live, crate::proofs::OtherSessions::same_ordinal))]
-pub fn entries_of_others_leave_a_session<C: TreeCall>()
-    ensures live { (s : ℕ) (st : State C) (n : Noted C) → (n.session == s) ≡ false → of_session s (next C.meaning st n).live ≡ of_session s st.live }
-    ensures ordinal { (s : ℕ) (st : State C) (n : Noted C) → (n.session == s) ≡ false → (next C.meaning st n).ordinals s ≡ st.ordinals s }
-{}
+pub use laws::{
+    entries_of_others_are_passed_over, entries_of_others_leave_a_session,
+    stretches_follow_one_another,
+};
+pub use line_call::LineCall;
+pub use order::order_line;
+pub use port::StorePort;
+pub use run::{Ran, run_lines};

@@ -1,0 +1,80 @@
+-- A store over a core with an empty book: what its list tells at the start, and of the core at the end.
+use Rattle.std.proofs.Common.{◌≡◌, ◌∙◌, true, refl, sym, ap, subst, arith, List, [], ◌∷◌, ◌++◌, length}
+use Rattle.std.specs.Prelude.{Option, Some}
+use Rattle.tree_model.specs.Entries.{Entries}
+use Rattle.tree_model.specs.Tree.{Tree}
+use Rattle.node_records.specs.declared.pending.Pending.{Pending}
+use Rattle.node_seq.specs.Trees.{StandsFor}
+use Rattle.call_contract.specs.Books.{Book}
+use Rattle.call_contract.specs.Sessions.{commits_in}
+use Rattle.call_contract.specs.Calls.{CallMeaning}
+use Rattle.tx_core.specs.Cores.{CoreView, IsUndrained}
+use Rattle.shared_store.specs.Bodies.{HasBodies, HaveBodiesOf}
+use Rattle.shared_store.specs.Lists.{book_of, drained_in, is_opened, list_of, SessionsFit}
+use Rattle.shared_store.specs.Sessions.{IsOpenedAs}
+use Rattle.shared_store.specs.declared.desk.Entry.{Entry}
+use Rattle.shared_store.specs.declared.desk.Entry.TheVariants as kind
+use Rattle.workers_text.specs.StorePorts.{IsOpenedOver}
+
+some_same : {X : Type 0} (a b : X) → Some a ≡ Some b → b ≡ a
+some_same a b e = cc
+
+none_waits : (waiting : List Pending) → length waiting ≡ 0 → waiting ≡ []
+none_waits [] e = refl
+none_waits (p ∷ ps) e = absurd (omega (arith, e))
+
+module _ {C B : Type 0} (first : CoreView C B) (empty : first.book ≡ []) where
+  -- no commit of an empty book waits
+  pub fresh_after : IsUndrained first → first.undrained.after ≡ first.number
+  fresh_after is = omega (arith, is.opened, is.last, ap commits_in empty)
+
+  pub fresh_waiting : IsUndrained first → first.undrained.waiting ≡ []
+  fresh_waiting is = none_waits first.undrained.waiting (omega (arith, is.opened, is.last, ap commits_in empty))
+
+  pub fresh_bodies : (m : CallMeaning C) (told : B → Option Entries) → IsUndrained first → HasBodies m told first
+  fresh_bodies m told is = subst (HaveBodiesOf m told first) (sym (fresh_waiting is)) tt
+
+  pub fresh_fits : SessionsFit first.book
+  fresh_fits = subst SessionsFit (sym empty) tt
+
+  abbrev Begun : List (Entry C B)
+  Begun = list_of first [] []
+
+  begun : (seen : List (Entry C B)) → seen ≡ list_of first first.book [] → seen ≡ Begun
+  begun seen is = is ∙ ap (λ (b : Book C). list_of first b []) empty
+
+  module _ (seen : List (Entry C B)) (is : seen ≡ list_of first first.book []) where
+    pub begun_book : book_of seen ≡ []
+    begun_book = ap book_of (begun seen is)
+
+    pub begun_drained : drained_in seen ≡ first.undrained.after
+    begun_drained = ap drained_in (begun seen is)
+
+    pub begun_over : (told : B → Option Entries) (t : Tree) → StandsFor (told first.opening) t → IsOpenedOver told seen t first.number first.limit
+    begun_over told t stands = subst (λ (es : List (Entry C B)). IsOpenedOver told es t first.number first.limit) (sym (begun seen is)) (record { opened = refl; tree = stands; number = refl; limit = refl })
+
+    module _ (unchanged : B → B → Type 0) (core : CoreView C B) (opened : IsOpenedAs unchanged seen core) where
+      here : IsOpenedAs unchanged Begun core
+      here = subst (λ (es : List (Entry C B)). IsOpenedAs unchanged es core) (begun seen is) opened
+
+      pub same_opening : core.opening ≡ first.opening
+      same_opening = some_same first.opening core.opening here.opening
+
+      pub same_number : core.number ≡ first.number
+      same_number = sym here.number
+
+      pub same_limit : core.limit ≡ first.limit
+      same_limit = sym here.limit
+
+      pub same_base : unchanged first.base core.base
+      same_base = here.base
+
+module _ {C B : Type 0} (unchanged : B → B → Type 0) where
+  -- what a list tells of the opening, its first part tells
+  pub opened_before : (seen list added : List (Entry C B)) (core : CoreView C B) → is_opened seen ≡ true → list ≡ seen ++ added → IsOpenedAs unchanged list core → IsOpenedAs unchanged seen core
+  opened_before [] list added core is e h = cc
+  opened_before (kind.Noted n ∷ es) list added core is e h = cc
+  opened_before (kind.Drained k ∷ es) list added core is e h = cc
+  opened_before (kind.Opening o n l b d ∷ es) list added core is e h =
+      let same = subst (λ (xs : List (Entry C B)). IsOpenedAs unchanged xs core) e h in
+      record { opening = same.opening; number = same.number; limit = same.limit; base = same.base }

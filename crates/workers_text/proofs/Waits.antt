@@ -1,0 +1,221 @@
+-- A call that waited: its retries among the entries of others, up to its answer.
+use Rattle.std.proofs.Common.{◌≡◌, ◌∙◌, ◌⊎◌, ℕ, zero, suc, Bool, true, false, refl, sym, ap, subst, List, [], ◌∷◌, ◌++◌, inl, inr}
+use Rattle.std.specs.Prelude.{Option, Some, None, Result, Ok, Err}
+use Rattle.tree_model.specs.Entries.{Entries}
+use Rattle.tree_model.specs.Tree.{Tree}
+use Rattle.call_contract.specs.Books.{Book, IsRun, entry, last, next}
+use Rattle.call_contract.specs.Calls.{CallMeaning}
+use Rattle.call_contract.specs.States.{State, start}
+use Rattle.call_contract.specs.declared.events.Answer.{Answer}
+use Rattle.call_contract.specs.declared.events.Answer.TheVariants as answer
+use Rattle.call_contract.specs.declared.events.Event.TheVariants as event
+use Rattle.call_contract.specs.declared.events.EventAnswer.TheVariants as said
+use Rattle.call_contract.proofs.Appends.{last_append}
+use Rattle.command_lines.specs.declared.line_reply.LineAnswer.{LineAnswer}
+use Rattle.command_lines.specs.declared.line_reply.LineReply.{LineReply}
+use Rattle.command_lines.specs.declared.line_reply.LineReply.TheVariants.{Said}
+use Rattle.session_driver.specs.Driving.{shown_why}
+use Rattle.session_driver.specs.Progress.{line_of, shown}
+use Rattle.session_driver.specs.declared.doing.Doing.TheVariants as doing
+use Rattle.tx_core.specs.Retries.{IsNotedRetry}
+use Rattle.tx_core.specs.declared.errors.SessionError.{SessionError}
+use Rattle.turn_lock.specs.Turns.{GoesOn, has_number}
+use Rattle.shared_store.specs.Calls.{HasTried, HasTriedAgain, IsGivenUp, IsLeft, with_retry}
+use Rattle.shared_store.specs.Lists.{book_of, number_of}
+use Rattle.shared_store.specs.Sessions.{HasDone, SessionView}
+use Rattle.shared_store.specs.Waits as store_waits
+use Rattle.shared_store.specs.Waits.{HasCalled, HasCalledAgain, HasWaited, HaveWaited, answer_of, as_first, as_later}
+use Rattle.shared_store.specs.declared.desk.Entry.{Entry}
+use Rattle.shared_store.specs.declared.desk.Entry.TheVariants as kind
+use Rattle.shared_store.specs.declared.ended.Ended.{Ended}
+use Rattle.shared_store.specs.declared.ended.Ended.TheVariants as ended
+use Rattle.shared_store.specs.declared.errors.StoreError.{StoreError}
+use Rattle.shared_store.specs.declared.errors.StoreError.TheVariants as store_error
+use Rattle.shared_store.proofs.Done.{book_append}
+use Rattle.workers_text.specs.Sessions.{AreOthers, IsReplyOr, Meets, Part, Printed, Retries, is_wait}
+use Rattle.workers_text.specs.StorePorts.{GrewFor, HasPart, IsOpenedOver}
+use Rattle.workers_text.specs.inside.Answering.{LineLeaves, Leaves, as_ended, ended_as}
+use Rattle.workers_text.specs.inside.PortLaws.{book_grew, grew_nothing, grew_on, opened_on}
+use Rattle.workers_text.proofs.Calls.{call_refused, refused_line}
+use Rattle.workers_text.proofs.Lines.{behind_others, entry_part, grew_by_one, grew_by_others, others_in, same_number}
+
+-- ---- answers
+
+event_waits : (a : Answer) → store_waits.is_wait a ≡ true → is_wait (said.Call a) ≡ true
+event_waits (answer.Waits r q hs) w = refl
+event_waits (answer.Answered r) w = w
+event_waits (answer.Deadlock cycle) w = w
+
+retry_is_noted : (e : Ended) (b : Bool) → IsNotedRetry (answer_of e) b → b ≡ true
+retry_is_noted (ended.Answered r) b n = n
+retry_is_noted (ended.Deadlock cycle) b n = n
+
+end_is_no_wait : (e : Ended) → is_wait (said.Call (answer_of e)) ≡ false
+end_is_no_wait (ended.Answered r) = refl
+end_is_no_wait (ended.Deadlock cycle) = refl
+
+end_is_shown : (e : Ended) → shown (said.Call (answer_of e)) ≡ ended_as e
+end_is_shown (ended.Answered r) = refl
+end_is_shown (ended.Deadlock cycle) = refl
+
+-- ---- lists go on
+
+module _ {C B : Type 0} (count : B → ℕ) (told : B → Option Entries) (m : CallMeaning C) (has : List Bool) (s : ℕ) where
+  grew_as : (from to : List (Entry C B)) → to ≡ from → GrewFor has s from to
+  grew_as from to is = subst (λ (z : List (Entry C B)). GrewFor has s from z) (sym is) (grew_nothing has s from)
+
+  retry_grew : (from to : List (Entry C B)) (a : Answer) (b : Bool) → to ≡ with_retry from s a b → GrewFor has s from to
+  retry_grew from to a true is = grew_by_one has s from to event.Retry (said.Call a) is
+  retry_grew from to a false is = grew_as from to is
+
+  tried_grew : (before after : List (Entry C B)) (call : C) (e : StoreError) → IsLeft count before s call e after → GrewFor has s before after
+  tried_grew before after call (store_error.Session e) is = grew_as before after is
+  tried_grew before after call store_error.NoMemory (inl is) = grew_as before after is
+  tried_grew before after call store_error.NoMemory (inr is) = grew_by_one has s before after (event.Fail (Some call) is.0 None) said.Nothing is.2
+  tried_grew before after call store_error.DiskFault is = grew_by_one has s before after (event.Fail (Some call) is.0 (Some is.1)) said.Nothing is.2
+  tried_grew before after call (store_error.Halted faults) is = absurd is
+
+  given_up_grew : (before after : List (Entry C B)) (e : StoreError) → IsGivenUp count before s e after → GrewFor has s before after
+  given_up_grew before after (store_error.Session e) is = absurd is
+  given_up_grew before after store_error.NoMemory is = grew_by_one has s before after (event.Fail None is.0 None) said.Nothing is.1
+  given_up_grew before after store_error.DiskFault is = grew_by_one has s before after (event.Fail None is.0 (Some is.1)) said.Nothing is.2
+  given_up_grew before after (store_error.Halted faults) is = absurd is
+
+  again_grew : (before after : List (Entry C B)) (r : Result (Option Answer) StoreError) → HasTriedAgain count told m before s r after → GrewFor has s before after
+  again_grew before after (Ok None) h = grew_as before after h.ok.1
+  again_grew before after (Ok (Some a)) h = retry_grew before after a h.ok.1.noted h.ok.1.list
+  again_grew before after (Err e) h = given_up_grew before after e h.err
+
+  waited_grew : (n : ℕ) (from after : List (Entry C B)) → HaveWaited count told m has from s n after → GrewFor has s from after
+  waited_grew zero from after h = grew_as from after h
+  waited_grew (suc n) from after h =
+      grew_on has s from h.1 after (grew_on has s from h.0 h.1 (waited_grew n from h.0 h.3) (grew_by_others has s h.0 h.1 h.4)) (again_grew h.1 after (Ok (Some h.2)) h.6)
+
+  called_again_grew : (from after : List (Entry C B)) (r : Result Ended StoreError) → HasCalledAgain count told m has from s r after → GrewFor has s from after
+  called_again_grew from after r h =
+      grew_on has s from h.found after (grew_on has s from h.mid h.found (waited_grew h.waits from h.mid h.waited) (grew_by_others has s h.mid h.found h.goes_on)) (again_grew h.found after (as_later r) h.last)
+
+  -- a call that met a fault
+  pub failed_grew : (before after : List (Entry C B)) (call : C) (e : StoreError) → HasCalled count told m has before s call (Err e) after → GrewFor has s before after
+  failed_grew before after call e h = go h.steps
+    where
+      go : HasTried count before s call (as_first (Err e)) after ⊎ HasWaited count told m has before s call (Err e) after → GrewFor has s before after
+      go (inl t) = tried_grew before after call e t.err
+      go (inr w) = grew_on has s before w.waiting after (grew_by_one has s before w.waiting (event.Call call) (said.Call w.given) w.tried.ok) (called_again_grew w.waiting after (Err e) w.again)
+
+  -- a call that is refused added nothing
+  pub refused_same : (before after : List (Entry C B)) (call : C) (e : SessionError) → HasCalled count told m has before s call (Err (store_error.Session e)) after → after ≡ before
+  refused_same before after call e h = go h.steps
+    where
+      go : HasTried count before s call (as_first (Err (store_error.Session e))) after ⊎ HasWaited count told m has before s call (Err (store_error.Session e)) after → after ≡ before
+      go (inl t) = t.err
+      go (inr w) = absurd w.again.last.err
+
+  -- ---- parts of a call that waits
+
+  -- what was added has the retries of a call that waits, of which the last one is answered so
+  record WaitsOn (from to : List (Entry C B)) (reply : LineReply) : Type 0 where
+    pub grew : GrewFor has s from to
+    pub part : (t : Tree) (n l : ℕ) → IsOpenedOver told from t n l → IsRun m (start t n l) (book_of to) → Part m s (last m (start t n l) (book_of from)) (book_of grew.added) (Some reply) []
+
+  skip_waiting : (es fs : Book C) (st : State C) (reply : LineReply) → AreOthers s es → Part m s (last m st es) fs (Some reply) [] → Part m s st (es ++ fs) (Some reply) []
+  skip_waiting [] fs st reply o h = h
+  skip_waiting (n ∷ ns) fs st reply o h = subst (Retries m s n reply [] (Part m s (next m st n) (ns ++ fs))) (sym o.0) (skip_waiting ns fs (next m st n) reply o.1 h)
+
+  state_after : (t : Tree) (n l : ℕ) (xs ys added : List (Entry C B)) → ys ≡ xs ++ added → last m (start t n l) (book_of ys) ≡ last m (last m (start t n l) (book_of xs)) (book_of added)
+  state_after t n l xs ys added is = ap (last m (start t n l)) (book_grew xs ys added is) ∙ last_append m (start t n l) (book_of xs) (book_of added)
+
+  waits_behind_others : has_number has s ≡ true → (from before to : List (Entry C B)) (reply : LineReply) → GoesOn number_of has from before → WaitsOn before to reply → WaitsOn from to reply
+  waits_behind_others own from before to reply g w = record {
+    grew = grew_on has s from before to (grew_by_others has s from before g) w.grew;
+    part = λ t n l opened run.
+        let st = last m (start t n l) (book_of from) in
+        let later_on = w.part t n l (opened_on told from before g.0 g.1 t n l opened) run in
+        subst (λ (bk : Book C). Part m s st bk (Some reply) []) (sym (book_append g.0 w.grew.added))
+        (skip_waiting (book_of g.0) (book_of w.grew.added) st reply (others_in has s own g.0 g.2)
+        (subst (λ u. Part m s u (book_of w.grew.added) (Some reply) []) (state_after t n l from before g.0 g.1) later_on));
+  }
+
+  waits_behind_retry : (found after to : List (Entry C B)) (reply : LineReply) (a : Answer) (b : Bool) → store_waits.is_wait a ≡ true → after ≡ with_retry found s a b → WaitsOn after to reply → WaitsOn found to reply
+  waits_behind_retry found after to reply a false w is on = subst (λ (z : List (Entry C B)). WaitsOn z to reply) is on
+  waits_behind_retry found after to reply a true w is on =
+      let n = entry s event.Retry (said.Call a) in
+      record {
+        grew = grew_on has s found after to (grew_by_one has s found after event.Retry (said.Call a) is) on.grew;
+        part = λ t k l opened run.
+            let st = last m (start t k l) (book_of found) in
+            let bk = book_of on.grew.added in
+            let later_on = on.part t k l (opened_on told found after (kind.Noted n ∷ []) is t k l opened) run in
+            let here = subst (λ u. Part m s u bk (Some reply) []) (state_after t k l found after (kind.Noted n ∷ []) is) later_on in
+            subst (Retries m s n reply [] (Part m s (next m st n) bk)) (sym (same_number s))
+            (refl, subst (IsReplyOr s n.answer reply (λ wait. Part m s (next m st n) bk wait [])) (sym (event_waits a w)) here);
+      }
+
+  waits_behind_retries : has_number has s ≡ true → (n : ℕ) (from mid to : List (Entry C B)) (reply : LineReply) → HaveWaited count told m has from s n mid → WaitsOn mid to reply → WaitsOn from to reply
+  waits_behind_retries own zero from mid to reply h on = subst (λ (z : List (Entry C B)). WaitsOn z to reply) h on
+  waits_behind_retries own (suc n) from mid to reply h on =
+      waits_behind_retries own n from h.0 to reply h.3 (waits_behind_others own h.0 h.1 to reply h.4 (waits_behind_retry h.1 mid to reply h.2 h.6.ok.1.noted h.5 h.6.ok.1.list on))
+
+  -- the last retry
+  waits_no_more : (found after : List (Entry C B)) (e : Ended) → after ≡ with_retry found s (answer_of e) true → WaitsOn found after (Said s false (ended_as e))
+  waits_no_more found after e is =
+      let a = answer_of e in
+      let n = entry s event.Retry (said.Call a) in
+      let reply = Said s false (ended_as e) in
+      record {
+        grew = grew_by_one has s found after event.Retry (said.Call a) is;
+        part = λ t k l opened run.
+            let st = last m (start t k l) (book_of found) in
+            let line : line_of s false (said.Call a) ≡ reply ∷ [] = ap (λ (x : LineAnswer). Said s false x ∷ []) (end_is_shown e) in
+            subst (Retries m s n reply [] (Part m s (next m st n) [])) (sym (same_number s))
+            (refl, subst (IsReplyOr s n.answer reply (λ wait. Part m s (next m st n) [] wait [])) (sym (end_is_no_wait e)) (line, tt));
+      }
+
+  waited_part : has_number has s ≡ true → (waiting after : List (Entry C B)) (e : Ended) → HasCalledAgain count told m has waiting s (Ok e) after → WaitsOn waiting after (Said s false (ended_as e))
+  waited_part own waiting after e h =
+      let reply = Said s false (ended_as e) in
+      let given = h.last.ok.1 in
+      let noted : given.noted ≡ true = retry_is_noted e given.noted given.may_be in
+      waits_behind_retries own h.waits waiting h.mid after reply h.waited
+      (waits_behind_others own h.mid h.found after reply h.goes_on (waits_no_more h.found after e (subst (λ (b : Bool). after ≡ with_retry h.found s (answer_of e) b) noted given.list)))
+
+  -- ---- a call
+
+  pub call_part : has_number has s ≡ true → (from before after : List (Entry C B)) (call : C) (e : Ended) → GoesOn number_of has from before → HasCalled count told m has before s call (Ok e) after
+      → HasPart told m has s from after (record { doing = doing.Call call; reply = Said s false (ended_as e) } ∷ [])
+  call_part own from before after call e g h = go h.steps
+    where
+      reply : LineReply
+      reply = Said s false (ended_as e)
+
+      go : HasTried count before s call (as_first (Ok e)) after ⊎ HasWaited count told m has before s call (Ok e) after → HasPart told m has s from after (record { doing = doing.Call call; reply = reply } ∷ [])
+      go (inl t) = subst (λ (x : LineAnswer). HasPart told m has s from after (record { doing = doing.Call call; reply = Said s false x } ∷ [])) (end_is_shown e)
+          (entry_part told m has s own from before after (doing.Call call) (said.Call (answer_of e)) (end_is_no_wait e) g t.ok)
+      go (inr w) =
+          let n = entry s (event.Call call) (said.Call w.given) in
+          let p : Printed C = record { doing = doing.Call call; reply = reply } in
+          let on = waited_part own w.waiting after e w.again in
+          behind_others told m has s own from before after (p ∷ []) g (grew_on has s before w.waiting after (grew_by_one has s before w.waiting (event.Call call) (said.Call w.given) w.tried.ok) on.grew)
+          (λ t k l opened run.
+          let st = last m (start t k l) (book_of before) in
+          let bk = book_of on.grew.added in
+          let later_on = on.part t k l (opened_on told before w.waiting (kind.Noted n ∷ []) w.tried.ok t k l opened) run in
+          let here = subst (λ u. Part m s u bk (Some reply) []) (state_after t k l before w.waiting (kind.Noted n ∷ []) w.tried.ok) later_on in
+          inl (subst (Meets m s n (p ∷ []) (Part m s (next m st n) bk)) (sym (same_number s))
+          (refl, subst (IsReplyOr s n.answer reply (λ wait. Part m s (next m st n) bk wait [])) (sym (event_waits w.given w.waits)) here)))
+
+module _ {C B : Type 0} (count : B → ℕ) (told : B → Option Entries) (m : CallMeaning C) where
+  pub call_leaves : (p q : SessionView C B) (call : C) (r : Result Ended StoreError) → has_number p.has p.under ≡ true → HasDone p q (λ before after. HasCalled count told m p.has before p.under call r after)
+      → LineLeaves told m p (doing.Call call) q (as_ended r)
+  call_leaves p q call r own h = record { same = h.same; leaves = go r h.did }
+    where
+      fails : (e : StoreError) → HasCalled count told m p.has h.before p.under call (Err e) q.seen → GrewFor p.has p.under p.seen q.seen
+      fails e did = grew_on p.has p.under p.seen h.before q.seen (grew_by_others p.has p.under p.seen h.before h.goes_on) (failed_grew count told m p.has p.under h.before q.seen call e did)
+
+      go : (r : Result Ended StoreError) → HasCalled count told m p.has h.before p.under call r q.seen → Leaves told m p (doing.Call call) q (as_ended r)
+      go (Ok e) did = call_part count told m p.has p.under own p.seen h.before q.seen call e h.goes_on did
+      go (Err store_error.DiskFault) did = fails store_error.DiskFault did
+      go (Err store_error.NoMemory) did = fails store_error.NoMemory did
+      go (Err (store_error.Halted faults)) did = fails (store_error.Halted faults) did
+      go (Err (store_error.Session e)) did = refused_line told m p q (doing.Call call) h.before (shown_why e) own h.goes_on (refused_same count told m p.has p.under h.before q.seen call e did)
+          (λ w shown. call_refused told m p.under h.before call e w did.refused shown)

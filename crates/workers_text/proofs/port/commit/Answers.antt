@@ -1,0 +1,6 @@
+use Rattle.workers_text.proofs.Answered.{commit_line}
+use Rattle.workers_text.proofs.port.commit.Goals as goal
+
+pub returns : goal.returns
+returns g c =
+    commit_line g.B.NodeRead.count g.B.NodeRead.contents g.C.TreeCall.meaning c.args.store.now c.args.session.now c.commit.new.self c.requires c.number.result c.commit.result c.commit.ensures.done c.number.ensures

@@ -1,0 +1,28 @@
+-- What a session is asked by a line, and what it was answered.
+use Rattle.std.specs.Prelude.{ℕ, List, map}
+use Rattle.command_lines.specs.declared.command.Command.{Command}
+use Rattle.command_lines.specs.declared.command.StoreCall.{StoreCall}
+use Rattle.command_lines.specs.declared.command.What.{What}
+use Rattle.command_lines.specs.declared.command.What.TheVariants as what
+use Rattle.command_lines.specs.declared.line_reply.LineReply.{LineReply}
+use Rattle.session_driver.specs.declared.doing.Doing.{Doing}
+use Rattle.session_driver.specs.declared.doing.Doing.TheVariants as doing
+use Rattle.worker_run.specs.Ports.{Exchange}
+use Rattle.worker_run.specs.Workers.{own_exchanges}
+use Rattle.workers_text.specs.Sessions.{Printed}
+
+module _ {C : Type 0} (made : StoreCall → C) where
+  -- what a command asks of its session, where this call is made of one that it names
+  abbrev pub doing_of : What → Doing C
+  doing_of what.Begin = doing.Begin
+  doing_of what.Commit = doing.Commit
+  doing_of what.Abort = doing.Abort
+  doing_of (what.Call call) = doing.Call (made call)
+
+  -- a command with its reply, as its session has them
+  abbrev pub printed : Exchange → Printed C
+  printed x = record { doing = doing_of x.0.what; reply = x.1 }
+
+  -- the lines of a session, each with the reply that stands in its place
+  abbrev pub own_printed : ℕ → List Command → List LineReply → List (Printed C)
+  own_printed s lines replies = map printed (own_exchanges s lines replies)
