@@ -29,12 +29,16 @@ const NO_ELEMENT: &[u8] = b"\x02\x01\x83\x69\x83\x69\0\0";
 
 /// The pages with the byte at one place changed, the first so many bytes of them.
 fn paged(alloc: Global, keep: usize, at: usize, byte: u8) -> Result<Vec<u8>, NoMemory> {
-    let mut bytes = vec![in alloc; 0; 3 * 8_192]?;
-    for (page, content) in PAGES.iter().enumerate() {
-        let start = page * 8_192;
-        bytes[start..start + content.len()].copy_from_slice(content);
+    let mut bytes = Vec::new(alloc);
+    for content in PAGES {
+        bytes.extend_from_slice(content)?;
+        for _ in content.len()..8_192 {
+            bytes.push(0)?;
+        }
     }
-    bytes[at] = byte;
+    if let Some(place) = bytes.get_mut(at) {
+        *place = byte;
+    }
     bytes.truncate(keep);
     Ok(bytes)
 }
@@ -46,7 +50,9 @@ fn journal(alloc: Global, number: u8, body: &[u8]) -> Result<Vec<u8>, NoMemory> 
         return Ok(bytes);
     }
     bytes[8] = 1;
-    bytes.extend_from_slice(&[0, 0, 0, 0, number, 0, 0, 0, body.len() as u8])?;
+    // Each body is short.
+    let len = body.len().min(255) as u8;
+    bytes.extend_from_slice(&[0, 0, 0, 0, number, 0, 0, 0, len])?;
     bytes.extend_from_slice(body)?;
     bytes.push(0)?;
     Ok(bytes)
@@ -160,8 +166,9 @@ fn answers_fault(alloc: Global, of_journal: bool, call: u64) -> Result<bool, Ope
     match open_store(alloc, journal, pages, 1) {
         Ok(store) => Ok(store.journal.faults() == 0),
         Err(refused) => {
-            let counted = refused.journal.faults() + refused.pages.faults();
-            Ok(refused.fault == OpenError::DiskFault && counted == 1)
+            let counted = (refused.journal.faults(), refused.pages.faults());
+            let wanted = if of_journal { (1, 0) } else { (0, 1) };
+            Ok(refused.fault == OpenError::DiskFault && counted == wanted)
         }
     }
 }
