@@ -1,0 +1,4 @@
+mod Members
+mod Opened
+mod Joined
+mod Sent
