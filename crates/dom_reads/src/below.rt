@@ -47,7 +47,8 @@ pub fn last_below<S: NodeRead>(
     ensures unchanged { S.unchanged seq.old seq.new }
     ensures reads { S.reads seq.new ≤ S.reads seq.old + 2 }
     ensures child_read { IfOk result (λ below. IfSome below (λ child. IsSome child → at.now ≢ root → S.reads seq.new ≤ S.reads seq.old + 1)) }
-    ensures reads_of_tree { ReadsOfTree (S.contents seq.old) (λ t. child_reads (last_child_of (node_at at.now t.documents))) (S.reads seq.old) (S.reads seq.new) }
+    ensures reads_of_tree { ReadsOfTree (S.contents seq.old) (λ t. child_reads (last_child_of (node_at at.now t.documents))) (S.reads seq.old)
+        (S.reads seq.new) }
     ensures cause { HasCause SeqError.DiskFault (S.count seq.old) (S.count seq.new) result }
 {
     let child = last_child(alloc, at, seq)?;

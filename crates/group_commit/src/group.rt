@@ -73,7 +73,8 @@ impl<C: TreeCall + Drop, B: NodeRead + Drop, J: Disk> GroupCommit<C, B, J> {
         requires usable { TakesGroups journal }
         requires next { IsTrue (is_next journal.last (last_commit session.seen + 1)) }
         ensures store { IfOk result (λ r. r.0.store ≡ store) }
-        ensures session { IfOk result (λ r. r.1.session ≡ record { lock = session.lock; seen = session.seen; has = slice_set session.has 0 false; under = session.under }) }
+        ensures session { IfOk result (λ r. r.1.session
+            ≡ record { lock = session.lock; seen = session.seen; has = slice_set session.has 0 false; under = session.under }) }
         ensures pass { IfOk result (λ r. r.1.pass ≡ first_pass r.0.lock (mark.Opening session journal ∷ [])) }
         ensures err { IfErr result (λ fault. (fault.store ≡ store) × (fault.session ≡ session) × (fault.journal ≡ journal)) }
     {

@@ -82,7 +82,8 @@ impl<C: TreeCall + Drop, B: NodeRead + Drop, J: Disk> Member<C, B, J> {
         store: &Store<C, B>,
     ) -> Result<Option<Answer>, StoreError>
         requires { self.old.session.lock ≡ store.now }
-        ensures done { HasDone self.old.session self.new.session (λ before after. HasTriedAgain B.count B.contents C.meaning before self.old.session.under result after) }
+        ensures done { HasDone self.old.session self.new.session
+            (λ before after. HasTriedAgain B.count B.contents C.meaning before self.old.session.under result after) }
         ensures pass { self.new.pass ≡ self.old.pass }
     {
         self.session.try_again(rt, alloc, store)
@@ -97,7 +98,8 @@ impl<C: TreeCall + Drop, B: NodeRead + Drop, J: Disk> Member<C, B, J> {
         call: C,
     ) -> Result<Ended, StoreError>
         requires { self.old.session.lock ≡ store.now }
-        ensures done { HasDone self.old.session self.new.session (λ before after. HasCalled B.count B.contents C.meaning self.old.session.has before self.old.session.under call result after) }
+        ensures done { HasDone self.old.session self.new.session
+            (λ before after. HasCalled B.count B.contents C.meaning self.old.session.has before self.old.session.under call result after) }
         ensures pass { self.new.pass ≡ self.old.pass }
     {
         self.session.call(rt, alloc, store, call)

@@ -133,7 +133,8 @@ impl<C: TreeCall + Drop, B: NodeRead + Drop, J: Disk> Scribe<C, B, J> {
         ensures session { session.new ≡ session.old }
         ensures opening { (self.new.session ≡ self.old.session) × (self.new.opening ≡ self.old.opening) }
         ensures answer { IsAnswered (marks_in self.old) session.old.under number result (marks_in self.new) }
-        ensures moments { IsTrue J.is_known → LeavesWritten self.old.opening (began_after self.old) self.old.written (last_commit self.new.drainer.seen) self.old.journal.history self.new.journal.history }
+        ensures moments { IsTrue J.is_known → LeavesWritten self.old.opening (began_after self.old) self.old.written
+            (last_commit self.new.drainer.seen) self.old.journal.history self.new.journal.history }
     {
         // Called for its contract: between two calls of the journal all is synced.
         self.journal.is_usable();
@@ -164,7 +165,8 @@ impl<C: TreeCall + Drop, B: NodeRead + Drop, J: Disk> Scribe<C, B, J> {
         ensures session { session.new ≡ session.old }
         ensures opening { (self.new.session ≡ self.old.session) × (self.new.opening ≡ self.old.opening) }
         ensures answer { IsAnswered (marks_in self.old) session.old.under number result (marks_in self.new) }
-        ensures moments { IsTrue J.is_known → LeavesWritten self.old.opening (began_after self.old) self.old.written (last_commit self.new.drainer.seen) self.old.journal.history self.new.journal.history }
+        ensures moments { IsTrue J.is_known → LeavesWritten self.old.opening (began_after self.old) self.old.written
+            (last_commit self.new.drainer.seen) self.old.journal.history self.new.journal.history }
     {
         let commits = gather(rt, alloc, store, &mut self.drainer, session);
         let pending = commits.as_slice();

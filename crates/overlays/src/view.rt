@@ -96,8 +96,10 @@ fn pass_gone<'g, 'o: 'g, S: NodeRead>(
 ) -> Result<(Come<'o>, Option<Stretch>), SeqError>
     requires empty { (es : Entries) → contents_after own.now (contents_after layers.now.changes (S.contents base.old)) ≡ Some es → AreEmpty gaps.now es }
     ensures come { IfOk result (λ c. HasCome toward key.now (laid own.now layers.now.changes) (S.contents base.old) (unwrap_or c.0.at key.now)) }
-    ensures next { IfOk result (λ c. IsNearest toward (unwrap_or c.0.at key.now) (λ j. now_at j (laid own.now layers.now.changes)) (as_pair (option_copied c.0.next))) }
-    ensures passed { IfOk result (λ c. IfSome c.1 (λ s. (es : Entries) → contents_after own.now (contents_after layers.now.changes (S.contents base.old)) ≡ Some es → IsEmpty s es)) }
+    ensures next { IfOk result (λ c. IsNearest toward (unwrap_or c.0.at key.now) (λ j. now_at j (laid own.now layers.now.changes))
+        (as_pair (option_copied c.0.next))) }
+    ensures passed { IfOk result (λ c. IfSome c.1 (λ s. (es : Entries) → contents_after own.now (contents_after layers.now.changes (S.contents base.old))
+        ≡ Some es → IsEmpty s es)) }
     ensures noted { IfOk result (λ c. (S.reads base.new ≤ S.reads base.old + 5)
         ⊎ AllCovered toward key.now (unwrap_or c.0.at key.now) (laid own.now layers.now.changes) gaps.now (with_piece c.1 [])) }
     ensures own { IsChangeList own.now }
@@ -226,7 +228,8 @@ fn note_gone<'o, S: NodeRead>(
 ) -> Result<Come<'o>, SeqError>
     requires empty { (es : Entries) → contents_after own.now (contents_after layers.now.changes (S.contents base.old)) ≡ Some es → AreEmpty gaps.old es }
     ensures come { IfOk result (λ c. HasCome toward key.now (laid own.now layers.now.changes) (S.contents base.old) (unwrap_or c.at key.now)) }
-    ensures next { IfOk result (λ c. IsNearest toward (unwrap_or c.at key.now) (λ j. now_at j (laid own.now layers.now.changes)) (as_pair (option_copied c.next))) }
+    ensures next { IfOk result (λ c. IsNearest toward (unwrap_or c.at key.now) (λ j. now_at j (laid own.now layers.now.changes))
+        (as_pair (option_copied c.next))) }
     ensures empty { (es : Entries) → contents_after own.now (contents_after layers.now.changes (S.contents base.old)) ≡ Some es → AreEmpty gaps.new es }
     ensures noted { IfOk result (λ c. (S.reads base.new ≤ S.reads base.old + 5)
         ⊎ AllCovered toward key.now (unwrap_or c.at key.now) (laid own.now layers.now.changes) gaps.old gaps.new) }
@@ -387,10 +390,13 @@ fn seen_behind<S: NodeRead>(
     at: &Key,
     next: Option<&Change>,
 ) -> Result<Option<(Key, Record)>, SeqError>
-    ensures value { IfOk result (λ found. (cs : ChangeList) (es : Entries) → IsNearest toward at.now (λ j. now_at j cs) (as_pair (option_copied next.entry)) → S.contents base.old ≡ Some es
+    ensures value { IfOk result (λ found. (cs : ChangeList) (es : Entries) → IsNearest toward at.now (λ j. now_at j cs) (as_pair (option_copied next.entry))
+        → S.contents base.old ≡ Some es
         → IsSettled toward at.now cs es → Sees toward at.now cs es found) }
-    ensures ahead { (cs : ChangeList) → IsNearest toward at.now (λ j. now_at j cs) (as_pair (option_copied next.entry)) → IfOk result (LiesAhead toward at.now) }
-    ensures valid { (cs : ChangeList) → IsNearest toward at.now (λ j. now_at j cs) (as_pair (option_copied next.entry)) → IsChangeList cs → S.contents base.old ≡ None → IfOk result IsEntryOfTrees }
+    ensures ahead { (cs : ChangeList) → IsNearest toward at.now (λ j. now_at j cs) (as_pair (option_copied next.entry))
+        → IfOk result (LiesAhead toward at.now) }
+    ensures valid { (cs : ChangeList) → IsNearest toward at.now (λ j. now_at j cs) (as_pair (option_copied next.entry)) → IsChangeList cs
+        → S.contents base.old ≡ None → IfOk result IsEntryOfTrees }
     ensures unchanged { S.unchanged base.old base.new }
     ensures reads { S.reads base.new ≤ S.reads base.old + 1 }
     ensures cause { HasCause DiskFault (S.count base.old) (S.count base.new) result }
@@ -408,10 +414,13 @@ fn key_behind<S: NodeRead>(
     at: &Key,
     next: Option<&Change>,
 ) -> Result<Option<Key>, SeqError>
-    ensures value { IfOk result (λ found. (cs : ChangeList) (es : Entries) → IsNearest toward at.now (λ j. now_at j cs) (as_pair (option_copied next.entry)) → S.contents base.old ≡ Some es
+    ensures value { IfOk result (λ found. (cs : ChangeList) (es : Entries) → IsNearest toward at.now (λ j. now_at j cs) (as_pair (option_copied next.entry))
+        → S.contents base.old ≡ Some es
         → IsSettled toward at.now cs es → SeesKey toward at.now cs es found) }
-    ensures ahead { (cs : ChangeList) → IsNearest toward at.now (λ j. now_at j cs) (as_pair (option_copied next.entry)) → IfOk result (KeyLiesAhead toward at.now) }
-    ensures valid { (cs : ChangeList) → IsNearest toward at.now (λ j. now_at j cs) (as_pair (option_copied next.entry)) → IsChangeList cs → S.contents base.old ≡ None → IfOk result IsKeyOfTrees }
+    ensures ahead { (cs : ChangeList) → IsNearest toward at.now (λ j. now_at j cs) (as_pair (option_copied next.entry))
+        → IfOk result (KeyLiesAhead toward at.now) }
+    ensures valid { (cs : ChangeList) → IsNearest toward at.now (λ j. now_at j cs) (as_pair (option_copied next.entry)) → IsChangeList cs
+        → S.contents base.old ≡ None → IfOk result IsKeyOfTrees }
     ensures unchanged { S.unchanged base.old base.new }
     ensures reads { S.reads base.new ≤ S.reads base.old + 1 }
     ensures cause { HasCause DiskFault (S.count base.old) (S.count base.new) result }
@@ -487,9 +496,13 @@ impl<'a, S: NodeRead> NodeRead for View<'a, S> {
     ghost unchanged = { λ v w. S.unchanged v.base.now w.base.now × (v.layers.now ≡ w.layers.now) × (v.own.now ≡ w.own.now) × (v.base.ghost_name ≡ w.base.ghost_name) × (v.gaps.ghost_name ≡ w.gaps.ghost_name) };
 
     fn get(&mut self, alloc: Global, key: &Key) -> Result<Option<Record>, SeqError>
-        ensures value { Finds (contents_after self.old.own.now (contents_after self.old.layers.now.changes (S.contents self.old.base.now))) result (get key.now) }
-        ensures valid { contents_after self.old.own.now (contents_after self.old.layers.now.changes (S.contents self.old.base.now)) ≡ None → IfOk result IsRecordOfTrees }
-        ensures unchanged { S.unchanged self.old.base.now self.new.base.now × (self.old.layers.now ≡ self.new.layers.now) × (self.old.own.now ≡ self.new.own.now) × (self.old.base.ghost_name ≡ self.new.base.ghost_name) × (self.old.gaps.ghost_name ≡ self.new.gaps.ghost_name) }
+        ensures value { Finds (contents_after self.old.own.now (contents_after self.old.layers.now.changes (S.contents self.old.base.now))) result
+            (get key.now) }
+        ensures valid { contents_after self.old.own.now (contents_after self.old.layers.now.changes (S.contents self.old.base.now)) ≡ None
+            → IfOk result IsRecordOfTrees }
+        ensures unchanged { S.unchanged self.old.base.now self.new.base.now × (self.old.layers.now ≡ self.new.layers.now)
+            × (self.old.own.now ≡ self.new.own.now) × (self.old.base.ghost_name ≡ self.new.base.ghost_name)
+            × (self.old.gaps.ghost_name ≡ self.new.gaps.ghost_name) }
         ensures reads { 0 ≤ 0 + 1 }
         ensures of_base { S.reads self.new.base.now ≤ S.reads self.old.base.now + 1 }
         ensures cause { HasCause DiskFault (S.count self.old.base.now) (S.count self.new.base.now) result }
@@ -498,13 +511,19 @@ impl<'a, S: NodeRead> NodeRead for View<'a, S> {
     }
 
     fn next_from(&mut self, alloc: Global, key: &Key) -> Result<Option<(Key, Record)>, SeqError>
-        ensures value { Finds (contents_after self.old.own.now (contents_after self.old.layers.now.changes (S.contents self.old.base.now))) result (first_above key.now) }
+        ensures value { Finds (contents_after self.old.own.now (contents_after self.old.layers.now.changes (S.contents self.old.base.now))) result
+            (first_above key.now) }
         ensures above { IfOk result (LiesAbove key.now) }
-        ensures valid { contents_after self.old.own.now (contents_after self.old.layers.now.changes (S.contents self.old.base.now)) ≡ None → IfOk result IsEntryOfTrees }
-        ensures unchanged { S.unchanged self.old.base.now self.new.base.now × (self.old.layers.now ≡ self.new.layers.now) × (self.old.own.now ≡ self.new.own.now) × (self.old.base.ghost_name ≡ self.new.base.ghost_name) × (self.old.gaps.ghost_name ≡ self.new.gaps.ghost_name) }
+        ensures valid { contents_after self.old.own.now (contents_after self.old.layers.now.changes (S.contents self.old.base.now)) ≡ None
+            → IfOk result IsEntryOfTrees }
+        ensures unchanged { S.unchanged self.old.base.now self.new.base.now × (self.old.layers.now ≡ self.new.layers.now)
+            × (self.old.own.now ≡ self.new.own.now) × (self.old.base.ghost_name ≡ self.new.base.ghost_name)
+            × (self.old.gaps.ghost_name ≡ self.new.gaps.ghost_name) }
         ensures reads { 0 ≤ 0 + 1 }
-        ensures of_base { S.reads self.new.base.now ≤ S.reads self.old.base.now + (1 + most_steps Up key.now self.old.gaps.now (laid self.old.own.now self.old.layers.now.changes)) }
-        ensures noted { IfOk result (λ found. (es : Entries) → S.contents self.old.base.now ≡ Some es → (S.reads self.new.base.now ≤ S.reads self.old.base.now + 6)
+        ensures of_base { S.reads self.new.base.now
+            ≤ S.reads self.old.base.now + (1 + most_steps Up key.now self.old.gaps.now (laid self.old.own.now self.old.layers.now.changes)) }
+        ensures noted { IfOk result (λ found. (es : Entries) → S.contents self.old.base.now ≡ Some es
+            → (S.reads self.new.base.now ≤ S.reads self.old.base.now + 6)
             ⊎ NoneOpen Up key.now (option_map (λ e. e.0) found) (laid self.old.own.now self.old.layers.now.changes) self.old.gaps.now self.new.gaps.now) }
         ensures cause { HasCause DiskFault (S.count self.old.base.now) (S.count self.new.base.now) result }
     {
@@ -520,13 +539,19 @@ impl<'a, S: NodeRead> NodeRead for View<'a, S> {
     }
 
     fn prev_from(&mut self, alloc: Global, key: &Key) -> Result<Option<(Key, Record)>, SeqError>
-        ensures value { Finds (contents_after self.old.own.now (contents_after self.old.layers.now.changes (S.contents self.old.base.now))) result (last_below key.now) }
+        ensures value { Finds (contents_after self.old.own.now (contents_after self.old.layers.now.changes (S.contents self.old.base.now))) result
+            (last_below key.now) }
         ensures below { IfOk result (LiesBelow key.now) }
-        ensures valid { contents_after self.old.own.now (contents_after self.old.layers.now.changes (S.contents self.old.base.now)) ≡ None → IfOk result IsEntryOfTrees }
-        ensures unchanged { S.unchanged self.old.base.now self.new.base.now × (self.old.layers.now ≡ self.new.layers.now) × (self.old.own.now ≡ self.new.own.now) × (self.old.base.ghost_name ≡ self.new.base.ghost_name) × (self.old.gaps.ghost_name ≡ self.new.gaps.ghost_name) }
+        ensures valid { contents_after self.old.own.now (contents_after self.old.layers.now.changes (S.contents self.old.base.now)) ≡ None
+            → IfOk result IsEntryOfTrees }
+        ensures unchanged { S.unchanged self.old.base.now self.new.base.now × (self.old.layers.now ≡ self.new.layers.now)
+            × (self.old.own.now ≡ self.new.own.now) × (self.old.base.ghost_name ≡ self.new.base.ghost_name)
+            × (self.old.gaps.ghost_name ≡ self.new.gaps.ghost_name) }
         ensures reads { 0 ≤ 0 + 1 }
-        ensures of_base { S.reads self.new.base.now ≤ S.reads self.old.base.now + (1 + most_steps Down key.now self.old.gaps.now (laid self.old.own.now self.old.layers.now.changes)) }
-        ensures noted { IfOk result (λ found. (es : Entries) → S.contents self.old.base.now ≡ Some es → (S.reads self.new.base.now ≤ S.reads self.old.base.now + 6)
+        ensures of_base { S.reads self.new.base.now
+            ≤ S.reads self.old.base.now + (1 + most_steps Down key.now self.old.gaps.now (laid self.old.own.now self.old.layers.now.changes)) }
+        ensures noted { IfOk result (λ found. (es : Entries) → S.contents self.old.base.now ≡ Some es
+            → (S.reads self.new.base.now ≤ S.reads self.old.base.now + 6)
             ⊎ NoneOpen Down key.now (option_map (λ e. e.0) found) (laid self.old.own.now self.old.layers.now.changes) self.old.gaps.now self.new.gaps.now) }
         ensures cause { HasCause DiskFault (S.count self.old.base.now) (S.count self.new.base.now) result }
     {
@@ -542,13 +567,19 @@ impl<'a, S: NodeRead> NodeRead for View<'a, S> {
     }
 
     fn key_above(&mut self, alloc: Global, key: &Key) -> Result<Option<Key>, SeqError>
-        ensures value { Finds (contents_after self.old.own.now (contents_after self.old.layers.now.changes (S.contents self.old.base.now))) result (key_above key.now) }
+        ensures value { Finds (contents_after self.old.own.now (contents_after self.old.layers.now.changes (S.contents self.old.base.now))) result
+            (key_above key.now) }
         ensures above { IfOk result (IsKeyAbove key.now) }
-        ensures valid { contents_after self.old.own.now (contents_after self.old.layers.now.changes (S.contents self.old.base.now)) ≡ None → IfOk result IsKeyOfTrees }
-        ensures unchanged { S.unchanged self.old.base.now self.new.base.now × (self.old.layers.now ≡ self.new.layers.now) × (self.old.own.now ≡ self.new.own.now) × (self.old.base.ghost_name ≡ self.new.base.ghost_name) × (self.old.gaps.ghost_name ≡ self.new.gaps.ghost_name) }
+        ensures valid { contents_after self.old.own.now (contents_after self.old.layers.now.changes (S.contents self.old.base.now)) ≡ None
+            → IfOk result IsKeyOfTrees }
+        ensures unchanged { S.unchanged self.old.base.now self.new.base.now × (self.old.layers.now ≡ self.new.layers.now)
+            × (self.old.own.now ≡ self.new.own.now) × (self.old.base.ghost_name ≡ self.new.base.ghost_name)
+            × (self.old.gaps.ghost_name ≡ self.new.gaps.ghost_name) }
         ensures reads { 0 ≤ 0 + 1 }
-        ensures of_base { S.reads self.new.base.now ≤ S.reads self.old.base.now + (1 + most_steps Up key.now self.old.gaps.now (laid self.old.own.now self.old.layers.now.changes)) }
-        ensures noted { IfOk result (λ found. (es : Entries) → S.contents self.old.base.now ≡ Some es → (S.reads self.new.base.now ≤ S.reads self.old.base.now + 6)
+        ensures of_base { S.reads self.new.base.now
+            ≤ S.reads self.old.base.now + (1 + most_steps Up key.now self.old.gaps.now (laid self.old.own.now self.old.layers.now.changes)) }
+        ensures noted { IfOk result (λ found. (es : Entries) → S.contents self.old.base.now ≡ Some es
+            → (S.reads self.new.base.now ≤ S.reads self.old.base.now + 6)
             ⊎ NoneOpen Up key.now found (laid self.old.own.now self.old.layers.now.changes) self.old.gaps.now self.new.gaps.now) }
         ensures cause { HasCause DiskFault (S.count self.old.base.now) (S.count self.new.base.now) result }
     {
@@ -564,13 +595,19 @@ impl<'a, S: NodeRead> NodeRead for View<'a, S> {
     }
 
     fn key_below(&mut self, alloc: Global, key: &Key) -> Result<Option<Key>, SeqError>
-        ensures value { Finds (contents_after self.old.own.now (contents_after self.old.layers.now.changes (S.contents self.old.base.now))) result (key_below key.now) }
+        ensures value { Finds (contents_after self.old.own.now (contents_after self.old.layers.now.changes (S.contents self.old.base.now))) result
+            (key_below key.now) }
         ensures below { IfOk result (IsKeyBelow key.now) }
-        ensures valid { contents_after self.old.own.now (contents_after self.old.layers.now.changes (S.contents self.old.base.now)) ≡ None → IfOk result IsKeyOfTrees }
-        ensures unchanged { S.unchanged self.old.base.now self.new.base.now × (self.old.layers.now ≡ self.new.layers.now) × (self.old.own.now ≡ self.new.own.now) × (self.old.base.ghost_name ≡ self.new.base.ghost_name) × (self.old.gaps.ghost_name ≡ self.new.gaps.ghost_name) }
+        ensures valid { contents_after self.old.own.now (contents_after self.old.layers.now.changes (S.contents self.old.base.now)) ≡ None
+            → IfOk result IsKeyOfTrees }
+        ensures unchanged { S.unchanged self.old.base.now self.new.base.now × (self.old.layers.now ≡ self.new.layers.now)
+            × (self.old.own.now ≡ self.new.own.now) × (self.old.base.ghost_name ≡ self.new.base.ghost_name)
+            × (self.old.gaps.ghost_name ≡ self.new.gaps.ghost_name) }
         ensures reads { 0 ≤ 0 + 1 }
-        ensures of_base { S.reads self.new.base.now ≤ S.reads self.old.base.now + (1 + most_steps Down key.now self.old.gaps.now (laid self.old.own.now self.old.layers.now.changes)) }
-        ensures noted { IfOk result (λ found. (es : Entries) → S.contents self.old.base.now ≡ Some es → (S.reads self.new.base.now ≤ S.reads self.old.base.now + 6)
+        ensures of_base { S.reads self.new.base.now
+            ≤ S.reads self.old.base.now + (1 + most_steps Down key.now self.old.gaps.now (laid self.old.own.now self.old.layers.now.changes)) }
+        ensures noted { IfOk result (λ found. (es : Entries) → S.contents self.old.base.now ≡ Some es
+            → (S.reads self.new.base.now ≤ S.reads self.old.base.now + 6)
             ⊎ NoneOpen Down key.now found (laid self.old.own.now self.old.layers.now.changes) self.old.gaps.now self.new.gaps.now) }
         ensures cause { HasCause DiskFault (S.count self.old.base.now) (S.count self.new.base.now) result }
     {

@@ -68,7 +68,8 @@ fn cut<C: TreeCall + Drop, B: NodeRead + Drop>(
 ) -> Session<C, B>
     requires store { session.old.lock ≡ store.now }
     requires number { (has_number session.old.has number ≡ true) × (session.old.under ≢ number) }
-    ensures kept { (session.new.lock ≡ session.old.lock) × (session.new.under ≡ session.old.under) × (session.new.has ≡ slice_set session.old.has number false) }
+    ensures kept { (session.new.lock ≡ session.old.lock) × (session.new.under ≡ session.old.under)
+        × (session.new.has ≡ slice_set session.old.has number false) }
     ensures given { (result.lock ≡ session.old.lock) × (result.under ≡ number) × (result.has ≡ only_number number) }
 {
     session.split(store, number)

@@ -120,7 +120,8 @@ pub fn prepare<C: TreeCall + Drop, B: NodeRead>(
     ensures prepared { OnOk result (parts.new.prepared ≡ Some session) }
     ensures spare { OnOk result (1 ≤ parts.new.layers.spare) }
     ensures bodies { OnOk result (length bodies.new.waiting.items < vec_capacity bodies.new.waiting) }
-    ensures kept { (bodies.new.waiting.items ≡ bodies.old.waiting.items) × (bodies.new.after ≡ bodies.old.after) × (vec_capacity bodies.old.waiting ≤ vec_capacity bodies.new.waiting) }
+    ensures kept { (bodies.new.waiting.items ≡ bodies.old.waiting.items) × (bodies.new.after ≡ bodies.old.after)
+        × (vec_capacity bodies.old.waiting ≤ vec_capacity bodies.new.waiting) }
     ensures layers { parts.new.layers.changes ≡ parts.old.layers.changes }
     ensures ready { OnOk result (IsReady (seat_in (get nat_cmp parts.new.places session))) }
     ensures refused { shown_prepare_refusal result ≡ commit_refused (seat_in (get nat_cmp parts.old.places session)) }

@@ -187,7 +187,8 @@ impl<C: TreeCall + Drop, B: NodeRead + Drop> Core<C, B> {
         requires prepared { self.old.prepared ≡ Some session }
         requires commit { IsPrepared self.old prepared }
         ensures number { result ≡ next_number self.old }
-        ensures committed { self.new ≡ with_committed (with_pending (with_entry self.old (entry_of session event.Commit (said.Number result))) (pending_of prepared)) self.new.committed }
+        ensures committed { self.new ≡ with_committed
+            (with_pending (with_entry self.old (entry_of session event.Commit (said.Number result))) (pending_of prepared)) self.new.committed }
         ensures apart { (t : Tree) → StandsFor (B.contents self.old.opening) t → NoCellIsShared (state_from C.meaning t self.old) }
         ensures others { (t : Tree) → StandsFor (B.contents self.old.opening) t → ReplaysOthers C.meaning (state_from C.meaning t self.old) session }
     {

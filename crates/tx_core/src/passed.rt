@@ -53,7 +53,8 @@ pub fn take_passed(alloc: Global, passed: &mut Vec<Passed>, session: u32) -> Gap
 
 /// Keeps what a session's transaction has passed. Where there is no memory for that, its next reads pass it again.
 pub fn keep_passed(passed: &mut Vec<Passed>, session: u32, gaps: Gaps)
-    ensures { (o : ℕ) → AreWithin (stretches_of passed.new.items o) (cond (session == o) (gaps ++ stretches_of passed.old.items o) (stretches_of passed.old.items o)) }
+    ensures { (o : ℕ) → AreWithin (stretches_of passed.new.items o)
+        (cond (session == o) (gaps ++ stretches_of passed.old.items o) (stretches_of passed.old.items o)) }
 {
     if gaps.is_empty() {
         return;

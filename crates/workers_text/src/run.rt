@@ -71,7 +71,8 @@ fn run_over<
     ensures bodies { HasBodies C.meaning B.contents result.core }
     ensures undrained { IfOk result.replies (λ _. result.core.undrained.after ≡ drained_in main.seen) }
     ensures all { IfOk result.replies (λ replies. length replies ≡ length lines.now) }
-    ensures does { IfOk result.replies (λ replies. (t : Tree) (n l : ℕ) → IsOpenedOver B.contents main.seen t n l → IsRun C.meaning (start t n l) result.core.book
+    ensures does { IfOk result.replies (λ replies. (t : Tree) (n l : ℕ) → IsOpenedOver B.contents main.seen t n l
+        → IsRun C.meaning (start t n l) result.core.book
         → (s : ℕ) → Does C.meaning s (start t n l) result.core.book (own_printed C.made s lines.now replies)) }
 {
     let own = main.number();

@@ -28,7 +28,8 @@ pub fn axis<S: NodeRead, W: Looks>(
     seq: &mut S,
     looks: &mut W,
 ) -> Result<List<Position>, SeqError>
-    ensures run { Runs S.reads W.saw S.contents (and_then (program.along axis test.now (plain from.now)) (λ s. ends (filter (path.passes axis test.now) s))) all_plain
+    ensures run { Runs S.reads W.saw S.contents
+        (and_then (program.along axis test.now (plain from.now)) (λ s. ends (filter (path.passes axis test.now) s))) all_plain
         seq.old looks.old result seq.new looks.new }
     ensures unchanged { S.unchanged seq.old seq.new }
     ensures cause { HasCause SeqError.DiskFault (S.count seq.old) (S.count seq.new) result }
@@ -115,7 +116,8 @@ fn descendants<S: NodeRead, W: Looks>(
     seq: &mut S,
     looks: &mut W,
 ) -> Result<List<Position>, SeqError>
-    ensures run { Runs S.reads W.saw S.contents (and_then (program.descendants (plain from.now)) (λ s. ends (all_plain before ++ s))) all_plain seq.old looks.old result seq.new looks.new }
+    ensures run { Runs S.reads W.saw S.contents
+        (and_then (program.descendants (plain from.now)) (λ s. ends (all_plain before ++ s))) all_plain seq.old looks.old result seq.new looks.new }
     ensures unchanged { S.unchanged seq.old seq.new }
     ensures cause { HasCause SeqError.DiskFault (S.count seq.old) (S.count seq.new) result }
 {
@@ -156,7 +158,8 @@ fn ancestors<S: NodeRead, W: Looks>(
     seq: &mut S,
     looks: &mut W,
 ) -> Result<List<Position>, SeqError>
-    ensures run { Runs S.reads W.saw S.contents (and_then (program.ancestor_nodes (plain from.now)) (λ s. ends (all_plain before ++ s))) all_plain seq.old looks.old result seq.new looks.new }
+    ensures run { Runs S.reads W.saw S.contents
+        (and_then (program.ancestor_nodes (plain from.now)) (λ s. ends (all_plain before ++ s))) all_plain seq.old looks.old result seq.new looks.new }
     ensures unchanged { S.unchanged seq.old seq.new }
     ensures cause { HasCause SeqError.DiskFault (S.count seq.old) (S.count seq.new) result }
 {
@@ -186,7 +189,8 @@ fn nodes_at<S: NodeRead, W: Looks>(
     seq: &mut S,
     looks: &mut W,
 ) -> Result<List<Position>, SeqError>
-    ensures run { Runs S.reads W.saw S.contents (and_then (program.nodes_at labels.now) (λ s. ends (all_plain before ++ s))) all_plain seq.old looks.old result seq.new looks.new }
+    ensures run { Runs S.reads W.saw S.contents
+        (and_then (program.nodes_at labels.now) (λ s. ends (all_plain before ++ s))) all_plain seq.old looks.old result seq.new looks.new }
     ensures unchanged { S.unchanged seq.old seq.new }
     ensures cause { HasCause SeqError.DiskFault (S.count seq.old) (S.count seq.new) result }
 {
@@ -224,7 +228,8 @@ fn siblings<S: NodeRead, W: Looks>(
     seq: &mut S,
     looks: &mut W,
 ) -> Result<List<Position>, SeqError>
-    ensures run { Runs S.reads W.saw S.contents (program.siblings (in_turn side (path.label_of (plain from.now))) (plain from.now)) all_plain seq.old looks.old result seq.new looks.new }
+    ensures run { Runs S.reads W.saw S.contents
+        (program.siblings (in_turn side (path.label_of (plain from.now))) (plain from.now)) all_plain seq.old looks.old result seq.new looks.new }
     ensures unchanged { S.unchanged seq.old seq.new }
     ensures cause { HasCause SeqError.DiskFault (S.count seq.old) (S.count seq.new) result }
 {

@@ -96,7 +96,8 @@ fn link<S: NodeRead, W: Looks>(
     seq: &mut S,
     looks: &mut W,
 ) -> Result<XValue, SeqError>
-    ensures run { Runs S.reads W.saw S.contents (linked op (meant left) (paths.plain operand.now) (stands context.now)) meant seq.old looks.old result seq.new looks.new }
+    ensures run { Runs S.reads W.saw S.contents
+        (linked op (meant left) (paths.plain operand.now) (stands context.now)) meant seq.old looks.old result seq.new looks.new }
     ensures unchanged { S.unchanged seq.old seq.new }
     ensures cause { HasCause SeqError.DiskFault (S.count seq.old) (S.count seq.new) result }
 {
@@ -117,7 +118,8 @@ fn apply<S: NodeRead, W: Looks>(
     seq: &mut S,
     looks: &mut W,
 ) -> Result<XValue, SeqError>
-    ensures run { Runs S.reads W.saw S.contents (program.value (apply op (plain_row operands.now)) (stands context.now)) meant seq.old looks.old result seq.new looks.new }
+    ensures run { Runs S.reads W.saw S.contents
+        (program.value (apply op (plain_row operands.now)) (stands context.now)) meant seq.old looks.old result seq.new looks.new }
     ensures unchanged { S.unchanged seq.old seq.new }
     ensures cause { HasCause SeqError.DiskFault (S.count seq.old) (S.count seq.new) result }
 {
@@ -141,7 +143,8 @@ fn settled<S: NodeRead, W: Looks>(
     seq: &mut S,
     looks: &mut W,
 ) -> Result<XValue, SeqError>
-    ensures run { Runs S.reads W.saw S.contents (program.settled by (plain_row operands.now) (stands context.now)) meant seq.old looks.old result seq.new looks.new }
+    ensures run { Runs S.reads W.saw S.contents
+        (program.settled by (plain_row operands.now) (stands context.now)) meant seq.old looks.old result seq.new looks.new }
     ensures unchanged { S.unchanged seq.old seq.new }
     ensures cause { HasCause SeqError.DiskFault (S.count seq.old) (S.count seq.new) result }
 {
@@ -163,7 +166,8 @@ fn values_of<S: NodeRead, W: Looks>(
     seq: &mut S,
     looks: &mut W,
 ) -> Result<List<XValue>, SeqError>
-    ensures run { Runs S.reads W.saw S.contents (program.operands (plain_row operands.now) (stands context.now)) all_meant seq.old looks.old result seq.new looks.new }
+    ensures run { Runs S.reads W.saw S.contents
+        (program.operands (plain_row operands.now) (stands context.now)) all_meant seq.old looks.old result seq.new looks.new }
     ensures unchanged { S.unchanged seq.old seq.new }
     ensures cause { HasCause SeqError.DiskFault (S.count seq.old) (S.count seq.new) result }
 {
@@ -276,7 +280,8 @@ fn filtered<S: NodeRead, W: Looks>(
     seq: &mut S,
     looks: &mut W,
 ) -> Result<List<Position>, SeqError>
-    ensures run { Runs S.reads W.saw S.contents (program.filtered (plain_row tests.now) (all_plain nodes)) all_plain seq.old looks.old result seq.new looks.new }
+    ensures run { Runs S.reads W.saw S.contents
+        (program.filtered (plain_row tests.now) (all_plain nodes)) all_plain seq.old looks.old result seq.new looks.new }
     ensures unchanged { S.unchanged seq.old seq.new }
     ensures cause { HasCause SeqError.DiskFault (S.count seq.old) (S.count seq.new) result }
 {
@@ -296,7 +301,9 @@ fn kept<S: NodeRead, W: Looks>(
     seq: &mut S,
     looks: &mut W,
 ) -> Result<List<Position>, SeqError>
-    ensures run { Runs S.reads W.saw S.contents (program.kept_by (λ c. program.value (paths.plain test.now) c) (length (all_plain nodes)) 1 (all_plain nodes)) all_plain seq.old looks.old result seq.new looks.new }
+    ensures run { Runs S.reads W.saw S.contents
+        (program.kept_by (λ c. program.value (paths.plain test.now) c) (length (all_plain nodes)) 1
+        (all_plain nodes)) all_plain seq.old looks.old result seq.new looks.new }
     ensures unchanged { S.unchanged seq.old seq.new }
     ensures cause { HasCause SeqError.DiskFault (S.count seq.old) (S.count seq.new) result }
 {

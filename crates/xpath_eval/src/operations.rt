@@ -118,7 +118,8 @@ fn calculated<S: NodeRead, W: Looks>(
     seq: &mut S,
     looks: &mut W,
 ) -> Result<XValue, SeqError>
-    ensures run { Runs S.reads W.saw S.contents (program.in_numbers (calculation by) (meant left.now) (meant right.now)) (meant) seq.old looks.old result seq.new looks.new }
+    ensures run { Runs S.reads W.saw S.contents (program.in_numbers (calculation by) (meant left.now) (meant right.now))
+        (meant) seq.old looks.old result seq.new looks.new }
     ensures unchanged { S.unchanged seq.old seq.new }
     ensures cause { HasCause SeqError.DiskFault (S.count seq.old) (S.count seq.new) result }
 {
@@ -143,7 +144,8 @@ fn negated<S: NodeRead, W: Looks>(
     seq: &mut S,
     looks: &mut W,
 ) -> Result<XValue, SeqError>
-    ensures run { Runs S.reads W.saw S.contents (program.in_number (λ x. value.number (minus spec.zero_number x)) (meant of.now)) (meant) seq.old looks.old result seq.new looks.new }
+    ensures run { Runs S.reads W.saw S.contents (program.in_number (λ x. value.number (minus spec.zero_number x)) (meant of.now))
+        (meant) seq.old looks.old result seq.new looks.new }
     ensures unchanged { S.unchanged seq.old seq.new }
     ensures cause { HasCause SeqError.DiskFault (S.count seq.old) (S.count seq.new) result }
 {
@@ -157,7 +159,9 @@ fn summed<S: NodeRead, W: Looks>(
     seq: &mut S,
     looks: &mut W,
 ) -> Result<XValue, SeqError>
-    ensures run { Runs S.reads W.saw S.contents (and_then (program.string_values (spec.nodes_in (meant of.now))) (λ ss. ends (value.number (spec.added_up spec.zero_number ss)))) (meant) seq.old looks.old result seq.new looks.new }
+    ensures run { Runs S.reads W.saw S.contents
+        (and_then (program.string_values (spec.nodes_in (meant of.now))) (λ ss. ends (value.number (spec.added_up spec.zero_number ss))))
+        (meant) seq.old looks.old result seq.new looks.new }
     ensures unchanged { S.unchanged seq.old seq.new }
     ensures cause { HasCause SeqError.DiskFault (S.count seq.old) (S.count seq.new) result }
 {
@@ -208,7 +212,8 @@ fn own_text<S: NodeRead, W: Looks>(
     seq: &mut S,
     looks: &mut W,
 ) -> Result<Text, SeqError>
-    ensures run { Runs S.reads W.saw S.contents (as_text (spec.first_or_context (all_meant operands.now) (stands context.now))) (λ s. s) seq.old looks.old result seq.new looks.new }
+    ensures run { Runs S.reads W.saw S.contents (as_text (spec.first_or_context (all_meant operands.now) (stands context.now)))
+        (λ s. s) seq.old looks.old result seq.new looks.new }
     ensures unchanged { S.unchanged seq.old seq.new }
     ensures cause { HasCause SeqError.DiskFault (S.count seq.old) (S.count seq.new) result }
 {
@@ -226,7 +231,8 @@ fn own_number<S: NodeRead, W: Looks>(
     seq: &mut S,
     looks: &mut W,
 ) -> Result<Option<i64>, SeqError>
-    ensures run { Runs S.reads W.saw S.contents (as_number (spec.first_or_context (all_meant operands.now) (stands context.now))) (λ n. n) seq.old looks.old result seq.new looks.new }
+    ensures run { Runs S.reads W.saw S.contents (as_number (spec.first_or_context (all_meant operands.now) (stands context.now)))
+        (λ n. n) seq.old looks.old result seq.new looks.new }
     ensures unchanged { S.unchanged seq.old seq.new }
     ensures cause { HasCause SeqError.DiskFault (S.count seq.old) (S.count seq.new) result }
 {
@@ -246,7 +252,8 @@ fn as_string<S: NodeRead, W: Looks>(
     seq: &mut S,
     looks: &mut W,
 ) -> Result<XValue, SeqError>
-    ensures run { Runs S.reads W.saw S.contents (program.in_text value.text (spec.first_or_context (all_meant operands.now) (stands context.now))) (meant) seq.old looks.old result seq.new looks.new }
+    ensures run { Runs S.reads W.saw S.contents (program.in_text value.text (spec.first_or_context (all_meant operands.now) (stands context.now)))
+        (meant) seq.old looks.old result seq.new looks.new }
     ensures unchanged { S.unchanged seq.old seq.new }
     ensures cause { HasCause SeqError.DiskFault (S.count seq.old) (S.count seq.new) result }
 {
@@ -261,7 +268,9 @@ fn counted_characters<S: NodeRead, W: Looks>(
     seq: &mut S,
     looks: &mut W,
 ) -> Result<XValue, SeqError>
-    ensures run { Runs S.reads W.saw S.contents (program.in_text (λ s. spec.whole (length (chars s))) (spec.first_or_context (all_meant operands.now) (stands context.now))) (meant) seq.old looks.old result seq.new looks.new }
+    ensures run { Runs S.reads W.saw S.contents
+        (program.in_text (λ s. spec.whole (length (chars s))) (spec.first_or_context (all_meant operands.now) (stands context.now)))
+        (meant) seq.old looks.old result seq.new looks.new }
     ensures unchanged { S.unchanged seq.old seq.new }
     ensures cause { HasCause SeqError.DiskFault (S.count seq.old) (S.count seq.new) result }
 {
@@ -276,7 +285,9 @@ fn normalized<S: NodeRead, W: Looks>(
     seq: &mut S,
     looks: &mut W,
 ) -> Result<XValue, SeqError>
-    ensures run { Runs S.reads W.saw S.contents (program.in_text (λ s. value.text (normal_from false s)) (spec.first_or_context (all_meant operands.now) (stands context.now))) (meant) seq.old looks.old result seq.new looks.new }
+    ensures run { Runs S.reads W.saw S.contents
+        (program.in_text (λ s. value.text (normal_from false s)) (spec.first_or_context (all_meant operands.now) (stands context.now)))
+        (meant) seq.old looks.old result seq.new looks.new }
     ensures unchanged { S.unchanged seq.old seq.new }
     ensures cause { HasCause SeqError.DiskFault (S.count seq.old) (S.count seq.new) result }
 {
@@ -291,7 +302,9 @@ fn as_number<S: NodeRead, W: Looks>(
     seq: &mut S,
     looks: &mut W,
 ) -> Result<XValue, SeqError>
-    ensures run { Runs S.reads W.saw S.contents (program.in_number (λ x. value.number x) (spec.first_or_context (all_meant operands.now) (stands context.now))) (meant) seq.old looks.old result seq.new looks.new }
+    ensures run { Runs S.reads W.saw S.contents
+        (program.in_number (λ x. value.number x) (spec.first_or_context (all_meant operands.now) (stands context.now)))
+        (meant) seq.old looks.old result seq.new looks.new }
     ensures unchanged { S.unchanged seq.old seq.new }
     ensures cause { HasCause SeqError.DiskFault (S.count seq.old) (S.count seq.new) result }
 {
@@ -305,7 +318,8 @@ fn joined<S: NodeRead, W: Looks>(
     seq: &mut S,
     looks: &mut W,
 ) -> Result<XValue, SeqError>
-    ensures run { Runs S.reads W.saw S.contents (and_then (program.texts_of (all_meant operands.now)) (λ ss. ends (value.text (joined ss)))) (meant) seq.old looks.old result seq.new looks.new }
+    ensures run { Runs S.reads W.saw S.contents (and_then (program.texts_of (all_meant operands.now)) (λ ss. ends (value.text (joined ss))))
+        (meant) seq.old looks.old result seq.new looks.new }
     ensures unchanged { S.unchanged seq.old seq.new }
     ensures cause { HasCause SeqError.DiskFault (S.count seq.old) (S.count seq.new) result }
 {
@@ -321,7 +335,8 @@ fn by_texts<S: NodeRead, W: Looks>(
     seq: &mut S,
     looks: &mut W,
 ) -> Result<XValue, SeqError>
-    ensures run { Runs S.reads W.saw S.contents (program.in_texts (text_function by) (meant left.now) (meant right.now)) (meant) seq.old looks.old result seq.new looks.new }
+    ensures run { Runs S.reads W.saw S.contents (program.in_texts (text_function by) (meant left.now) (meant right.now))
+        (meant) seq.old looks.old result seq.new looks.new }
     ensures unchanged { S.unchanged seq.old seq.new }
     ensures cause { HasCause SeqError.DiskFault (S.count seq.old) (S.count seq.new) result }
 {
@@ -387,7 +402,8 @@ pub(crate) fn applied<S: NodeRead, W: Looks>(
     seq: &mut S,
     looks: &mut W,
 ) -> Result<XValue, SeqError>
-    ensures run { Runs S.reads W.saw S.contents (program.applied op (all_meant operands.now) (stands context.now)) (meant) seq.old looks.old result seq.new looks.new }
+    ensures run { Runs S.reads W.saw S.contents (program.applied op (all_meant operands.now) (stands context.now))
+        (meant) seq.old looks.old result seq.new looks.new }
     ensures unchanged { S.unchanged seq.old seq.new }
     ensures cause { HasCause SeqError.DiskFault (S.count seq.old) (S.count seq.new) result }
 {

@@ -46,7 +46,8 @@ fn tree_text<S: NodeRead, W: Looks>(
     seq: &mut S,
     looks: &mut W,
 ) -> Result<Text, SeqError>
-    ensures run { Runs S.reads W.saw S.contents (looks_at (at_tree at.now) (λ s. ends (meaning.joined_texts s))) (λ s. s) seq.old looks.old result seq.new looks.new }
+    ensures run { Runs S.reads W.saw S.contents (looks_at (at_tree at.now) (λ s. ends (meaning.joined_texts s)))
+        (λ s. s) seq.old looks.old result seq.new looks.new }
     ensures unchanged { S.unchanged seq.old seq.new }
     ensures cause { HasCause SeqError.DiskFault (S.count seq.old) (S.count seq.new) result }
 {

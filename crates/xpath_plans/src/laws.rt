@@ -24,7 +24,8 @@ ghost use Rattle.xpath_plans.specs.LookRequests.{requests, requests_of, resource
 /// So a path's requests cover every cell that its evaluation reads, also where it finds nothing or drops what it looked at.
 #[tactic(auto, using(crate::proofs::SeenLaws::looks_same, crate::proofs::Covered::looks_covered))]
 pub fn looks_are_covered()
-    ensures told { (o : Look) (t u : Tree) → IsValidTree t → IsValidTree u → is_label (label_of (resource_of o)) ≡ true → ShowTheSame o t u → seen t o ≡ seen u o }
+    ensures told { (o : Look) (t u : Tree) → IsValidTree t → IsValidTree u → is_label (label_of (resource_of o)) ≡ true → ShowTheSame o t u → seen t o
+        ≡ seen u o }
     ensures covered { (os : List Look) (x : Cell) → some_look_into os x ≡ true → reads (requests_of os) x ≡ true }
     ensures of_finds { (l : Label) (p : Path) (t : Tree) (x : Cell) → some_look_into (looked t (find l p)) x ≡ true → reads (find_requests l p t) x ≡ true }
 {}
