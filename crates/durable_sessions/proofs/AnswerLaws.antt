@@ -1,5 +1,5 @@
 -- What the calls that do a line leave of the core and the journal: a line that is done at once, and a commit.
-use Rattle.std.proofs.Common.{◌≡◌, ℕ, ◌≤◌, Bool, IsTrue, List, [], ◌∷◌, ◌++◌, length, append-nil, refl, sym, ap, subst, ◌∙◌, arith}
+use Rattle.std.proofs.Common.{◌≡◌, ℕ, ◌+◌, ◌≤◌, Bool, IsTrue, List, [], ◌∷◌, ◌++◌, length, append-nil, refl, sym, ap, subst, ◌∙◌, arith}
 use Rattle.std.specs.Prelude.{Option, None, Some, Result, Ok, Err, OnErr, OnOk}
 use Rattle.outside_traits.specs.Moments.{History}
 use Rattle.tree_model.specs.Entries.{Entries}
@@ -8,23 +8,28 @@ use Rattle.node_seq.specs.Trees.{StandsFor}
 use Rattle.journal.specs.Appends.{AddsCommit, HasAdded, LeavesWithOrWithout, groups_in}
 use Rattle.journal.specs.Groups.{is_next, commit, with_commit, IsCommit}
 use Rattle.journal.specs.Views.{JournalView}
-use Rattle.call_contract.specs.Books.{Book}
+use Rattle.call_contract.specs.Books.{Book, entry}
 use Rattle.call_contract.specs.Calls.{CallLaws, CallMeaning}
+use Rattle.call_contract.specs.Sessions.{commits_in}
 use Rattle.call_contract.specs.States.{State}
+use Rattle.call_contract.specs.declared.events.Event.TheVariants as event
+use Rattle.call_contract.specs.declared.events.EventAnswer.{EventAnswer}
+use Rattle.call_contract.specs.declared.events.Noted.{Noted}
+use Rattle.call_contract.proofs.Appends.{commits_append}
 use Rattle.command_lines.specs.declared.line_reply.LineReply.{LineReply}
-use Rattle.tx_core.specs.Cores.{CoreView, over, state_from, next_number}
+use Rattle.tx_core.specs.Cores.{CoreView, over, state_from, next_number, with_entry}
 use Rattle.tx_core.specs.declared.commits.Prepared.{Prepared}
-use Rattle.session_driver.specs.Driving.{HasBegun, HasDone, IsDriven, with_entries}
+use Rattle.session_driver.specs.Driving.{HasBegun, HasDone, HasGrown, IsDriven, with_entries}
 use Rattle.session_driver.specs.Lines.{after_line}
 use Rattle.session_driver.specs.Progress.{Progress}
 use Rattle.session_driver.specs.Refusals.{refusal}
 use Rattle.session_driver.specs.declared.doing.Doing.{Doing}
 use Rattle.session_driver.specs.declared.doing.Doing.TheVariants.{Commit}
-use Rattle.durable_sessions.specs.Asked.{asked_from, TakesNext, MayBeAsked, LeadsTo, LeavesEither}
+use Rattle.durable_sessions.specs.Asked.{asked_from, TakesNext, LeadsTo, LeavesEither}
 use Rattle.durable_sessions.specs.Standing.{Stands}
 use Rattle.durable_sessions.specs.inside.Commits.{IsLegalCore, IsDue}
-use Rattle.durable_sessions.proofs.CommitLaws.{has_body, same_holds, commit_moments, commit_settles}
-use Rattle.durable_sessions.proofs.StandingLaws.{Done, line_done, driven_keeps, next_stays, due_leads, next_rises, commit_done, asked_commit, same_book, same_stands}
+use Rattle.durable_sessions.proofs.CommitLaws.{has_body, same_holds, commit_moments, commit_settles, follows}
+use Rattle.durable_sessions.proofs.StandingLaws.{line_done, driven_keeps, due_leads, commit_done, asked_commit, same_book, same_stands}
 
 pub on_err : {A E : Type 0} (r : Result A E) (P : Type 0) → P → OnErr r P
 on_err (Ok x) P p = tt
@@ -96,20 +101,12 @@ module _ {C B : Type 0} (is_valid : C → Type 0) (m : CallMeaning C) (laws : Ca
       → (s : State C) → Stands m contents old s → said ≡ before ++ (asked_from m s session doing).lines
   done_lines session doing old new before said driven s stands = (line_done is_valid m laws contents (record { session = session; doing = doing }) old new before said (λ t opened. (driven t opened).0) s stands).lines
 
-  pub done_takes : (session : ℕ) (doing : Doing C) (old new : CoreView C B) (journal : JournalView) (before said : List LineReply) → DoneAtOnce session doing old new before said
-      → MayBeAsked m contents old journal → IsLegalCore is_valid m contents old → IsLegalCore is_valid m contents new → TakesNext new journal
-  done_takes session doing old new journal before said driven may legal legal_now =
-      let s = may.state in
-      let done = line_done is_valid m laws contents (record { session = session; doing = doing }) old new before said (λ t opened. (driven t opened).0) s may.stands in
-      let next = next_stays is_valid m laws contents old new s (after s session doing) may.stands legal done.stands legal_now (driven_keeps is_valid m laws contents session doing old new before said driven s may.stands) in
-      record { usable = may.takes.usable; next = ap (λ (n : ℕ). is_next journal.last n) next ∙ may.takes.next }
-
   -- ---- a commit, whose group is appended to a journal that was given room for it
 
-  pub commit_follows : (core : CoreView C B) (session : ℕ) (p : Prepared) (journal roomy : JournalView) (bytes : List ℕ) → IsDue m contents core session p → MayBeAsked m contents core journal → roomy.last ≡ journal.last → bytes ≡ p.body
+  pub commit_follows : (core : CoreView C B) (session : ℕ) (p : Prepared) (journal roomy : JournalView) (bytes : List ℕ) → IsDue m contents core session p → TakesNext core journal → roomy.last ≡ journal.last → bytes ≡ p.body
       → IsCommit roomy.last p.number bytes
-  commit_follows core session p journal roomy bytes due may last same = record {
-    next = (λ i. is_next (last i) (due.commit.number i)) ∙ may.takes.next;
+  commit_follows core session p journal roomy bytes due takes last same = record {
+    next = (λ i. is_next (last i) (due.commit.number i)) ∙ takes.next;
     is_body = has_body bytes p.body p.changes same due.commit.read due.commit.list.rise;
     short = let within : length p.body ≤ 4294967295 = due.commit.short in omega (arith, ap length same, within);
   }
@@ -135,14 +132,6 @@ module _ {C B : Type 0} (is_valid : C → Type 0) (m : CallMeaning C) (laws : Ca
       → (s : State C) → Stands m contents old s → said ≡ before ++ (asked_from m s session Commit).lines
   commit_lines old now session p before said due finished s stands = (commit_done is_valid m laws contents session old now before said p due finished s stands).lines
 
-  pub commit_takes : (old now : CoreView C B) (session : ℕ) (p : Prepared) (journal roomy new : JournalView) (bytes : List ℕ) (before said : List LineReply)
-      → IsDue m contents old session p → MayBeAsked m contents old journal → IsLegalCore is_valid m contents old → IsLegalCore is_valid m contents now → HasAdded p.number bytes roomy new → Finished session old now before said → TakesNext now new
-  commit_takes old now session p journal roomy new bytes before said due may legal legal_now added finished =
-      let s = may.state in record {
-        usable = added.usable;
-        next = next_rises is_valid m laws contents now s (after s session Commit) p.number p.body new.last (due_leads is_valid m laws contents old session p due legal s may.stands) (commit_done is_valid m laws contents session old now before said p due finished s may.stands).stands legal_now added.last;
-      }
-
   -- ---- what a commit that was prepared tells is so of the line that asked for it
 
   pub by_commit : (Q : Doing C → State C → Type 0) (session : ℕ) (doing : Doing C) (old mid : CoreView C B) (before said : List LineReply) (p : Prepared)
@@ -167,6 +156,34 @@ module _ {C B : Type 0} (is_valid : C → Type 0) (m : CallMeaning C) (laws : Ca
       → (s : State C) → Stands m contents old s → HasBegun old new before said (asked_from m s session Commit)
   commit_begun session p old new before said due told =
       begun_from session Commit old new before said (λ t opened. told t opened (due.allowed (state_from m t old) (record { tree = t; opened = opened; state = refl })))
+
+-- ---- the number that follows
+
+module _ {C B : Type 0} where
+  -- where no commit was added, the same one does
+  grown_next : (v w : CoreView C B) (before after : List LineReply) → HasGrown v w before after → next_number w ≡ next_number v
+  grown_next v w before after is =
+      let number : w.number ≡ v.number = ap (λ (x : CoreView C B). x.number) is.core in
+      let book : w.book ≡ v.book ++ is.entries = ap (λ (x : CoreView C B). x.book) is.core in
+      omega (arith, number, ap commits_in book, commits_append v.book is.entries, is.commits)
+
+  -- so the journal takes the next commit of a core that has grown
+  pub grown_takes : (v w : CoreView C B) (journal : JournalView) (before after : List LineReply) → HasGrown v w before after → TakesNext v journal → TakesNext w journal
+  grown_takes v w journal before after is takes = record {
+    usable = takes.usable;
+    next = ap (λ (n : ℕ). is_next journal.last n) (grown_next v w before after is) ∙ takes.next;
+  }
+
+  -- behind a commit that was appended it takes the one that follows on it
+  pub commit_takes : (m : CallMeaning C) (contents : B → Option Entries) (old mid now : CoreView C B) (session : ℕ) (a : EventAnswer) (p : Prepared) (roomy new : JournalView) (bytes : List ℕ) (before after : List LineReply)
+      → IsDue m contents old session p → HasAdded p.number bytes roomy new → HasGrown (with_entry old (entry session event.Commit a)) mid before after → now ≡ over mid now.base → TakesNext now new
+  commit_takes m contents old mid now session a p roomy new bytes before after due added grown same =
+      let made : Noted C = entry session event.Commit a in
+      let number : p.number ≡ next_number old = due.commit.number in
+      let behind : next_number mid ≡ next_number (with_entry old made) = grown_next (with_entry old made) mid before after grown in
+      let one : commits_in (old.book ++ made ∷ []) ≡ commits_in old.book + 1 = commits_append old.book (made ∷ []) in
+      let next : p.number + 1 ≡ next_number now = omega (arith, number, behind, one, ap (λ (v : CoreView C B). next_number v) same) in
+      record { usable = added.usable; next = subst (λ (n : ℕ). IsTrue (is_next new.last n)) next (follows new.last p.number added.last) }
 
 -- ---- nothing was begun, or the same over a core whose commit was prepared
 

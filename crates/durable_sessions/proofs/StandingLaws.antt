@@ -1,5 +1,5 @@
 -- What driving a line does to a core, by the state that it stands in.
-use Rattle.std.proofs.Common.{◌≡◌, ℕ, ◌+◌, IsTrue, List, [], ◌∷◌, ◌++◌, refl, sym, ap, subst, ◌∙◌}
+use Rattle.std.proofs.Common.{◌≡◌, ℕ, ◌+◌, List, [], ◌∷◌, ◌++◌, refl, sym, ap, subst, ◌∙◌}
 use Rattle.std.specs.Prelude.{Option, Some, None}
 use Rattle.std.proofs.lemmas.List.{append-nil}
 use Rattle.std.proofs.lemmas.Option.{same_Some}
@@ -7,7 +7,6 @@ use Rattle.tree_model.specs.Entries.{Entries}
 use Rattle.tree_model.specs.Tree.{Tree, map_of}
 use Rattle.tree_model.proofs.SameMaps.{same_tree}
 use Rattle.node_seq.specs.Trees.{StandsFor}
-use Rattle.journal.specs.Groups.{is_next}
 use Rattle.call_contract.specs.Books.{IsReached, last}
 use Rattle.call_contract.specs.Calls.{CallLaws, CallMeaning}
 use Rattle.call_contract.specs.Sessions.{commits_in}
@@ -28,7 +27,7 @@ use Rattle.durable_sessions.specs.Standing.{Stands}
 use Rattle.durable_sessions.specs.inside.Commits.{IsLegalCore, IsDue}
 use Rattle.session_driver.specs.Committed.{SameCommitted}
 use Rattle.session_driver.proofs.OnlyCommits.{done_keeps, commit_commits}
-use Rattle.durable_sessions.proofs.CommitLaws.{Leads, commit_leads, follows}
+use Rattle.durable_sessions.proofs.CommitLaws.{Leads, commit_leads}
 
 -- ---- cores with one book
 
@@ -123,10 +122,6 @@ module _ {C B : Type 0} (is_valid : C → Type 0) (m : CallMeaning C) (laws : Ca
       subst (λ (st : State C). SameCommitted st (after_line m st (record { session = session; doing = doing })).state) stands.state
       (done_keeps m (state_from m stands.tree old) session doing (driven stands.tree stands.opened).1)
 
-  -- so the same number follows
-  pub next_stays : (old new : CoreView C B) (s u : State C) → Stands m contents old s → IsLegalCore is_valid m contents old → Stands m contents new u → IsLegalCore is_valid m contents new → SameCommitted s u → next_number new ≡ next_number old
-  next_stays old new s u stands legal stands_now legal_now same = next_is new u stands_now legal_now ∙ ap (λ (n : ℕ). n + 1) same.number ∙ sym (next_is old s stands legal)
-
   -- ---- commits
 
   -- a commit that was prepared is due
@@ -158,12 +153,6 @@ module _ {C B : Type 0} (is_valid : C → Type 0) (m : CallMeaning C) (laws : Ca
   due_leads core session p due legal s stands =
       commit_leads is_valid m laws s (after_line m s (record { session = session; doing = Commit })).state session p (stands_reached core s stands legal)
       (commit_commits m s session (due.allowed s stands)) (due.changes s stands) due.commit.list due.commit.read (due.commit.number ∙ next_is core s stands legal)
-
-  -- and the number that follows on its own is the next one
-  pub next_rises : (new : CoreView C B) (s u : State C) (number : ℕ) (body : List ℕ) (last : Option ℕ) → Leads s u number body → Stands m contents new u → IsLegalCore is_valid m contents new → last ≡ Some number
-      → IsTrue (is_next last (next_number new))
-  next_rises new s u number body last leads stands legal is =
-      subst (λ (n : ℕ). IsTrue (is_next last n)) (ap (λ (n : ℕ). n + 1) (sym leads.counted) ∙ sym (next_is new u stands legal)) (follows last number is)
 
   -- the line of a commit that is made
   pub commit_done : (session : ℕ) (old new : CoreView C B) (before after : List LineReply) (p : Prepared) → IsDue m contents old session p

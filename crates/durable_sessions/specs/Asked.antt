@@ -21,12 +21,6 @@ pub record TakesNext {C B : Type 0} (core : CoreView C B) (journal : JournalView
   pub usable : TakesGroups journal
   pub next : IsTrue (is_next journal.last (next_number core))
 
--- and the core stands in some state
-pub record MayBeAsked {C B : Type 0} (m : CallMeaning C) (contents : B → Option Entries) (core : CoreView C B) (journal : JournalView) : Type 0 where
-  pub state : State C
-  pub stands : Stands m contents core state
-  pub takes : TakesNext core journal
-
 -- ---- what it leaves
 
 -- what a session that is asked this does from a state

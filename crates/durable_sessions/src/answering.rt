@@ -4,7 +4,7 @@ ghost use Rattle.call_contract.specs.States.{State};
 ghost use Rattle.script_runs.specs.Counts.{DisksCountedWhere};
 ghost use Rattle.session_driver.specs.Driving.{HasBegun};
 ghost use Rattle.session_driver.specs.declared.doing.Doing.TheVariants.{Commit};
-ghost use Rattle.durable_sessions.specs.Asked.{asked_from, counts_of, LeadsTo, LeavesEither, MayBeAsked, TakesNext};
+ghost use Rattle.durable_sessions.specs.Asked.{asked_from, counts_of, LeadsTo, LeavesEither, TakesNext};
 ghost use Rattle.durable_sessions.specs.Standing.{Stands};
 ghost use Rattle.durable_sessions.specs.inside.Commits.{IsDue};
 ghost use Rattle.durable_sessions.specs.inside.Halts.{halt_of};
@@ -29,7 +29,7 @@ pub fn answer<C: TreeCall + Drop, B: Base, J: Disk>(
     doing: Doing<C>,
     replies: &mut Vec<LineReply>,
 ) -> Result<(), Halt>
-    requires may { MayBeAsked C.meaning B.contents core.old journal.old }
+    requires takes { TakesNext core.old journal.old }
     ensures state { OnOk result ((s : State C) → Stands C.meaning B.contents core.old s
         → LeadsTo C.meaning B.contents J.is_known journal.old.history core.new journal.new.history s (asked_from C.meaning s session doing).state) }
     ensures replies { OnOk result ((s : State C) → Stands C.meaning B.contents core.old s
@@ -66,7 +66,7 @@ fn commit<C: TreeCall + Drop, B: Base, J: Disk>(
     prepared: Prepared,
     replies: &mut Vec<LineReply>,
 ) -> Result<(), Halt>
-    requires may { MayBeAsked C.meaning B.contents core.old journal.old }
+    requires takes { TakesNext core.old journal.old }
     requires prepared { core.old.prepared ≡ Some session }
     requires due { IsDue C.meaning B.contents core.old session prepared }
     requires room { length replies.old.items < vec_capacity replies.old }

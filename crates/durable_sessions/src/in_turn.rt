@@ -3,7 +3,7 @@ ghost use Rattle.std.specs.Prelude.{◌≡◌, ◌∷◌, [], None, Err, IfSome,
 ghost use Rattle.call_contract.specs.States.{State};
 ghost use Rattle.script_runs.specs.Counts.{DisksCountedWhere};
 ghost use Rattle.session_driver.specs.Lines.{AreValid};
-ghost use Rattle.durable_sessions.specs.Asked.{counts_of, MayBeAsked};
+ghost use Rattle.durable_sessions.specs.Asked.{counts_of, TakesNext};
 ghost use Rattle.durable_sessions.specs.InTurn.{all_asks, AskedInTurn};
 ghost use Rattle.durable_sessions.specs.Reasons.{reason_in, reason_of};
 ghost use Rattle.durable_sessions.specs.Standing.{Stands};
@@ -62,13 +62,13 @@ pub fn ask_in_turn<C: TreeCall + Drop, B: Base, J: Disk>(
     mut doings: Vec<Doing<C>>,
     replies: &mut Vec<LineReply>,
 ) -> Result<(), Stop>
-    requires may { MayBeAsked C.meaning B.contents core.old journal.old }
+    requires takes { TakesNext core.old journal.old }
     requires valid { AreValid C.is_valid (all_asks session doings.items) }
     requires unrefused { reason_in replies.old.items ≡ None }
     ensures asked { (s : State C) → Stands C.meaning B.contents core.old s
         → AskedInTurn C.is_valid C.meaning B.contents reason_of J.is_known s (all_asks session doings.items)
         journal.old.history core.new journal.new.history replies.old.items replies.new.items result }
-    ensures may { OnOk result (MayBeAsked C.meaning B.contents core.new journal.new) }
+    ensures takes { OnOk result (TakesNext core.new journal.new) }
     ensures unrefused { OnOk result (reason_in replies.new.items ≡ None) }
     ensures counts { DisksCountedWhere (result ≡ Err Stop.DiskFault) (counts_of B.count core.old journal.old) (counts_of B.count core.new journal.new) }
 {

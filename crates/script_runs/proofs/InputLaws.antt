@@ -6,7 +6,7 @@ use Rattle.outside_kinds.specs.Bounds.{input_limit}
 use Rattle.outside_traits.specs.Bytes.{Gave}
 use Rattle.script_runs.specs.Counts.{CountedWhere, DisksCountedWhere, ReadFaultCause}
 use Rattle.script_runs.specs.Lines.{line_limit}
-use Rattle.script_runs.specs.Machine.{Machine, IsReady}
+use Rattle.script_runs.specs.Machine.{Machine}
 use Rattle.script_runs.specs.Runs.{IsPrompt}
 use Rattle.script_runs.specs.inside.Feeding.{Script, IsNew, IfGoesOn, LeavesFrom, Leaves, TakesFrom, went}
 use Rattle.script_runs.specs.inside.Inputs.{TakesInput}
@@ -84,7 +84,7 @@ module _ {S K M : Type 0} (m : Machine M) (left : S → Option (List ℕ)) (give
   Taken r = TakesInput m left given asked faults held write_faults old new source source_now sink sink_now r
 
   -- a step stopped
-  pub input_stopped : (r : Result Input Stop) (e : Stop) → IsErrAnd r (λ x. x ≡ e) → Takes (Err e) → IfGoesOn (IsReady m new.machine) (Err e) → new.lines ≤ input_limit → given source_now ≤ given source + input_limit → faults source_now ≡ faults source
+  pub input_stopped : (r : Result Input Stop) (e : Stop) → IsErrAnd r (λ x. x ≡ e) → Takes (Err e) → IfGoesOn (m.usable new.machine) (Err e) → new.lines ≤ input_limit → given source_now ≤ given source + input_limit → faults source_now ≡ faults source
       → CountedWhere (as_stop e ≡ Err WriteFault) (write_faults sink) (write_faults sink_now) → DisksCountedWhere (as_stop e ≡ Err (Halted DiskFault)) (m.faults old.machine) (m.faults new.machine) → Taken r
   input_stopped r e is takes ready lines bound none write disk = subst Taken (sym (stopped_at r e is)) (record {
     takes = takes;
@@ -99,7 +99,7 @@ module _ {S K M : Type 0} (m : Machine M) (left : S → Option (List ℕ)) (give
   })
 
   -- the input came to its end
-  pub input_ended : Takes (Ok tt) → IsReady m new.machine → new.lines ≤ input_limit → given source_now ≤ given source + input_limit → new.pending ≡ [] → length new.unended ≤ line_limit → IfSome (left source_now) (λ rest. rest ≡ []) → faults source_now ≡ faults source
+  pub input_ended : Takes (Ok tt) → m.usable new.machine → new.lines ≤ input_limit → given source_now ≤ given source + input_limit → new.pending ≡ [] → length new.unended ≤ line_limit → IfSome (left source_now) (λ rest. rest ≡ []) → faults source_now ≡ faults source
       → write_faults sink_now ≡ write_faults sink → m.faults new.machine ≡ m.faults old.machine → Taken (Ok Ended)
   input_ended takes ready lines bound empty short all none written kept = record {
     takes = takes;
@@ -114,7 +114,7 @@ module _ {S K M : Type 0} (m : Machine M) (left : S → Option (List ℕ)) (give
   }
 
   -- a read failed
-  pub input_failed : Takes (Ok tt) → IsReady m new.machine → new.lines ≤ input_limit → given source_now ≤ given source + input_limit → new.pending ≡ [] → length new.unended ≤ line_limit → ReadFaultCause input_limit (faults source) (faults source_now) (given source) (given source_now)
+  pub input_failed : Takes (Ok tt) → m.usable new.machine → new.lines ≤ input_limit → given source_now ≤ given source + input_limit → new.pending ≡ [] → length new.unended ≤ line_limit → ReadFaultCause input_limit (faults source) (faults source_now) (given source) (given source_now)
       → write_faults sink_now ≡ write_faults sink → m.faults new.machine ≡ m.faults old.machine → Taken (Ok Fault)
   input_failed takes ready lines bound empty short cause written kept = record {
     takes = takes;

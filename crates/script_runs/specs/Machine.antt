@@ -24,12 +24,6 @@ pub record Machine (Self : Type 0) : Type 1 where
   pub disks : Self → Pair
   pub faults : Self → Counts
 
--- it may be asked, and is in some state
-pub record IsReady {M : Type 0} (m : Machine M) (k : M) : Type 0 where
-  pub state : m.State
-  pub stands : m.stands k state
-  pub usable : m.usable k
-
 -- its disks are known, and what a crash leaves of them stands for what is committed in this state
 pub record IsSettled {M : Type 0} (m : Machine M) (k : M) (s : m.State) : Type 0 where
   pub is_known : IsTrue m.is_known

@@ -3,7 +3,7 @@ ghost use Rattle.std.specs.Prelude.{◌≡◌, ◌==◌, position, ◌≢◌, �
 ghost use Rattle.outside_traits.specs.DiskPairs.{PairsLeave};
 ghost use Rattle.script_runs.specs.Counts.{CountedWhere, DisksCountedWhere};
 ghost use Rattle.script_runs.specs.Lines.{line_limit};
-ghost use Rattle.script_runs.specs.Machine.{IsReady, IsSettled, HoldsEither};
+ghost use Rattle.script_runs.specs.Machine.{IsSettled, HoldsEither};
 ghost use Rattle.script_runs.specs.inside.Feeding.{Ends, IsInLine, IsFirstEnd, IsNew, FedFrom, Leaves, IfGoesOn};
 
 use crate::halt::Halt;
@@ -87,9 +87,9 @@ impl<M: LineMachine> Script<M> {
     /// Takes a piece of the script: does the lines that end in it, and writes replies where many are pending.
     pub fn feed<K: Sink>(&mut self, alloc: Global, piece: &[u8], sink: &mut K) -> Result<(), Stop>
         requires room { self.old.lines + length piece.now < 2 ^ 64 }
-        requires ready { IsReady M.machine self.old.machine }
+        requires ready { M.machine.usable self.old.machine }
         ensures leaves { Leaves M.machine line_limit self.old self.new (K.held sink.old) (K.held sink.new) piece.now result }
-        ensures ready { IfGoesOn (IsReady M.machine self.new.machine) result }
+        ensures ready { IfGoesOn (M.machine.usable self.new.machine) result }
         ensures write { CountedWhere (result ≡ Err Stop.WriteFault) (K.faults sink.old) (K.faults sink.new) }
         ensures disk { DisksCountedWhere (result ≡ Err (Stop.Halted Halt.DiskFault)) (M.machine.faults self.old.machine) (M.machine.faults self.new.machine) }
         ensures lines { self.new.lines ≤ self.old.lines + length piece.now }
@@ -107,7 +107,7 @@ impl<M: LineMachine> Script<M> {
     /// Does the line that ends with the input, if there is one, and writes what is pending.
     pub fn finish<K: Sink>(&mut self, alloc: Global, sink: &mut K) -> Result<(), Stop>
         requires room { self.old.lines + 1 < 2 ^ 64 }
-        requires ready { IsReady M.machine self.old.machine }
+        requires ready { M.machine.usable self.old.machine }
         ensures ends { Ends M.machine line_limit self.old self.new (K.held sink.old) (K.held sink.new) result }
         ensures write { CountedWhere (result ≡ Err Stop.WriteFault) (K.faults sink.old) (K.faults sink.new) }
         ensures disk { DisksCountedWhere (result ≡ Err (Stop.Halted Halt.DiskFault)) (M.machine.faults self.old.machine) (M.machine.faults self.new.machine) }
@@ -141,9 +141,9 @@ impl<M: LineMachine> Script<M> {
     fn take_line<K: Sink>(&mut self, alloc: Global, line: &[u8], sink: &mut K) -> Result<(), Stop>
         requires in_line { IsInLine line.now }
         requires room { self.old.lines + 1 < 2 ^ 64 }
-        requires ready { IsReady M.machine self.old.machine }
+        requires ready { M.machine.usable self.old.machine }
         ensures leaves { Leaves M.machine line_limit self.old self.new (K.held sink.old) (K.held sink.new) (line.now ++ 10 ∷ []) result }
-        ensures ready { IfGoesOn (IsReady M.machine self.new.machine) result }
+        ensures ready { IfGoesOn (M.machine.usable self.new.machine) result }
         ensures write { CountedWhere (result ≡ Err Stop.WriteFault) (K.faults sink.old) (K.faults sink.new) }
         ensures disk { DisksCountedWhere (result ≡ Err (Stop.Halted Halt.DiskFault)) (M.machine.faults self.old.machine) (M.machine.faults self.new.machine) }
         ensures lines { self.new.lines ≤ self.old.lines + 1 }
@@ -176,9 +176,9 @@ impl<M: LineMachine> Script<M> {
     /// Takes the end of a line.
     fn end_line(&mut self, alloc: Global) -> Result<(), Stop>
         requires room { self.old.lines + 1 < 2 ^ 64 }
-        requires ready { IsReady M.machine self.old.machine }
+        requires ready { M.machine.usable self.old.machine }
         ensures leaves { (held : Option (List ℕ)) → Leaves M.machine line_limit self.old self.new held held (10 ∷ []) result }
-        ensures ready { IfGoesOn (IsReady M.machine self.new.machine) result }
+        ensures ready { IfGoesOn (M.machine.usable self.new.machine) result }
         ensures cause { (result ≢ Err Stop.WriteFault) × (result ≢ Err Stop.LineTooLong) }
         ensures disk { DisksCountedWhere (result ≡ Err (Stop.Halted Halt.DiskFault)) (M.machine.faults self.old.machine) (M.machine.faults self.new.machine) }
         ensures lines { self.new.lines ≤ self.old.lines + 1 }
@@ -189,11 +189,11 @@ impl<M: LineMachine> Script<M> {
     /// Does the line that has ended.
     fn do_line(&mut self, alloc: Global) -> Result<(), Halt>
         requires room { self.old.lines + 1 < 2 ^ 64 }
-        requires ready { IsReady M.machine self.old.machine }
+        requires ready { M.machine.usable self.old.machine }
         ensures fed { OnOk result ((held : Option (List ℕ)) (s : M.machine.State) → M.machine.stands self.old.machine s
             → FedFrom M.machine line_limit s self.old self.new held held (10 ∷ [])) }
         ensures valid { OnOk result (M.machine.valid self.old.unended) }
-        ensures ready { OnOk result (IsReady M.machine self.new.machine) }
+        ensures ready { OnOk result (M.machine.usable self.new.machine) }
         ensures settled { OnOk result ((s : M.machine.State) → M.machine.stands self.old.machine s → IsSettled M.machine self.old.machine s
             → IsSettled M.machine self.new.machine (M.machine.next s self.old.unended)) }
         ensures any_moment { (s : M.machine.State) → M.machine.stands self.old.machine s → IsSettled M.machine self.old.machine s

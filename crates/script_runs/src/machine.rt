@@ -2,7 +2,7 @@
 ghost use Rattle.std.specs.Prelude.{◌≡◌, ◌++◌, Err, OnOk};
 ghost use Rattle.outside_traits.specs.DiskPairs.{PairsLeave};
 ghost use Rattle.script_runs.specs.Counts.{DisksCountedWhere};
-ghost use Rattle.script_runs.specs.Machine.{Machine, IsReady, IsSettled, HoldsEither};
+ghost use Rattle.script_runs.specs.Machine.{Machine, IsSettled, HoldsEither};
 
 use crate::halt::Halt;
 use std::alloc::Global;
@@ -19,11 +19,11 @@ pub trait LineMachine {
         line: &[u8],
         out: &mut Vec<u8>,
     ) -> Result<(), Halt>
-        requires ready { IsReady machine self.old }
+        requires ready { machine.usable self.old }
         ensures state { OnOk result ((s : machine.State) → machine.stands self.old s → machine.stands self.new (machine.next s line.now)) }
         ensures text { OnOk result ((s : machine.State) → machine.stands self.old s → out.new.items ≡ out.old.items ++ machine.text s number line.now) }
         ensures valid { OnOk result (machine.valid line.now) }
-        ensures ready { OnOk result (IsReady machine self.new) }
+        ensures ready { OnOk result (machine.usable self.new) }
         ensures settled { OnOk result ((s : machine.State) → machine.stands self.old s → IsSettled machine self.old s
             → IsSettled machine self.new (machine.next s line.now)) }
 

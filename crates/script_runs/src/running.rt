@@ -4,7 +4,6 @@ ghost use Rattle.outside_kinds.specs.Bounds.{input_limit};
 ghost use Rattle.outside_traits.specs.Bytes.{Gave};
 ghost use Rattle.script_runs.specs.Counts.{CountedWhere, DisksCountedWhere, ReadCountedWhere};
 ghost use Rattle.script_runs.specs.Lines.{line_limit};
-ghost use Rattle.script_runs.specs.Machine.{IsReady};
 ghost use Rattle.script_runs.specs.Runs.{Ran};
 ghost use Rattle.script_runs.specs.Whole.{piece};
 ghost use Rattle.script_runs.specs.inside.Feeding.{IsNew, stopped};
@@ -52,7 +51,7 @@ pub fn run<S: Source, K: Sink, M: LineMachine>(
     source: &mut S,
     sink: &mut K,
 ) -> Finish<M>
-    requires ready { IsReady M.machine machine }
+    requires ready { M.machine.usable machine }
     ensures ran { (read : List ℕ) × Gave (S.left source.old) (S.left source.new) read × (S.given source.new ≡ S.given source.old + length read)
         × ((s : M.machine.State) → M.machine.stands machine s
         → Ran M.machine line_limit s result.end read (S.asked source.new - S.given source.old) (S.left source.new)
@@ -92,7 +91,7 @@ fn run_script<S: Source, K: Sink, M: LineMachine>(
     buffer: &mut [u8],
 ) -> End
     requires new { IsNew script.old }
-    requires ready { IsReady M.machine script.old.machine }
+    requires ready { M.machine.usable script.old.machine }
     requires some { 0 < length buffer.old }
     ensures { RunsScript M.machine S.left S.given S.asked S.faults K.held K.faults script.old.machine script.new.machine
         source.old source.new sink.old sink.new result }
@@ -134,7 +133,7 @@ fn take_all<S: Source, K: Sink, M: LineMachine>(
     buffer: &mut [u8],
 ) -> Result<Input, Stop>
     requires new { IsNew script.old }
-    requires ready { IsReady M.machine script.old.machine }
+    requires ready { M.machine.usable script.old.machine }
     requires some { 0 < length buffer.old }
     ensures { TakesInput M.machine S.left S.given S.asked S.faults K.held K.faults script.old script.new source.old source.new sink.old sink.new result }
 {
@@ -151,7 +150,7 @@ fn take_pieces<S: Source, K: Sink, M: LineMachine>(
     buffer: &mut [u8],
 ) -> Result<Input, Stop>
     requires new { IsNew script.old }
-    requires ready { IsReady M.machine script.old.machine }
+    requires ready { M.machine.usable script.old.machine }
     requires room { source.old.room ≡ input_limit }
     requires some { 0 < length buffer.old }
     ensures takes { TakesInput M.machine S.left S.given S.asked S.faults K.held K.faults script.old script.new

@@ -16,7 +16,7 @@ use Rattle.tx_core.specs.Cores.{CoreView, with_entry, over, state_from}
 use Rattle.tx_core.specs.Refusals.{shown_error}
 use Rattle.tx_core.specs.declared.errors.SessionError.{SessionError}
 use Rattle.tx_core.specs.declared.errors.SessionError.TheVariants.{IsWaiting, InTransaction, NoTransaction, TxLimit, CommitLimit, NoMemory}
-use Rattle.session_driver.specs.Driving.{with_entries, shown_why, shown_of, refused_by_book, HasGrown, HasDone, HasBegun}
+use Rattle.session_driver.specs.Driving.{with_entries, shown_why, shown_of, refused_by_book, HasDone, HasBegun}
 use Rattle.session_driver.specs.Lines.{event_of, then_retries, after_line}
 use Rattle.session_driver.specs.Progress.{Progress, shown}
 use Rattle.session_driver.specs.Retries.{retries}
@@ -93,8 +93,8 @@ module _ {C B : Type 0} (is_valid : C → Type 0) (m : CallMeaning C) (told : B 
 
   -- ---- a line whose retries follow
 
-  stands_later : (v w : CoreView C B) (x y : List LineReply) → HasGrown v w x y → (t : Tree) → StandsFor (told v.opening) t → StandsFor (told w.opening) t
-  stands_later v w x y grown t stands = subst (λ (b : B). StandsFor (told b) t) (sym (ap (λ (u : CoreView C B). u.opening) grown.core)) stands
+  stands_later : (v w : CoreView C B) → w.opening ≡ v.opening → (t : Tree) → StandsFor (told v.opening) t → StandsFor (told w.opening) t
+  stands_later v w opened t stands = subst (λ (b : B). StandsFor (told b) t) (sym opened) stands
 
   abbrev pub RetriesDone : CoreView C B → CoreView C B → List LineReply → List LineReply → Type 0
   RetriesDone mid new y z = (t : Tree) → StandsFor (told mid.opening) t → HasDone mid new y z (retries m (state_from m t mid))
@@ -102,9 +102,9 @@ module _ {C B : Type 0} (is_valid : C → Type 0) (m : CallMeaning C) (told : B 
   abbrev pub RetriesBegun : CoreView C B → CoreView C B → List LineReply → List LineReply → Type 0
   RetriesBegun mid new y z = (t : Tree) → StandsFor (told mid.opening) t → HasBegun mid new y z (retries m (state_from m t mid))
 
-  module _ (old mid new : CoreView C B) (x y z : List LineReply) (grown : HasGrown old mid x y) (p : Progress C) (t : Tree) (stands : StandsFor (told old.opening) t) (left : Leaves old mid x y p (retries m (state_from m t mid))) where
+  module _ (old mid new : CoreView C B) (x y z : List LineReply) (opened : mid.opening ≡ old.opening) (p : Progress C) (t : Tree) (stands : StandsFor (told old.opening) t) (left : Leaves old mid x y p (retries m (state_from m t mid))) where
     pub then_done : RetriesDone mid new y z → HasDone old new x z p
-    then_done done = done_after old mid new x y z p (retries m (state_from m t mid)) left (done t (stands_later old mid x y grown t stands))
+    then_done done = done_after old mid new x y z p (retries m (state_from m t mid)) left (done t (stands_later old mid opened t stands))
 
     pub then_begun : RetriesBegun mid new y z → HasBegun old new x z p
-    then_begun begun = begun_after old mid new x y z p (retries m (state_from m t mid)) left (begun t (stands_later old mid x y grown t stands))
+    then_begun begun = begun_after old mid new x y z p (retries m (state_from m t mid)) left (begun t (stands_later old mid opened t stands))

@@ -1,5 +1,6 @@
 -- What is left to be done goes on: one part behind another, and a failure behind a part.
-use Rattle.std.proofs.Common.{◌≡◌, inl, inr, ℕ, ◌+◌, List, [], ◌∷◌, ◌++◌, Option, Some, None, Result, Ok, Err, IfOk, OnErr, refl, sym, ap, ap₂, ◌∙◌}
+use Rattle.std.proofs.Common.{◌≡◌, inl, inr, ℕ, ◌+◌, cond, IsTrue, List, [], ◌∷◌, ◌++◌, length, Option, Some, None, Result, Ok, Err, IfOk, OnErr, refl, sym, ap, ap₂, ◌∙◌}
+use Rattle.std.proofs.lemmas.Bool.{false≢true}
 use Rattle.std.proofs.lemmas.List.{append-nil, append_assoc}
 use Rattle.call_contract.specs.Books.{Book, entry}
 use Rattle.call_contract.specs.declared.events.Event.TheVariants as event
@@ -9,14 +10,30 @@ use Rattle.call_contract.specs.declared.events.Noted.{Noted}
 use Rattle.command_lines.specs.declared.line_reply.LineReply.{LineReply}
 use Rattle.tree_model.specs.Entries.{Entries}
 use Rattle.node_records.specs.declared.pending.Pending.{Pending}
-use Rattle.call_contract.specs.Sessions.{commits_in}
+use Rattle.call_contract.specs.Sessions.{commits_in, is_commit}
 use Rattle.tx_core.specs.Drains.{Undrained}
 use Rattle.tx_core.specs.Cores.{CoreView, IsLeftBy, drained, over, with_committed, with_entry, with_pending}
 use Rattle.tx_core.specs.declared.errors.CallError.{CallError}
 use Rattle.tx_core.specs.declared.errors.CallError.TheVariants as call_error
 use Rattle.session_driver.specs.Progress.{Progress, stays}
-use Rattle.session_driver.specs.Driving.{with_entries, IsFailureAtMost, HasGrown, HasDone, HasBegun}
+use Rattle.call_contract.specs.declared.events.Event.{Event}
+use Rattle.call_contract.proofs.Appends.{commits_append}
+use Rattle.session_driver.specs.Driving.{with_entries, is_failure, IsFailureAtMost, HasGrown, HasDone, HasBegun}
 use Rattle.session_driver.specs.inside.Steps.{Adds, Leaves, HasFailed}
+
+module _ {C : Type 0} where
+  failure_commits_nothing : (n : Noted C) (e : Event C) → n.event ≡ e → IsTrue (is_failure e) → commits_in (n ∷ []) ≡ 0
+  failure_commits_nothing n (event.Fail c k f) is fails = ap (λ (e : Event C). length (cond (is_commit e) (n ∷ []) [])) is
+  failure_commits_nothing n event.Begin is fails = absurd (false≢true fails)
+  failure_commits_nothing n (event.Call c) is fails = absurd (false≢true fails)
+  failure_commits_nothing n event.Retry is fails = absurd (false≢true fails)
+  failure_commits_nothing n event.Commit is fails = absurd (false≢true fails)
+  failure_commits_nothing n event.Abort is fails = absurd (false≢true fails)
+
+  failures_commit_nothing : (failed : Book C) → IsFailureAtMost failed → commits_in failed ≡ 0
+  failures_commit_nothing [] one = refl
+  failures_commit_nothing (n ∷ []) one = failure_commits_nothing n n.event refl one
+  failures_commit_nothing (n ∷ k ∷ rest) one = absurd one
 
 module _ {C B : Type 0} where
   -- ---- cores
@@ -61,21 +78,22 @@ module _ {C B : Type 0} where
   -- ---- growth
 
   pub grown_none : (v w : CoreView C B) (xs ys : List LineReply) → w ≡ with_entries v [] w → ys ≡ xs → HasGrown v w xs ys
-  grown_none v w xs ys e f = record { entries = []; said = []; core = e; out = f ∙ sym (append-nil xs) }
+  grown_none v w xs ys e f = record { entries = []; said = []; core = e; commits = refl; out = f ∙ sym (append-nil xs) }
 
   pub grown_on : (a b c : CoreView C B) (x y z : List LineReply) → HasGrown a b x y → HasGrown b c y z → HasGrown a c x z
   grown_on a b c x y z one two = record {
     entries = one.entries ++ two.entries;
     said = one.said ++ two.said;
     core = entries_on a b c one.entries two.entries one.core two.core;
+    commits = commits_append one.entries two.entries ∙ ap₂ (λ (m n : ℕ). m + n) one.commits two.commits;
     out = two.out ∙ ap (λ (ls : List LineReply). ls ++ two.said) one.out ∙ append_assoc x one.said two.said;
   }
 
   pub grown_failed : (a b : CoreView C B) (x y : List LineReply) → HasFailed a b → y ≡ x → HasGrown a b x y
-  grown_failed a b x y is e = record { entries = is.failed; said = []; core = is.core; out = e ∙ sym (append-nil x) }
+  grown_failed a b x y is e = record { entries = is.failed; said = []; core = is.core; commits = failures_commit_nothing is.failed is.failure; out = e ∙ sym (append-nil x) }
 
   pub grown_lines : (v w : CoreView C B) (xs ys said : List LineReply) → w ≡ with_entries v [] w → ys ≡ xs ++ said → HasGrown v w xs ys
-  grown_lines v w xs ys said e f = record { entries = []; said = said; core = e; out = f }
+  grown_lines v w xs ys said e f = record { entries = []; said = said; core = e; commits = refl; out = f }
 
   -- ---- what is left
 
@@ -157,19 +175,16 @@ module _ {C B : Type 0} where
 
   -- a line that was refused, or couldn't be written
   pub grown_refused : {T E : Type 0} (v w : CoreView C B) (xs ys : List LineReply) (r : Result T E) → w ≡ with_entries v [] w → IfOk r (λ _. (said : List LineReply) × (ys ≡ xs ++ said)) → OnErr r (ys ≡ xs) → HasGrown v w xs ys
-  grown_refused v w xs ys (Ok u) e one two = record { entries = []; said = one.0; core = e; out = one.1 }
+  grown_refused v w xs ys (Ok u) e one two = record { entries = []; said = one.0; core = e; commits = refl; out = one.1 }
   grown_refused v w xs ys (Err u) e one two = grown_none v w xs ys e two
 
   -- one entry with its line
-  pub grown_one : (v w : CoreView C B) (n : Noted C) (l : LineReply) (xs ys : List LineReply) → w ≡ over (with_entry v n) w.base → ys ≡ xs ++ l ∷ [] → HasGrown v w xs ys
-  grown_one v w n l xs ys e f = record { entries = n ∷ []; said = l ∷ []; core = entries_one v w n e; out = f }
-
-  pub grown_adds : (v w : CoreView C B) (n : Noted C) (l : LineReply) (xs ys : List LineReply) → Adds v n w → ys ≡ xs ++ l ∷ [] → HasGrown v w xs ys
-  grown_adds v w n l xs ys e f = record { entries = n ∷ []; said = l ∷ []; core = entries_adds v w n e; out = f }
+  pub grown_one : (v w : CoreView C B) (n : Noted C) (l : LineReply) (xs ys : List LineReply) → w ≡ over (with_entry v n) w.base → commits_in (n ∷ []) ≡ 0 → ys ≡ xs ++ l ∷ [] → HasGrown v w xs ys
+  grown_one v w n l xs ys e none f = record { entries = n ∷ []; said = l ∷ []; core = entries_one v w n e; commits = none; out = f }
 
   -- whatever was committed and left to be made durable before
   pub grown_anew : (v w : CoreView C B) (committed : Option Entries) (u : Undrained) (xs ys : List LineReply) → HasGrown (record v { committed = committed; undrained = u }) w xs ys → HasGrown v w xs ys
-  grown_anew v w committed u xs ys is = record { entries = is.entries; said = is.said; core = is.core; out = is.out }
+  grown_anew v w committed u xs ys is = record { entries = is.entries; said = is.said; core = is.core; commits = is.commits; out = is.out }
 
   -- an attempt without an answer
   pub failed_attempt : (count : B → ℕ) (v w : CoreView C B) (s : ℕ) (c : C) (e : CallError) → IsLeftBy count v s c e w → HasFailed v w
@@ -189,5 +204,6 @@ grown_from {C = C} {B = B} u v w xs ys zs e f is = record {
   entries = is.entries;
   said = is.said;
   core = is.core ∙ ap (λ (x : CoreView C B). with_entries x is.entries w) e;
+  commits = is.commits;
   out = is.out ∙ ap (λ (ls : List LineReply). ls ++ is.said) f;
 }

@@ -108,8 +108,8 @@ module _ {C B : Type 0} (m : CallMeaning C) where
     retry_grown a x y is out = go is.noted is.view
       where
         go : (k : Bool) → new ≡ over (with_retry old s a k) new.base → HasGrown old new x y
-        go true e = record { entries = entry s Retry (said.Call a) ∷ []; said = lines_of s a; core = entries_one old new (entry s Retry (said.Call a)) e; out = out }
-        go false e = record { entries = []; said = lines_of s a; core = entries_read old new e; out = out }
+        go true e = record { entries = entry s Retry (said.Call a) ∷ []; said = lines_of s a; core = entries_one old new (entry s Retry (said.Call a)) e; commits = refl; out = out }
+        go false e = record { entries = []; said = lines_of s a; core = entries_read old new e; commits = refl; out = out }
 
     noted_queue : (n : Noted C) (q : List ℕ) → new ≡ over (with_entry old n) new.base → queue_after (queue_after [] old.book) (n ∷ []) ≡ q → queue_after [] new.book ≡ q
     noted_queue n q e is = ap (λ (v : CoreView C B). queue_after [] v.book) e ∙ queue_append [] old.book (n ∷ []) ∙ is

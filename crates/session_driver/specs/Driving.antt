@@ -2,6 +2,7 @@
 use Rattle.std.specs.Prelude.{◌≡◌, ℕ, Bool, true, false, List, [], ◌∷◌, ◌++◌, Option, Some, None, is_some, IsTrue}
 use Rattle.call_contract.specs.Books.{Book}
 use Rattle.call_contract.specs.Calls.{CallMeaning}
+use Rattle.call_contract.specs.Sessions.{commits_in}
 use Rattle.call_contract.specs.States.{State}
 use Rattle.call_contract.specs.declared.events.Event.{Event}
 use Rattle.call_contract.specs.declared.events.Event.TheVariants.{Fail}
@@ -48,11 +49,12 @@ refused_by_book v s (Call c) = shown_of (call_refused v s)
 abbrev pub with_entries : {C B : Type 0} → CoreView C B → Book C → CoreView C B → CoreView C B
 with_entries v b w = record v { book = v.book ++ b; base = w.base; committed = w.committed; prepared = w.prepared; undrained = w.undrained }
 
--- with the core that was opened so, and lines written: entries and lines were added at the end at most
+-- with the core that was opened so, and lines written: entries that commit nothing, and lines, were added at the end at most
 pub record HasGrown {C B : Type 0} (old new : CoreView C B) (before after : List LineReply) : Type 0 where
   pub entries : Book C
   pub said : List LineReply
   pub core : new ≡ with_entries old entries new
+  pub commits : commits_in entries ≡ 0
   pub out : after ≡ before ++ said
 
 -- all that was to be done is done: the entries stand in the book, and the lines are written

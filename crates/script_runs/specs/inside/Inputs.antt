@@ -4,7 +4,7 @@ use Rattle.outside_kinds.specs.Bounds.{input_limit}
 use Rattle.outside_traits.specs.Bytes.{Gave}
 use Rattle.script_runs.specs.Counts.{CountedWhere, DisksCountedWhere, ReadCountedWhere}
 use Rattle.script_runs.specs.Lines.{line_limit}
-use Rattle.script_runs.specs.Machine.{Machine, IsReady}
+use Rattle.script_runs.specs.Machine.{Machine}
 use Rattle.script_runs.specs.Runs.{Ran}
 use Rattle.script_runs.specs.inside.Feeding.{Script, TakesFrom, IfGoesOn, went}
 use Rattle.script_runs.specs.declared.feeding.Stop.{Stop}
@@ -21,7 +21,7 @@ pub record TakesInput {S K M : Type 0} (m : Machine M) (left : S → Option (Lis
     (old new : Script M) (source source_now : S) (sink sink_now : K) (result : Result Input Stop) : Type 0 where
   pub takes : (read : List ℕ) × Gave (left source) (left source_now) read × (given source_now ≡ given source + length read)
       × ((s : m.State) → m.stands old.machine s → TakesFrom m line_limit s old new (held sink) (held sink_now) read (asked source_now - given source) (went result))
-  pub ready : IfGoesOn (IsReady m new.machine) (went result)
+  pub ready : IfGoesOn (m.usable new.machine) (went result)
   pub lines : new.lines ≤ input_limit
   pub bound : given source_now ≤ given source + input_limit
   pub written : OnOk result ((new.pending ≡ []) × (length new.unended ≤ line_limit))

@@ -1,4 +1,4 @@
-use Rattle.std.proofs.Common.{◌≡◌, ◌++◌, ◌<◌, List, length, refl, ap, subst, ◌∙◌}
+use Rattle.std.proofs.Common.{◌≡◌, ◌++◌, ◌<◌, List, length, ap, subst, ◌∙◌}
 use Rattle.std.specs.Prelude.{Option, Some, IfSome, vec_capacity}
 use Rattle.call_contract.specs.States.{State}
 use Rattle.command_lines.specs.declared.line_reply.LineReply.{LineReply}
@@ -9,7 +9,7 @@ use Rattle.session_driver.specs.Driving.{HasBegun}
 use Rattle.session_driver.specs.declared.doing.Doing.{Doing}
 use Rattle.session_driver.specs.declared.doing.Doing.TheVariants.{Commit}
 use Rattle.durable_sessions.specs.Asked.{asked_from, LeadsTo, LeavesEither}
-use Rattle.durable_sessions.proofs.AnswerLaws.{begun_over, Driven, DoneAtOnce, done_leads, done_takes, on_ok, by_commit}
+use Rattle.durable_sessions.proofs.AnswerLaws.{begun_over, Driven, DoneAtOnce, done_leads, grown_takes, on_ok, by_commit}
 use Rattle.durable_sessions.proofs.answering.answer.Goals as goal
 
 -- ---- a line that is done at once
@@ -21,11 +21,7 @@ returns-in-Ok-None-clause-state g c =
     done_leads g.C.TreeCall.is_valid g.C.TreeCall.meaning g.met.C.TreeCall.laws g.B.NodeRead.contents g.J.Disk.is_known c.args.session c.args.doing c.args.core.now c.drive.new.core c.args.journal.now.history c.args.replies.now.items c.drive.new.out.items driven
 
 pub returns-in-Ok-None-clause-takes : goal.returns-in-Ok-None-clause-takes
-returns-in-Ok-None-clause-takes g c =
-    let driven : DoneAtOnce g.C.TreeCall.is_valid g.C.TreeCall.meaning g.met.C.TreeCall.laws g.B.NodeRead.contents c.args.session c.args.doing c.args.core.now c.drive.new.core c.args.replies.now.items c.drive.new.out.items
-    = subst (Driven g.C.TreeCall.is_valid g.C.TreeCall.meaning g.met.C.TreeCall.laws g.B.NodeRead.contents c.args.session c.args.doing c.args.core.now c.drive.new.core c.args.replies.now.items c.drive.new.out.items) c.in-Ok-None.field-0-is c.in-Ok-None.ensures.line in
-    done_takes g.C.TreeCall.is_valid g.C.TreeCall.meaning g.met.C.TreeCall.laws g.B.NodeRead.contents c.args.session c.args.doing c.args.core.now c.drive.new.core c.args.journal.now c.args.replies.now.items c.drive.new.out.items driven c.requires.may
-    c.is_legal.ensures.book c.is_legal-in-Ok-None.ensures.book
+returns-in-Ok-None-clause-takes g c = grown_takes c.args.core.now c.drive.new.core c.args.journal.now c.args.replies.now.items c.drive.new.out.items c.drive.ensures.later c.requires.takes
 
 -- ---- a commit
 
@@ -75,15 +71,7 @@ returns-in-Ok-Some-clause-any_moment g c =
 
 pub returns-in-Ok-Some-clause-still : goal.returns-in-Ok-Some-clause-still
 returns-in-Ok-Some-clause-still g c = λ other.
-    let old = c.args.core.now in
-    let mid = c.drive.new.core in
-    let prepared = c.in-Ok-Some.prepared in
-    let driven : Driven g.C.TreeCall.is_valid g.C.TreeCall.meaning g.met.C.TreeCall.laws g.B.NodeRead.contents c.args.session c.args.doing old mid c.args.replies.now.items c.drive.new.out.items (Some prepared)
-    = subst (Driven g.C.TreeCall.is_valid g.C.TreeCall.meaning g.met.C.TreeCall.laws g.B.NodeRead.contents c.args.session c.args.doing old mid c.args.replies.now.items c.drive.new.out.items) c.in-Ok-Some.field-0-is c.in-Ok-Some.ensures.line in
-    let due : (mid ≡ record old { prepared = Some c.args.session }) × IsPrepared old prepared
-    = subst (λ (p : Option Prepared). IfSome p (λ it. (mid ≡ record old { prepared = Some c.args.session }) × IsPrepared old it)) c.in-Ok-Some.field-0-is c.in-Ok-Some.ensures.prepared in
-    absurd (other (by_commit g.C.TreeCall.is_valid g.C.TreeCall.meaning g.met.C.TreeCall.laws g.B.NodeRead.contents (λ (d : Doing g.row.C.Denot) (s : State g.row.C.Denot). d ≡ Commit) c.args.session c.args.doing old mid c.args.replies.now.items c.drive.new.out.items prepared driven due.0
-    (λ s stands. refl) c.requires.may.state c.requires.may.stands))
+    absurd (other (subst (λ (p : Option Prepared). IfSome p (λ _. c.args.doing ≡ Commit)) c.in-Ok-Some.field-0-is c.in-Ok-Some.ensures.commit))
 
 pub returns-in-Ok-Some-clause-begun : goal.returns-in-Ok-Some-clause-begun
 returns-in-Ok-Some-clause-begun g c =

@@ -5,7 +5,7 @@ use Rattle.durable_sessions.proofs.answering.commit.Goals as goal
 
 pub append_group-requires-clause-commit : goal.append_group-requires-clause-commit
 append_group-requires-clause-commit g c =
-    commit_follows g.C.TreeCall.is_valid g.C.TreeCall.meaning g.met.C.TreeCall.laws g.B.NodeRead.contents c.args.core.now c.args.session c.args.prepared c.args.journal.now c.make_room.new.self _ c.requires.due c.requires.may (ap (λ (j : JournalView). j.last) c.in_ok-make_room.ensures.ok) c.as_slice.ensures
+    commit_follows g.C.TreeCall.is_valid g.C.TreeCall.meaning g.met.C.TreeCall.laws g.B.NodeRead.contents c.args.core.now c.args.session c.args.prepared c.args.journal.now c.make_room.new.self _ c.requires.due c.requires.takes (ap (λ (j : JournalView). j.last) c.in_ok-make_room.ensures.ok) c.as_slice.ensures
 
 pub returns-in_err-append_group-clause-any_moment : goal.returns-in_err-append_group-clause-any_moment
 returns-in_err-append_group-clause-any_moment g c =
@@ -21,9 +21,8 @@ returns-in-Ok-clause-state g c =
 
 pub returns-in-Ok-clause-takes : goal.returns-in-Ok-clause-takes
 returns-in-Ok-clause-takes g c =
-    commit_takes g.C.TreeCall.is_valid g.C.TreeCall.meaning g.met.C.TreeCall.laws g.B.NodeRead.contents c.args.core.now c.take_in.new.core c.args.session c.args.prepared c.args.journal.now c.make_room.new.self c.append_group.new.self _ c.args.replies.now.items c.finish_commit.new.out.items
-    c.requires.due c.requires.may c.is_legal.ensures.book c.is_legal-in-Ok.ensures.book c.in_ok-append_group.ensures.ok
-    (finished_over g.C.TreeCall.is_valid g.C.TreeCall.meaning g.met.C.TreeCall.laws g.B.NodeRead.contents c.args.session c.args.core.now c.finish_commit.new.core c.take_in.new.core c.args.replies.now.items c.finish_commit.new.out.items c.take_in.ensures.same c.in-Ok.ensures.line)
+    commit_takes g.C.TreeCall.meaning g.B.NodeRead.contents c.args.core.now c.finish_commit.new.core c.take_in.new.core c.args.session _ c.args.prepared c.make_room.new.self c.append_group.new.self _ _ c.finish_commit.new.out.items
+    c.requires.due c.in_ok-append_group.ensures.ok c.finish_commit.ensures.made c.take_in.ensures.same
 
 pub returns-in-Ok-clause-any_moment : goal.returns-in-Ok-clause-any_moment
 returns-in-Ok-clause-any_moment g c =

@@ -2,7 +2,7 @@ use Rattle.std.proofs.Common.{◌≡◌, length, arith, [], ◌∷◌, sym, ap, 
 use Rattle.journal.specs.Views.{JournalView}
 use Rattle.session_driver.specs.Lines.{AreValid, Asked}
 use Rattle.session_driver.specs.declared.doing.Doing.{Doing}
-use Rattle.durable_sessions.specs.Asked.{MayBeAsked, asked_from}
+use Rattle.durable_sessions.specs.Asked.{asked_from}
 use Rattle.durable_sessions.specs.InTurn.{all_asks, stop_of, AskedInTurn, Stopped, AllAnswered}
 use Rattle.durable_sessions.specs.Reasons.{reason_in, reason_of}
 use Rattle.durable_sessions.specs.declared.in_turn.Stop.TheVariants.{Refused}
@@ -45,10 +45,7 @@ ask_in_turn-requires g t c κs within =
     let rest = all_asks c.args.session c.take_first.new.doings.items in
     let list : c.args.doings.items ≡ doing ∷ c.take_first.new.doings.items = c.in-Some.ensures.first in
     let valid : AreValid g.C.TreeCall.is_valid (a ∷ rest) = subst (λ (l : List (Doing g.row.C.Denot)). AreValid g.C.TreeCall.is_valid (all_asks c.args.session l)) list c.requires.valid in
-    let s = c.requires.may.state in
-    let led = c.in_ok-answer.ensures.state s c.requires.may.stands in
-    let may : MayBeAsked m g.B.NodeRead.contents c.answer.new.core c.answer.new.journal = record { state = (asked_from m s c.args.session doing).state; stands = led.stands; takes = c.in_ok-answer.ensures.takes } in
-    (omega (arith, c.decreases, ap length list), (within.0, (within.1.0, (within.1.1, (may, (valid.1, ap reason_in (sym c.as_slice.ensures.value) ∙ sym c.reason_in.ensures ∙ c.in_default-reason_in.is))))))
+    (omega (arith, c.decreases, ap length list), (within.0, (within.1.0, (within.1.1, (c.in_ok-answer.ensures.takes, (valid.1, ap reason_in (sym c.as_slice.ensures.value) ∙ sym c.reason_in.ensures ∙ c.in_default-reason_in.is))))))
 
 pub returns-clause-asked : goal.returns-clause-asked
 returns-clause-asked g t c = λ s stands.

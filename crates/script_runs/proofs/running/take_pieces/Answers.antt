@@ -4,7 +4,6 @@ use Rattle.std.proofs.Common.{rules, arith, refl, ap, ◌∙◌, append-nil, ◌
 use Rattle.outside_traits.specs.Bytes.{Gave}
 use Rattle.outside_traits.proofs.Laws.{gave_none, gave_on}
 use Rattle.script_runs.specs.Lines.{line_limit}
-use Rattle.script_runs.specs.Machine.{IsReady}
 use Rattle.script_runs.proofs.LogLaws.{flushed_on}
 use Rattle.script_runs.specs.Counts.{DisksCountedWhere}
 use Rattle.script_runs.specs.declared.feeding.Stop.{Stop}
@@ -23,7 +22,7 @@ gave_piece : (a b c : Option (List ℕ)) (read piece prefix : List ℕ) → Gave
 gave_piece a b c read piece prefix so_far is given = gave_on a b c read piece so_far (subst (Gave b c) (sym is) given)
 
 pub feed-requires-clause-ready : goal.feed-requires-clause-ready
-feed-requires-clause-ready g c = subst (IsReady g.M.LineMachine.machine) (sym c.in_ok-flush.ensures.machine) c.loop-source.invariant.ready
+feed-requires-clause-ready g c = subst g.M.LineMachine.machine.usable (sym c.in_ok-flush.ensures.machine) c.loop-source.invariant.ready
 
 pub loop-source-init : goal.loop-source-init
 loop-source-init g c = record {
@@ -46,7 +45,7 @@ returns-in_err-flush-clause-takes g c =
     let e = c.in_err-flush.field-0.0 in
     input_stopped m g.S.Source.left g.S.Source.given g.S.Source.asked g.S.Source.faults g.K.Sink.held g.K.Sink.faults _ _ _ _ _ _ c.from_residual.result e c.from_residual.ensures.1
     (so.0, so.1, so.2, λ s stands. takes_flushed m line_limit s c.args.script.now c.loop-source.script c.flush.new.self _ _ _ so.0 _ (Err e) (so.3 s stands) f.leaves)
-    (stops_unwritten (IsReady m c.flush.new.self.machine) e f.error)
+    (stops_unwritten (m.usable c.flush.new.self.machine) e f.error)
     (omega (arith, invariant.lines, f.lines))
     (omega (arith, invariant.used))
     invariant.no_read_fault
@@ -66,7 +65,7 @@ returns-in-Err-clause-takes g c =
       omega (arith, so.2, r.err.1),
       λ s stands. takes_fault m line_limit s c.args.script.now c.flush.new.self c.requires.new _ _ so.0 _ (flushed_on m line_limit s c.args.script.now c.loop-source.script c.flush.new.self _ _ _ so.0 (Ok tt) (so.3 s stands).leaves f.leaves) f.empty f.short,
     )
-    (subst (IsReady m) (sym f.machine) invariant.ready)
+    (subst m.usable (sym f.machine) invariant.ready)
     (omega (arith, invariant.lines, f.lines))
     (omega (arith, invariant.used, r.err.1))
     f.empty
@@ -94,7 +93,7 @@ returns-then-count-eq0-clause-takes g c =
           takes_end m line_limit s c.args.script.now c.requires.new c.flush.new.self _ _ so.0 (flushed_on m line_limit s c.args.script.now c.loop-source.script c.flush.new.self _ _ _ so.0 (Ok tt) (so.3 s stands).leaves f.leaves) f.empty f.short
           _ _ _ so.2 r.asked,
     )
-    (subst (IsReady m) (sym f.machine) invariant.ready)
+    (subst m.usable (sym f.machine) invariant.ready)
     (omega (arith, invariant.lines, f.lines))
     (omega (arith, invariant.used, r.room))
     f.empty

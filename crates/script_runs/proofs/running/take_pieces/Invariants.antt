@@ -2,7 +2,6 @@ use Rattle.std.proofs.Common.{◌≡◌, ◌+◌, ◌-◌, ◌≤◌, List, ℕ,
 use Rattle.std.specs.Prelude.{Ok}
 use Rattle.outside_traits.specs.Bytes.{Gave}
 use Rattle.script_runs.specs.Lines.{line_limit}
-use Rattle.script_runs.specs.Machine.{IsReady}
 use Rattle.outside_kinds.specs.Bounds.{input_limit}
 use Rattle.script_runs.specs.inside.Feeding.{TakesFrom}
 use Rattle.script_runs.proofs.running.take_pieces.Given as goal
@@ -12,7 +11,7 @@ invariant-loop-source g l = record {
   so_far : (read : List ℕ) × Gave (g.S.Source.left l.fn.source.inner.now) (g.S.Source.left l.source.inner.now) read × (g.S.Source.given l.source.inner.now ≡ g.S.Source.given l.fn.source.inner.now + length read)
       × ((s : g.M.LineMachine.machine.State) → g.M.LineMachine.machine.stands l.fn.script.machine s
       → TakesFrom g.M.LineMachine.machine line_limit s l.fn.script l.script (g.K.Sink.held l.fn.sink) (g.K.Sink.held l.sink) read (g.S.Source.asked l.source.inner.now - g.S.Source.given l.fn.source.inner.now) (Ok tt));
-  ready : IsReady g.M.LineMachine.machine l.script.machine;
+  ready : g.M.LineMachine.machine.usable l.script.machine;
   same_reference : l.source.inner.ghost_name ≡ l.fn.source.inner.ghost_name;
   used : g.S.Source.given l.source.inner.now + l.source.room ≡ g.S.Source.given l.fn.source.inner.now + input_limit;
   lines : l.script.lines + l.source.room ≤ input_limit;

@@ -1,8 +1,9 @@
-use Rattle.std.proofs.Common.{sym, ap, ◌∙◌}
+use Rattle.std.proofs.Common.{refl, sym, ap, ◌∙◌}
 use Rattle.std.proofs.lemmas.Result.{IfOk-weaker, on_err_weaker}
 use Rattle.call_contract.specs.Books.{entry}
 use Rattle.call_contract.specs.declared.events.Event.TheVariants as event
 use Rattle.call_contract.specs.declared.events.EventAnswer.TheVariants as said
+use Rattle.tx_core.specs.Cores.{CoreView}
 use Rattle.session_driver.specs.Driving.{shown_of}
 use Rattle.session_driver.specs.declared.doing.Doing.TheVariants as doing
 use Rattle.session_driver.proofs.Driven.{shown_is, book_same, line_steps, line_refuses, then_done, then_begun}
@@ -19,7 +20,7 @@ returns-in-Ok-clause-line g c =
     let e = over_own old mid n c.in-Ok.ensures.ok in
     IfOk-weaker c.retry_all.result _ _
     (λ u done. λ t stands. then_done g.C.TreeCall.is_valid m told old mid c.retry_all.new.core c.args.out.now.items c.say.new.out.items c.retry_all.new.out.items
-    (grown_one old mid n _ c.args.out.now.items c.say.new.out.items e c.say.ensures) _ t stands
+    (ap (λ (v : CoreView _ _). v.opening) e) _ t stands
     (line_steps g.C.TreeCall.is_valid m told old mid c.args.session doing.Abort said.Nothing c.args.out.now.items c.say.new.out.items tt e c.is_legal.ensures.book c.say.ensures t stands) done)
     c.retry_all.ensures.ok
 
@@ -33,7 +34,7 @@ returns-in-Ok-clause-begun g c =
     let e = over_own old mid n c.in-Ok.ensures.ok in
     on_err_weaker c.retry_all.result
     (λ begun. λ t stands. then_begun g.C.TreeCall.is_valid m told old mid c.retry_all.new.core c.args.out.now.items c.say.new.out.items c.retry_all.new.out.items
-    (grown_one old mid n _ c.args.out.now.items c.say.new.out.items e c.say.ensures) _ t stands
+    (ap (λ (v : CoreView _ _). v.opening) e) _ t stands
     (line_steps g.C.TreeCall.is_valid m told old mid c.args.session doing.Abort said.Nothing c.args.out.now.items c.say.new.out.items tt e c.is_legal.ensures.book c.say.ensures t stands) begun)
     c.retry_all.ensures.err
 
@@ -43,7 +44,7 @@ returns-in-Ok-clause-later g c =
     let mid = c.abort-aborted.new.self in
     let n = entry c.args.session event.Abort said.Nothing in
     grown_on old mid c.retry_all.new.core c.args.out.now.items c.say.new.out.items c.retry_all.new.out.items
-    (grown_one old mid n _ c.args.out.now.items c.say.new.out.items (over_own old mid n c.in-Ok.ensures.ok) c.say.ensures) c.retry_all.ensures.later
+    (grown_one old mid n _ c.args.out.now.items c.say.new.out.items (over_own old mid n c.in-Ok.ensures.ok) refl c.say.ensures) c.retry_all.ensures.later
 
 pub returns-in-Err-clause-line : goal.returns-in-Err-clause-line
 returns-in-Err-clause-line g c =

@@ -11,7 +11,7 @@ use Rattle.tx_core.specs.Commits.{pending_of}
 use Rattle.tx_core.specs.Cores.{CoreView, drained, with_committed, with_entry, with_pending, next_number}
 use Rattle.tx_core.specs.Drains.{Undrained}
 use Rattle.session_driver.proofs.Driven.{commit_steps, then_done, then_begun}
-use Rattle.session_driver.proofs.Left.{adds_commit, grown_adds, grown_anew, grown_from}
+use Rattle.session_driver.proofs.Left.{adds_commit, grown_anew, grown_from}
 use Rattle.session_driver.proofs.driver.finish_commit.Goals as goal
 
 pub returns-clause-line : goal.returns-clause-line
@@ -25,7 +25,7 @@ returns-clause-line g c =
     let e = adds_commit old c.commit-number.new.self mid n (pending_of c.args.prepared) c.commit-number.ensures.committed c.drain.ensures.none_waits in
     IfOk-weaker c.retry_all.result _ _
     (λ u done. λ t stands free. then_done g.C.TreeCall.is_valid m told old mid c.retry_all.new.core c.args.out.now.items c.say.new.out.items c.retry_all.new.out.items
-    (grown_adds old mid n _ c.args.out.now.items c.say.new.out.items e c.say.ensures) _ t stands
+    (ap (λ (v : CoreView _ _). v.opening) e) _ t stands
     (commit_steps g.C.TreeCall.is_valid m told old mid c.args.session a c.args.out.now.items c.say.new.out.items e c.is_legal.ensures.book c.say.ensures t stands free) done)
     c.retry_all.ensures.ok
 
@@ -40,7 +40,7 @@ returns-clause-begun g c =
     let e = adds_commit old c.commit-number.new.self mid n (pending_of c.args.prepared) c.commit-number.ensures.committed c.drain.ensures.none_waits in
     on_err_weaker c.retry_all.result
     (λ begun. λ t stands free. then_begun g.C.TreeCall.is_valid m told old mid c.retry_all.new.core c.args.out.now.items c.say.new.out.items c.retry_all.new.out.items
-    (grown_adds old mid n _ c.args.out.now.items c.say.new.out.items e c.say.ensures) _ t stands
+    (ap (λ (v : CoreView _ _). v.opening) e) _ t stands
     (commit_steps g.C.TreeCall.is_valid m told old mid c.args.session a c.args.out.now.items c.say.new.out.items e c.is_legal.ensures.book c.say.ensures t stands free) begun)
     c.retry_all.ensures.err
 
