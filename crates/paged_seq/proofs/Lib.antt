@@ -4,3 +4,4 @@ pub mod OpenLaws
 pub mod PlaceLaws
 pub mod RecordLaws
 pub mod ValidLaws
+pub mod SizeLaws

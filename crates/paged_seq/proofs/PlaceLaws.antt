@@ -117,6 +117,13 @@ one_passed test bytes es p q x h some is fails at left before =
       items = (λ i. items_in entry_read (left i) (before i) (drop (at i) bytes)) ∙ ap (λ (b : List ℕ). items_in entry_read n (Some x.0) b) (sym (drop_on p.at x.1 bytes)) ∙ o.2;
     }
 
+-- the next entry, where one is left
+pub next_entry : (test : Key → Bool) (bytes : List ℕ) (es : List Entry) (p : Place) → HasPassed test bytes es p → 0 < p.left → (x : Entry × ℕ) × (entry_read p.before (drop p.at bytes) ≡ Some x)
+next_entry test bytes es p h some =
+    let n = p.left - 1 in
+    let count : p.left ≡ suc n = omega (arith, some) in
+    some_item n p.before (drop p.at bytes) (h.ahead, h.rest) (subst (λ (m : ℕ). items_in entry_read m p.before (drop p.at bytes) ≡ Some (h.ahead, h.rest)) count h.items)
+
 -- it stops at one that passes
 pub found_passing : (test : Key → Bool) (bytes : List ℕ) (es : List Entry) (p : Place) (x : Entry × ℕ) → HasPassed test bytes es p → 0 < p.left → entry_read p.before (drop p.at bytes) ≡ Some x → test x.0.key ≡ true → HasFound test bytes es p
 found_passing test bytes es p x h some is passing =

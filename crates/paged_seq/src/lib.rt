@@ -11,6 +11,7 @@ mod place;
 mod records;
 mod search;
 mod seq;
+mod sizes;
 mod valid;
 
 pub use opening::PagesFault;

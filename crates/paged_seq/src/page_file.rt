@@ -2,7 +2,7 @@
 ghost use Rattle.std.specs.Prelude.{◌≡◌, ◌≤◌, ◌<◌, ◌+◌, ◌*◌, ◌^◌, Some, None, List, length, drop, true, is_some, option_map, IsTrue, IsSome, IfOk, IfSome, OnOk};
 ghost use Rattle.outside_traits.specs.Faults.{HasCause, failed};
 ghost use Rattle.page_store.specs.Pages.{ArePagesOf, is_kept, page_of};
-ghost use Rattle.node_records.specs.Records.{record_bytes};
+ghost use Rattle.node_records.specs.Records.{record_bytes, record_of};
 ghost use Rattle.node_pages.specs.PageFiles.{IsIndex, file_page};
 ghost use Rattle.node_seq.specs.declared.node_read.SeqError.TheVariants.{DiskFault};
 ghost use Rattle.node_seq.specs.Reads.{LiesAbove, LiesBelow};
@@ -13,7 +13,7 @@ ghost use Rattle.paged_seq.specs.Places.{HasArrived, HasRead, IsBehind, IsFull, 
 use crate::place::Place;
 use crate::search::{COUNT_BYTES, advance, pages_before, seek};
 use byteorder::{BigEndian, ByteOrder};
-use dewey_labels::List;
+use dewey_labels::{List, NoMemory};
 use node_pages::PageStart;
 use node_records::{Entry, read_record};
 use node_seq::SeqError;
@@ -139,6 +139,7 @@ impl<P: Disk + Drop> PageFile<P> {
         ensures within { IfOk result (λ p. p.at ≤ 8_192) }
         ensures parts { IfOk result (λ p. IsTrue P.is_known → Parts (file_page (P.history self.old.disk).now.reads) (length starts.now) (passes key.now beyond) p) }
         ensures reads { self.new.pool.reads ≤ self.old.pool.reads + 1 }
+        ensures most { self.new.pool.most ≡ self.old.pool.most }
         ensures same { IsTrue P.is_known → P.history self.new.disk ≡ P.history self.old.disk }
         ensures cause { HasCause DiskFault (P.faults self.old.disk) (P.faults self.new.disk) result }
     {
@@ -172,6 +173,7 @@ impl<P: Disk + Drop> PageFile<P> {
         ensures there { IfOk result (λ arrived. IsTrue arrived → is_kept place.new.page self.new.pool ≡ true) }
         ensures some { IfOk result (λ arrived. IsTrue arrived → (0 < place.new.left) × (steps_left (length starts.now) place.new ≤ steps_left (length starts.now) place.old)) }
         ensures reads { self.new.pool.reads ≤ self.old.pool.reads + 1 }
+        ensures most { self.new.pool.most ≡ self.old.pool.most }
         ensures same { IsTrue P.is_known → P.history self.new.disk ≡ P.history self.old.disk }
         ensures cause { HasCause DiskFault (P.faults self.old.disk) (P.faults self.new.disk) result }
     {
@@ -217,6 +219,7 @@ impl<P: Disk + Drop> PageFile<P> {
         ensures full { IfOk result (λ read. IsTrue read → IsFull place.new.before) }
         ensures shorter { IfOk result (λ read. IsTrue read → steps_left (length starts.now) place.new < steps_left (length starts.now) place.old) }
         ensures reads { self.new.pool.reads ≤ self.old.pool.reads + 1 }
+        ensures most { self.new.pool.most ≡ self.old.pool.most }
         ensures same { IsTrue P.is_known → P.history self.new.disk ≡ P.history self.old.disk }
         ensures cause { HasCause DiskFault (P.faults self.old.disk) (P.faults self.new.disk) result }
     {
@@ -248,12 +251,17 @@ impl<P: Disk + Drop> PageFile<P> {
             → IsBehind (file_page (P.history self.old.disk).now.reads) (length starts.now) place.old
             → IsBehind (file_page (P.history self.old.disk).now.reads) (length starts.now) place.new) }
         ensures reads { IfOk result (λ found. IfSome found (λ r. 1_024 * self.new.pool.reads ≤ 1_024 * self.old.pool.reads + length (record_bytes r))) }
+        ensures most { self.new.pool.most ≡ self.old.pool.most }
         ensures same { IsTrue P.is_known → P.history self.new.disk ≡ P.history self.old.disk }
         ensures cause { HasCause DiskFault (P.faults self.old.disk) (P.faults self.new.disk) result }
     {
         let Some(first) = &place.before else {
             return Ok(None);
         };
+        // A record of one chunk isn't copied before it is read.
+        if first.last {
+            return Ok(record_of(alloc, first.bytes.as_slice())?);
+        }
         let mut last = first.last;
         let mut bytes = List::from_vec(Vec::from_slice(alloc, first.bytes.as_slice())?);
         while !last {
@@ -266,10 +274,7 @@ impl<P: Disk + Drop> PageFile<P> {
             bytes.extend_from_slice(alloc, next.bytes.as_slice())?;
             last = next.last;
         }
-        match read_record(alloc, bytes.as_slice())? {
-            Some((record, _)) => Ok(Some(record)),
-            None => Ok(None),
-        }
+        Ok(record_of(alloc, bytes.as_slice())?)
     }
 }
 
@@ -285,6 +290,7 @@ impl<P: Disk + Drop> PageFile<P> {
         requires index { IsTrue P.is_known → IsIndex (file_page (P.history self.old.disk).now.reads) starts.now }
         ensures value { IfOk result (λ found. IsTrue P.is_known → found ≡ get key.now (records_of (file_page (P.history self.old.disk).now.reads) (length starts.now))) }
         ensures reads { IfOk result (λ found. IsTrue P.is_known → self.new.pool.reads ≤ self.old.pool.reads + 2 + chunks_found found) }
+        ensures most { self.new.pool.most ≡ self.old.pool.most }
         ensures same { IsTrue P.is_known → P.history self.new.disk ≡ P.history self.old.disk }
         ensures cause { HasCause DiskFault (P.faults self.old.disk) (P.faults self.new.disk) result }
     {
@@ -317,6 +323,7 @@ impl<P: Disk + Drop> PageFile<P> {
         ensures parts { IfOk result (λ p. IsTrue P.is_known
             → Parts (file_page (P.history self.old.disk).now.reads) (length starts.now) (passes key.now true) p) }
         ensures reads { self.new.pool.reads ≤ self.old.pool.reads + 1 }
+        ensures most { self.new.pool.most ≡ self.old.pool.most }
         ensures same { IsTrue P.is_known → P.history self.new.disk ≡ P.history self.old.disk }
         ensures cause { HasCause DiskFault (P.faults self.old.disk) (P.faults self.new.disk) result }
     {
@@ -342,6 +349,7 @@ impl<P: Disk + Drop> PageFile<P> {
         ensures value { IfOk result (λ found. IsTrue P.is_known → found ≡ first_above key.now (records_of (file_page (P.history self.old.disk).now.reads) (length starts.now))) }
         ensures above { IfOk result (LiesAbove key.now) }
         ensures reads { IfOk result (λ found. IsTrue P.is_known → self.new.pool.reads ≤ self.old.pool.reads + 3 + chunks_of_entry found) }
+        ensures most { self.new.pool.most ≡ self.old.pool.most }
         ensures same { IsTrue P.is_known → P.history self.new.disk ≡ P.history self.old.disk }
         ensures cause { HasCause DiskFault (P.faults self.old.disk) (P.faults self.new.disk) result }
     {
@@ -373,6 +381,7 @@ impl<P: Disk + Drop> PageFile<P> {
         ensures value { IfOk result (λ found. IsTrue P.is_known → found ≡ last_below key.now (records_of (file_page (P.history self.old.disk).now.reads) (length starts.now))) }
         ensures below { IfOk result (LiesBelow key.now) }
         ensures reads { IfOk result (λ found. IsTrue P.is_known → self.new.pool.reads ≤ self.old.pool.reads + 3 + chunks_of_entry found) }
+        ensures most { self.new.pool.most ≡ self.old.pool.most }
         ensures same { IsTrue P.is_known → P.history self.new.disk ≡ P.history self.old.disk }
         ensures cause { HasCause DiskFault (P.faults self.old.disk) (P.faults self.new.disk) result }
     {
@@ -387,6 +396,16 @@ impl<P: Disk + Drop> PageFile<P> {
             }
             None => Ok(None),
         }
+    }
+}
+
+/// The record that all of these bytes are, if they are one.
+fn record_of(alloc: Global, bytes: &[u8]) -> Result<Option<Record>, NoMemory>
+    ensures { IfOk result (λ found. found ≡ record_of bytes.now) }
+{
+    match read_record(alloc, bytes)? {
+        Some((record, _)) => Ok(Some(record)),
+        None => Ok(None),
     }
 }
 

@@ -1,14 +1,19 @@
 //! Looking for a key: among the starts of pages, and on one page.
-ghost use Rattle.std.specs.Prelude.{◌≡◌, ◌≤◌, ◌<◌, ◌+◌, List, length, take, drop, Some, IsTrue, IfOk, OnOk};
+ghost use Rattle.std.specs.Prelude.{◌≡◌, ◌≤◌, ◌<◌, ◌+◌, ℕ, List, length, take, drop, Some, IsTrue, IfOk, IfSome, OnOk};
+ghost use Rattle.node_records.specs.Entries.{entry_in};
+ghost use Rattle.node_records.specs.Keys.{key_bytes};
 ghost use Rattle.node_records.specs.declared.entries.Entry.{Entry};
 ghost use Rattle.node_pages.specs.EntryForm.{entry_read};
 ghost use Rattle.node_pages.specs.Reading.{page_in};
 ghost use Rattle.paged_seq.specs.Places.{Advances, HasFound, IsFull, LastFails, NextPasses, comes, passes};
+ghost use Rattle.paged_seq.specs.Sizes.{SortsAs, entry_there};
 
 use crate::place::Place;
+use crate::sizes::entry_sizes;
 use byteorder::{BigEndian, ByteOrder};
-use dewey_labels::NoMemory;
+use dewey_labels::{List, NoMemory};
 use node_pages::{PageRead, PageStart, WholeEntries};
+use node_records::{Entry, write_key};
 use std::alloc::Global;
 use std::cmp::Ordering;
 use tree_model::Key;
@@ -16,15 +21,22 @@ use tree_model::Key;
 /// How many bytes the count before a page's entries has.
 pub(crate) const COUNT_BYTES: usize = 2;
 
-/// Whether an entry at a key stands at the key that is looked for or beyond it; only beyond it, where `beyond` says so.
-fn passes(at: &Key, key: &Key, beyond: bool) -> bool
-    ensures { result ≡ passes key.now beyond at.now }
+/// Whether what compares so with the key that is looked for stands there or beyond it; only beyond it, where `beyond` says so.
+fn comes(order: Ordering, beyond: bool) -> bool
+    ensures { result ≡ comes beyond order }
 {
-    match at.cmp(key) {
+    match order {
         Ordering::Less => false,
         Ordering::Equal => !beyond,
         Ordering::Greater => true,
     }
+}
+
+/// The same of an entry at a key.
+fn passes(at: &Key, key: &Key, beyond: bool) -> bool
+    ensures { result ≡ passes key.now beyond at.now }
+{
+    comes(at.cmp(key), beyond)
 }
 
 /// How many pages begin before the key, by halves.
@@ -47,7 +59,57 @@ pub(crate) fn pages_before(starts: &[PageStart], key: &Key, beyond: bool) -> usi
     low
 }
 
-/// The place on a page before the first entry that stands at the key or beyond it. It passes over the entries before that one.
+/// The bytes of a key, by which it sorts among those of entries; None where its name has the character U+0000, as no entry's has.
+fn sorting_bytes(alloc: Global, key: &Key) -> Result<Option<List<u8>>, NoMemory>
+    ensures { IfOk result (λ found. IfSome found (SortsAs key.now)) }
+{
+    if key.name.as_str().as_bytes().contains(&0) {
+        return Ok(None);
+    }
+    let mut bytes = List::new(alloc);
+    write_key(alloc, key, &mut bytes)?;
+    Ok(Some(bytes))
+}
+
+/// Whether the entry at the start of the bytes, so many of which are its key, stands at the key that is looked for or beyond it, as `passes` has it.
+fn passes_there(
+    alloc: Global,
+    bytes: &[u8],
+    size: usize,
+    key: &Key,
+    sorting: &Option<List<u8>>,
+    beyond: bool,
+) -> Result<bool, NoMemory>
+    requires within { size ≤ length bytes.now }
+    requires sorting { IfSome sorting.now (SortsAs key.now) }
+    ensures { IfOk result (λ answer. (e : Entry × ℕ) → entry_in bytes.now ≡ Some e → size ≡ length (key_bytes e.0.key) → answer ≡ passes key.now beyond e.0.key) }
+{
+    let Some(sorting) = sorting else {
+        return match WholeEntries::read(alloc, bytes, &None)? {
+            Some((entry, _)) => Ok(passes(&entry.key, key, beyond)),
+            None => Ok(true),
+        };
+    };
+    let (at, _) = bytes.split_at(size);
+    Ok(comes(at.cmp(&sorting.as_slice()), beyond))
+}
+
+/// The entry at this place of the bytes, if a place is named.
+fn entry_there(alloc: Global, bytes: &[u8], at: Option<usize>) -> Result<Option<Entry>, NoMemory>
+    requires within { IfSome at (λ n. n ≤ length bytes.now) }
+    ensures { IfOk result (λ found. found ≡ entry_there bytes.now at) }
+{
+    let Some(at) = at else {
+        return Ok(None);
+    };
+    let (_, rest) = bytes.split_at(at);
+    match WholeEntries::read(alloc, rest, &None)? {
+        Some((entry, _)) => Ok(Some(entry)),
+        None => Ok(None),
+    }
+}
+
+/// The place on a page before the first entry that stands at the key or beyond it. It passes over the entries before that one by their bytes, and reads the last of them.
 pub(crate) fn seek(
     alloc: Global,
     page: u32,
@@ -60,23 +122,23 @@ pub(crate) fn seek(
     ensures page { IfOk result (λ p. p.page ≡ page) }
     ensures within { IfOk result (λ p. p.at ≤ 8_192) }
 {
+    let sorting = sorting_bytes(alloc, key)?;
     let mut at = COUNT_BYTES;
     let mut left = BigEndian::read_u16(bytes);
-    let mut before = None;
+    let mut passed = None;
     while left > 0 {
         let (_, rest) = bytes.split_at(at);
-        match WholeEntries::read(alloc, rest, &before)? {
-            Some((entry, size)) => {
-                if passes(&entry.key, key, beyond) {
-                    break;
-                }
-                before = Some(entry);
-                at += size;
-                left -= 1;
-            }
-            None => break,
+        let Some((key_size, size)) = entry_sizes(rest) else {
+            break;
+        };
+        if passes_there(alloc, rest, key_size, key, &sorting, beyond)? {
+            break;
         }
+        passed = Some(at);
+        at += size;
+        left -= 1;
     }
+    let before = entry_there(alloc, bytes, passed)?;
     Ok(Place {
         page,
         at,

@@ -119,6 +119,7 @@ impl<P: Disk + Drop> PagedSeq<P> {
     pub fn record_at(&mut self, alloc: Global, key: &Key) -> Result<Option<Record>, SeqError>
         ensures value { IfOk result (λ found. IsTrue P.is_known → found ≡ get key.now (file_entries (P.history self.old.disk).now.reads)) }
         ensures reads { IfOk result (λ found. IsTrue P.is_known → self.new.pool.reads ≤ self.old.pool.reads + 2 + chunks_found found) }
+        ensures most { self.new.pool.most ≡ self.old.pool.most }
         ensures same { IsTrue P.is_known → P.history self.new.disk ≡ P.history self.old.disk }
         ensures index { self.new.index ≡ self.old.index }
         ensures cause { HasCause DiskFault (P.faults self.old.disk) (P.faults self.new.disk) result }
@@ -137,6 +138,7 @@ impl<P: Disk + Drop> PagedSeq<P> {
         ensures value { IfOk result (λ found. IsTrue P.is_known → found ≡ first_above key.now (file_entries (P.history self.old.disk).now.reads)) }
         ensures above { IfOk result (LiesAbove key.now) }
         ensures reads { IfOk result (λ found. IsTrue P.is_known → self.new.pool.reads ≤ self.old.pool.reads + 3 + chunks_of_entry found) }
+        ensures most { self.new.pool.most ≡ self.old.pool.most }
         ensures same { IsTrue P.is_known → P.history self.new.disk ≡ P.history self.old.disk }
         ensures index { self.new.index ≡ self.old.index }
         ensures cause { HasCause DiskFault (P.faults self.old.disk) (P.faults self.new.disk) result }
@@ -156,6 +158,7 @@ impl<P: Disk + Drop> PagedSeq<P> {
         ensures value { IfOk result (λ found. IsTrue P.is_known → found ≡ last_below key.now (file_entries (P.history self.old.disk).now.reads)) }
         ensures below { IfOk result (LiesBelow key.now) }
         ensures reads { IfOk result (λ found. IsTrue P.is_known → self.new.pool.reads ≤ self.old.pool.reads + 3 + chunks_of_entry found) }
+        ensures most { self.new.pool.most ≡ self.old.pool.most }
         ensures same { IsTrue P.is_known → P.history self.new.disk ≡ P.history self.old.disk }
         ensures index { self.new.index ≡ self.old.index }
         ensures cause { HasCause DiskFault (P.faults self.old.disk) (P.faults self.new.disk) result }
@@ -179,6 +182,7 @@ impl<P: Disk + Drop> PagedSeq<P> {
         ensures value { IfOk result (λ found. IsTrue P.is_known → found ≡ first_above key.now (valid_entries (file_entries (P.history self.old.disk).now.reads))) }
         ensures above { IfOk result (LiesAbove key.now) }
         ensures valid { IfOk result IsEntryOfTrees }
+        ensures most { self.new.pool.most ≡ self.old.pool.most }
         ensures same { IsTrue P.is_known → P.history self.new.disk ≡ P.history self.old.disk }
         ensures index { self.new.index ≡ self.old.index }
         ensures cause { HasCause DiskFault (P.faults self.old.disk) (P.faults self.new.disk) result }
@@ -199,6 +203,7 @@ impl<P: Disk + Drop> PagedSeq<P> {
         ensures value { IfOk result (λ found. IsTrue P.is_known → found ≡ last_below key.now (valid_entries (file_entries (P.history self.old.disk).now.reads))) }
         ensures below { IfOk result (LiesBelow key.now) }
         ensures valid { IfOk result IsEntryOfTrees }
+        ensures most { self.new.pool.most ≡ self.old.pool.most }
         ensures same { IsTrue P.is_known → P.history self.new.disk ≡ P.history self.old.disk }
         ensures index { self.new.index ≡ self.old.index }
         ensures cause { HasCause DiskFault (P.faults self.old.disk) (P.faults self.new.disk) result }
@@ -225,7 +230,7 @@ impl<P: Disk + Drop> NodeRead for PagedSeq<P> {
 
     ghost count = { λ s. P.faults s.disk };
 
-    ghost unchanged = { λ s t. (IsTrue P.is_known → P.history t.disk ≡ P.history s.disk) × (P.faults s.disk ≤ P.faults t.disk) × (t.index ≡ s.index) };
+    ghost unchanged = { λ s t. (IsTrue P.is_known → P.history t.disk ≡ P.history s.disk) × (P.faults s.disk ≤ P.faults t.disk) × (t.index ≡ s.index) × (t.pool.most ≡ s.pool.most) };
 
     fn get(&mut self, alloc: Global, key: &Key) -> Result<Option<Record>, SeqError> {
         let _sorted = self.most_entries();
@@ -247,9 +252,9 @@ impl<P: Disk + Drop> NodeRead for PagedSeq<P> {
         self.file.faults()
     }
 
-    ghost unchanged_itself = { λ s. ((λ known. refl), le_refl (P.faults s.disk), refl) };
+    ghost unchanged_itself = { λ s. ((λ known. refl), le_refl (P.faults s.disk), refl, refl) };
 
-    ghost unchanged_onward = { λ s t u a b. ((λ known. b.0 known ∙ a.0 known), le_trans a.1 b.1, b.2 ∙ a.2) };
+    ghost unchanged_onward = { λ s t u a b. ((λ known. b.0 known ∙ a.0 known), le_trans a.1 b.1, b.2 ∙ a.2, b.3 ∙ a.3) };
 
     ghost unchanged_contents = { λ s t a. map_same P.is_known (P.history s.disk) (P.history t.disk) a.0 };
 

@@ -1,43 +1,64 @@
-use Rattle.std.proofs.Common.{◌≡◌, ◌≤◌, ◌+◌, ◌-◌, ℕ, List, length, drop, Option, Some, None, IfSome, refl, sym, ap, subst, ◌∙◌, arith}
+use Rattle.std.proofs.Common.{◌≡◌, ◌+◌, ◌-◌, ℕ, List, Option, Some, None, refl, sym, ap, subst, ◌∙◌, arith}
+use Rattle.std.proofs.lemmas.Option.{none-some}
 use Rattle.node_records.specs.declared.entries.Entry.{Entry}
 use Rattle.node_pages.specs.EntryForm.{entry_read}
-use Rattle.paged_seq.specs.Places.{passes, place_at}
-use Rattle.paged_seq.proofs.PlaceLaws.{at_start, one_passed, found_passing, found_end, never_none}
+use Rattle.paged_seq.specs.Places.{HasFound, passes, place_at}
+use Rattle.paged_seq.specs.Sizes.{entry_there}
+use Rattle.paged_seq.proofs.PlaceLaws.{at_start, one_passed, found_passing, found_end, next_entry}
+use Rattle.paged_seq.proofs.SizeLaws.{sizes_told, there_read}
 use Rattle.paged_seq.proofs.search.seek.Goals as goal
-use Rattle.paged_seq.proofs.search.seek.Goals.{else-loop-left-test, then-loop-left-test+in_ok-entry+in-None, then-loop-left-test+in_ok-entry+in-Some+then-passes}
+use Rattle.paged_seq.proofs.search.seek.Goals.{else-loop-left-test, then-loop-left-test+in_default, then-loop-left-test+in-Some+in_ok-passes_there+then-branch}
 
 pub loop-left-init : goal.loop-left-init
 loop-left-init c = record {
   within = omega arith;
+  sorting = c.in_ok-sorting.ensures;
+  back = tt;
   passed = λ es e. at_start (passes c.args.key.now c.args.beyond) c.args.bytes.now es (place_at c.args.page 2 c.read_u16-left.result None) e refl c.read_u16-left.ensures refl;
 }
 
 pub loop-left-preserved : goal.loop-left-preserved
 loop-left-preserved c =
-    let x : Entry × ℕ = (c.in-Some.entry, c.in-Some.size) in
-    let p = place_at c.args.page c.loop-left.at c.loop-left.left c.loop-left.before in
-    let q = place_at c.args.page (c.loop-left.at + c.in-Some.size) (c.loop-left.left - 1) (Some c.in-Some.entry) in
-    let is : entry_read c.loop-left.before (drop c.loop-left.at c.args.bytes.now) ≡ Some x =
-    ap (λ (b : List ℕ). entry_read c.loop-left.before b) (sym c.split_at.ensures.back) ∙ sym c.in_ok-entry.ensures.value ∙ c.in-Some.is in
+    let test = passes c.args.key.now c.args.beyond in
+    let bytes = c.args.bytes.now in
+    let at = c.loop-left.at in
+    let p = place_at c.args.page at c.loop-left.left (entry_there bytes c.loop-left.passed) in
+    let q = place_at c.args.page (at + c.in-Some.size) (c.loop-left.left - 1) (entry_there bytes (Some at)) in
+    let within = c.in-Some.ensures.within.1 in
+    let back_len = c.split_at.ensures.back_len in
+    let whole = c.requires.whole in
     record {
-      within = let w = subst (λ (o : Option (Entry × ℕ)). IfSome o (λ y. y.1 ≤ length c.split_at.result.1.now)) c.in-Some.is c.in_ok-entry.ensures.within in let l = c.split_at.ensures.back_len in let h = c.requires.whole in omega (arith, w, l, h);
-      passed = λ es e. one_passed (passes c.args.key.now c.args.beyond) c.args.bytes.now es p q x (c.loop-left.invariant.passed es e) c.loop-left-test.true is (sym c.if-passes.ensures) refl refl refl;
+      within = omega (arith, within, back_len, whole);
+      sorting = c.loop-left.invariant.sorting;
+      back = omega (arith, back_len, whole);
+      passed = λ es e.
+          let so_far = c.loop-left.invariant.passed es e in
+          let x = next_entry test bytes es p so_far c.loop-left-test.true in
+          let is : entry_read None c.split_at.result.1.now ≡ Some x.0 = ap (λ (b : List ℕ). entry_read None b) c.split_at.ensures.back ∙ x.1 in
+          let told = sizes_told c.entry_sizes.result (c.in-Some.key_size, c.in-Some.size) _ c.in-Some.is (c.entry_sizes.ensures.sizes x.0 is) in
+          one_passed test bytes es p q x.0 so_far c.loop-left-test.true x.1 (sym (c.in_ok-passes_there.ensures x.0 is told.0) ∙ c.if-branch.false) (ap (λ (n : ℕ). at + n) told.1) refl (there_read bytes at x.0 x.1);
     }
+
+pub passes_there-requires-clause-sorting : goal.passes_there-requires-clause-sorting
+passes_there-requires-clause-sorting c = c.loop-left.invariant.sorting
 
 pub returns-clause-found : goal.returns-clause-found
 returns-clause-found c =
     let test = passes c.args.key.now c.args.beyond in
     let bytes = c.args.bytes.now in
-    let p = place_at c.args.page c.loop-left.at c.loop-left.left c.loop-left.before in
-    λ es e. let so_far = c.loop-left.invariant.passed es e in elim c.loop-left-test.branch [
+    let at = c.loop-left.at in
+    let left = c.loop-left.left in
+    let p = place_at c.args.page at left (entry_there bytes c.loop-left.passed) in
+    λ es e. subst (λ (b : Option Entry). HasFound test bytes es (place_at c.args.page at left b)) (sym c.in_ok-before.ensures)
+    (let so_far = c.loop-left.invariant.passed es e in elim c.loop-left-test.branch [
       | else-loop-left-test w ↦ let none = w.loop-left-test.false in found_end test bytes es p so_far (omega (arith, none))
-      | then-loop-left-test+in_ok-entry+in-None w ↦
-          let none : entry_read c.loop-left.before (drop c.loop-left.at bytes) ≡ None =
-          ap (λ (b : List ℕ). entry_read c.loop-left.before b) (sym w.split_at.ensures.back) ∙ sym w.in_ok-entry.ensures.value ∙ w.in-None.is in
-          absurd (never_none c.loop-left.left c.loop-left.before (drop c.loop-left.at bytes) (so_far.ahead, so_far.rest) w.loop-left-test.true none so_far.items)
-      | then-loop-left-test+in_ok-entry+in-Some+then-passes w ↦
-          let x : Entry × ℕ = (w.in-Some.entry, w.in-Some.size) in
-          let is : entry_read c.loop-left.before (drop c.loop-left.at bytes) ≡ Some x =
-          ap (λ (b : List ℕ). entry_read c.loop-left.before b) (sym w.split_at.ensures.back) ∙ sym w.in_ok-entry.ensures.value ∙ w.in-Some.is in
-          found_passing test bytes es p x so_far w.loop-left-test.true is (sym w.if-passes.ensures)
-    ]
+      | then-loop-left-test+in_default w ↦
+          let x = next_entry test bytes es p so_far w.loop-left-test.true in
+          let is : entry_read None w.split_at.result.1.now ≡ Some x.0 = ap (λ (b : List ℕ). entry_read None b) w.split_at.ensures.back ∙ x.1 in
+          absurd (none-some _ (sym w.in_default.is ∙ w.entry_sizes.ensures.sizes x.0 is))
+      | then-loop-left-test+in-Some+in_ok-passes_there+then-branch w ↦
+          let x = next_entry test bytes es p so_far w.loop-left-test.true in
+          let is : entry_read None w.split_at.result.1.now ≡ Some x.0 = ap (λ (b : List ℕ). entry_read None b) w.split_at.ensures.back ∙ x.1 in
+          let told = sizes_told w.entry_sizes.result (w.in-Some.key_size, w.in-Some.size) _ w.in-Some.is (w.entry_sizes.ensures.sizes x.0 is) in
+          found_passing test bytes es p x.0 so_far w.loop-left-test.true x.1 (sym (w.in_ok-passes_there.ensures x.0 is told.0) ∙ w.if-branch.true)
+    ])

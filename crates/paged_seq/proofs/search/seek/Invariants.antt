@@ -1,14 +1,17 @@
-use Rattle.std.proofs.Common.{◌≡◌, ◌≤◌, List, Some}
+use Rattle.std.proofs.Common.{◌≡◌, ◌≤◌, List, length, Some, IfSome}
 use Rattle.node_records.specs.declared.entries.Entry.{Entry}
 use Rattle.node_pages.specs.EntryForm.{entry_read}
 use Rattle.node_pages.specs.Reading.{page_in}
 use Rattle.paged_seq.specs.Places.{HasPassed, passes, place_at}
+use Rattle.paged_seq.specs.Sizes.{SortsAs, entry_there}
 use Rattle.paged_seq.proofs.search.seek.Given as goal
 
 abbrev pub invariant-loop-left : goal.invariant-loop-left
 invariant-loop-left l = record {
   within : l.at ≤ 8_192;
-  passed : (es : List Entry) → page_in entry_read l.bytes ≡ Some es → HasPassed (passes l.key l.beyond) l.bytes es (place_at l.page l.at l.left l.before);
+  sorting : IfSome l.sorting (SortsAs l.key);
+  back : IfSome l.passed (λ n. n ≤ length l.bytes);
+  passed : (es : List Entry) → page_in entry_read l.bytes ≡ Some es → HasPassed (passes l.key l.beyond) l.bytes es (place_at l.page l.at l.left (entry_there l.bytes l.passed));
 }
 
 abbrev pub decreases-loop-left : goal.decreases-loop-left

@@ -37,6 +37,7 @@ loop-last-preserved g c =
     record {
       within = c.in_ok-step.ensures.within;
       same = λ known. c.step.ensures.same known ∙ inv.same known;
+      most = c.step.ensures.most ∙ inv.most;
       faults = c.in_ok-step.ensures.cause.exact ∙ inv.faults;
       place = λ known. subst (λ (h : History). IsPlace (file_page h.now.reads) count c.step.new.place) (inv.same known) (c.in_ok-step.ensures.place known);
       behind = λ known b.

@@ -9,6 +9,7 @@ abbrev pub invariant-loop-last : goal.invariant-loop-last
 invariant-loop-last g l = record {
   within : l.place.at ≤ 8_192;
   same : IsTrue g.P.Disk.is_known → g.P.Disk.history l.self.disk ≡ g.P.Disk.history l.fn.self.disk;
+  most : l.self.pool.most ≡ l.fn.self.pool.most;
   faults : g.P.Disk.faults l.self.disk ≡ g.P.Disk.faults l.fn.self.disk;
   place : IsTrue g.P.Disk.is_known → IsPlace (file_page (g.P.Disk.history l.fn.self.disk).now.reads) (length l.starts) l.place;
   behind : IsTrue g.P.Disk.is_known → IsBehind (file_page (g.P.Disk.history l.fn.self.disk).now.reads) (length l.starts) l.fn.place

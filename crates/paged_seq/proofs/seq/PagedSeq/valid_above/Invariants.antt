@@ -10,6 +10,7 @@ invariant-loop g l = record {
   same : IsTrue g.P.Disk.is_known → g.P.Disk.history l.self.disk ≡ g.P.Disk.history l.fn.self.disk;
   faults : g.P.Disk.faults l.self.disk ≡ g.P.Disk.faults l.fn.self.disk;
   index : l.self.index ≡ l.fn.self.index;
+  most : l.self.pool.most ≡ l.fn.self.pool.most;
   side : LiesAbove l.key l.found;
   value : IsTrue g.P.Disk.is_known
       → first_above l.key (valid_entries (file_entries (g.P.Disk.history l.fn.self.disk).now.reads)) ≡ next_valid (file_entries (g.P.Disk.history l.fn.self.disk).now.reads) l.found;
