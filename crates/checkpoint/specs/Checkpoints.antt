@@ -1,0 +1,80 @@
+-- What a checkpoint leaves of a store (docs/FILE_FORMAT.md, "Checkpoints").
+use Rattle.std.specs.Prelude.{◌≡◌, ◌≤◌, ◌⊎◌, ℕ, Bool, IsTrue, List, [], Some, Result, Ok, Err, OnOk}
+use Rattle.outside_traits.specs.DiskPairs.{Pair}
+use Rattle.outside_traits.specs.Faults.{FaultCounted}
+use Rattle.outside_traits.specs.Moments.{History, IsAllSynced}
+use Rattle.tree_model.specs.Tree.{Tree}
+use Rattle.node_seq.specs.declared.node_read.SeqError.{SeqError}
+use Rattle.node_seq.specs.declared.node_read.SeqError.TheVariants.{DiskFault, NoMemory}
+use Rattle.node_pages.specs.declared.cut.Cut.{Cut}
+use Rattle.node_pages.specs.declared.cut.Cut.TheVariants.{Pages, TooMany}
+use Rattle.journal.specs.Groups.{only_commits}
+use Rattle.journal.specs.Heads.{first_gate}
+use Rattle.journal.specs.Journals.{read}
+use Rattle.journal.specs.Views.{JournalView, TakesGroups}
+use Rattle.store_contents.specs.Contents.{Contents, contents_of_files}
+use Rattle.store_contents.specs.StoredTrees.{StandFor}
+use Rattle.checkpoint.specs.declared.made.Made.{Made}
+use Rattle.checkpoint.specs.declared.made.Made.TheVariants.{Yes, No}
+
+-- whether a checkpoint is made, by the cut of its tree
+abbrev pub made_of : Cut → Made
+made_of (Pages pages) = Yes
+made_of (TooMany count) = No count
+
+-- the journal may be used, from its first gate on and behind this number; its bytes are read as no group, and are synced
+pub record IsCleared (is_known : Bool) (number : ℕ) (journal : JournalView) : Type 0 where
+  pub usable : TakesGroups journal
+  pub last : journal.last ≡ Some number
+  pub gate : journal.gate ≡ first_gate
+  pub none : IsTrue is_known → read journal.history.now.reads ≡ Ok (only_commits [])
+  pub synced : IsTrue is_known → IsAllSynced journal.history
+
+-- ---- what the files stand for
+
+-- two files that stand for this map with this number
+abbrev pub OpenAs : Contents → List ℕ → List ℕ → Type 0
+OpenAs contents journal pages = contents_of_files journal pages ≡ Ok contents
+
+-- two files that stand for this tree with this number
+abbrev pub StandAs : Tree → ℕ → List ℕ → List ℕ → Type 0
+StandAs t number journal pages = StandFor journal pages t number
+
+-- the two disks have such files, and all of both is synced: a crash now leaves these
+pub record IsSettledAs (t : Tree) (number : ℕ) (pair : Pair) : Type 0 where
+  pub stand : StandFor pair.journal.now.reads pair.pages.now.reads t number
+  pub journal_synced : IsAllSynced pair.journal
+  pub pages_synced : IsAllSynced pair.pages
+
+-- ---- answers after which nothing was written
+
+-- no checkpoint was made, or memory was wanting
+abbrev pub IsUnwritten : Result Made SeqError → Type 0
+IsUnwritten (Ok Yes) = ⊥
+IsUnwritten (Ok (No count)) = Unit {0}
+IsUnwritten (Err DiskFault) = ⊥
+IsUnwritten (Err NoMemory) = Unit {0}
+
+-- both disks are as they were, and the journal but for its room
+pub record SameUnwritten (is_known : Bool) (journal journal_now : JournalView) (pages pages_now : History) : Type 0 where
+  pub same_journal : journal_now ≡ record journal { room = journal_now.room }
+  pub same_pages : IsTrue is_known → pages_now ≡ pages
+
+-- ---- faults
+
+-- the counts of faults of the journal's disk, of the pages' disk and of the map
+pub record Counts : Type 0 where
+  pub journal : ℕ
+  pub pages : ℕ
+  pub map : ℕ
+
+abbrev pub counts_of : ℕ → ℕ → ℕ → Counts
+counts_of journal pages map = record { journal = journal; pages = pages; map = map }
+
+-- no count fell; one of them rose where a fault of a disk is answered, and none after Ok
+pub record HasOneCause {T : Type 0} (before now : Counts) (result : Result T SeqError) : Type 0 where
+  pub later_journal : before.journal ≤ now.journal
+  pub later_pages : before.pages ≤ now.pages
+  pub later_map : before.map ≤ now.map
+  pub fault : result ≡ Err DiskFault → FaultCounted before.journal now.journal ⊎ FaultCounted before.pages now.pages ⊎ FaultCounted before.map now.map
+  pub exact : OnOk result (now ≡ before)

@@ -1,0 +1,3 @@
+pub mod Checkpoints
+pub mod NewPages
+pub mod inside

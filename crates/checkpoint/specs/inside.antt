@@ -1,0 +1,3 @@
+-- Words that only private functions and the proofs use.
+pub mod Gathered
+pub mod Phases
