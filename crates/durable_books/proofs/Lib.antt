@@ -1,0 +1,6 @@
+mod ValidEntries
+mod WrittenChanges
+mod ValidCommits
+mod BookCounts
+mod BookBodies
+mod Written
