@@ -1,0 +1,8 @@
+-- A store's call goes to other threads.
+use denote.Param.Send.{IsSend, sendable}
+use Rattle.std.proofs.Crossing.{crosses}
+use Rattle.command_lines.proofs.Sent.{store_call_send}
+use Rattle.store_calls.specs.contracts.store_op.StoreOp as StoreOp
+
+pub op_send : IsSend StoreOp.the_row
+op_send = search (sendable, crosses, store_call_send) depth 20

@@ -1,0 +1,108 @@
+//! The text of a whole script.
+ghost use Rattle.std.specs.Prelude.{◌≡◌, List, [], ◌∷◌, ◌++◌, length, flat_map, Ok, IfOk, OnOk};
+ghost use Rattle.call_contract.specs.Books.{IsBookFrom};
+ghost use Rattle.command_lines.specs.Replies.{reply_text};
+ghost use Rattle.command_lines.specs.declared.line_reply.LineReply.{LineReply};
+ghost use Rattle.node_seq.specs.Trees.{StandsFor};
+ghost use Rattle.shared_store.specs.Bodies.{HasBodies};
+ghost use Rattle.shared_store.specs.Lists.{SessionsFit};
+ghost use Rattle.store_calls.specs.StoreCalls.{store_meaning, IsValidStoreCall};
+ghost use Rattle.tree_model.specs.Tree.{Tree};
+ghost use Rattle.workers_replies.specs.Shown.{lines_in, IsShownBy};
+ghost use Rattle.workers_script.specs.Entries.{commands_in, in_places};
+ghost use Rattle.workers_text.specs.WorkersText.{order_of};
+
+use command_lines::{LineReply, write_reply};
+use dewey_labels::{List, NoMemory};
+use node_seq::NodeRead;
+use outside_traits::Gate;
+use std::alloc::Global;
+use std::sync::Wait;
+use std::thread::Threads;
+use store_calls::StoreOp;
+use tx_core::Core;
+use worker_run::PortFault;
+use workers_script::Script;
+use workers_text::{Ran, order_line, run_lines};
+
+/// The core when the workers have ended, and the text of the script, or why there is none.
+#[derive(Drop)]
+pub struct Answered<B: NodeRead + Drop> {
+    pub core: Core<StoreOp, B>,
+    pub text: Result<Vec<u8>, PortFault>,
+}
+
+/// The text of a script whose commands have these replies: the replies of all lines, and then the order line of the book.
+fn text_of<B: NodeRead + Drop>(
+    alloc: Global,
+    script: &Script,
+    replies: Result<List<LineReply>, PortFault>,
+    core: &Core<StoreOp, B>,
+) -> Result<Vec<u8>, PortFault>
+    requires all { IfOk replies (λ replies. length replies ≡ length (commands_in script.now.entries)) }
+    requires sessions { SessionsFit core.now.book }
+    ensures { IfOk result (λ text. (given : List LineReply) × (replies ≡ Ok given)
+        × (text.items ≡ flat_map reply_text (in_places script.now.entries given ++ order_of core.now.book ∷ []))) }
+{
+    let replies = replies?;
+    match written(alloc, script, &replies, core) {
+        Ok(text) => Ok(text),
+        Err(NoMemory) => Err(PortFault::NoMemory),
+    }
+}
+
+/// The text of the replies of all lines, where these are the commands', and of the order line behind them.
+fn written<B: NodeRead + Drop>(
+    alloc: Global,
+    script: &Script,
+    replies: &List<LineReply>,
+    core: &Core<StoreOp, B>,
+) -> Result<Vec<u8>, NoMemory>
+    requires all { length replies.now ≡ length (commands_in script.now.entries) }
+    requires sessions { SessionsFit core.now.book }
+    ensures { IfOk result (λ text. text.items ≡ flat_map reply_text (in_places script.now.entries replies.now ++ order_of core.now.book ∷ [])) }
+{
+    let mut text = List::new(alloc);
+    script.write_replies(alloc, replies.as_slice(), &mut text)?;
+    write_order(alloc, core, &mut text)?;
+    Ok(text.into_vec())
+}
+
+/// Puts the order line of the book at the end of `out`.
+fn write_order<B: NodeRead + Drop>(
+    alloc: Global,
+    core: &Core<StoreOp, B>,
+    out: &mut List<u8>,
+) -> Result<(), NoMemory>
+    requires { SessionsFit core.now.book }
+    ensures { OnOk result (out.new ≡ out.old ++ reply_text (order_of core.now.book)) }
+{
+    let order = order_line(alloc, core.book())?;
+    write_reply(alloc, &order, out)
+}
+
+/// Does a whole script, each session's lines in their order by a worker of its own, in threads of their own where these can be made, and answers its text.
+///
+/// The core's book is the one book of the run. Where there is a text, this book shows it: each session's lines are among its entries with the replies that stand in their places,
+/// a line that is no command has its own, and the order line is last. Where a line met a fault there is none.
+/// No commit was handed out: those of the book wait, in their order, to be made durable.
+pub fn answer_script<R: Threads + Wait + Sync, B: NodeRead + Drop + Send, G: Gate + Sync>(
+    rt: &R,
+    alloc: Global,
+    core: Core<StoreOp, B>,
+    script: &Script,
+    gate: &G,
+) -> Answered<B>
+    requires { core.book ≡ [] }
+    ensures opened { (result.core.opening ≡ core.opening) × (result.core.number ≡ core.number) × (result.core.limit ≡ core.limit) }
+    ensures base { B.unchanged core.base result.core.base }
+    ensures legal { (t : Tree) → StandsFor (B.contents core.opening) t → IsBookFrom IsValidStoreCall store_meaning t core.number core.limit result.core.book }
+    ensures sessions { SessionsFit result.core.book }
+    ensures undrained { IfOk result.text (λ _. (result.core.undrained.after ≡ core.number) × HasBodies store_meaning B.contents result.core) }
+    ensures text { IfOk result.text (λ text. (lines : List LineReply) × (text.items ≡ flat_map reply_text lines) × ((t : Tree) → StandsFor (B.contents core.opening) t
+        → IsShownBy store_meaning t core.number core.limit result.core.book (lines_in script.now.entries) lines)) }
+{
+    let Ran { core, replies } = run_lines(rt, alloc, core, script.commands(), gate);
+    let text = text_of(alloc, script, replies, &core);
+    Answered { core, text }
+}
