@@ -1,7 +1,7 @@
 -- Worked words: what they ask for, and the parts of words with two options.
 use Rattle.std.proofs.Common.{◌≡◌, refl, List, [], ◌∷◌, Option, Some, None, codes}
 use Rattle.command_words.specs.Arguments.{Word, Parts, parts_from, parts_of}
-use Rattle.command_words.specs.Commands.{Command, command_of_texts, run, put, get, query, gen}
+use Rattle.command_words.specs.Commands.{Command, command_of_texts, run, workers, put, get, query, gen}
 
 abbrev asks : List Word → Option Command → Type 0
 asks ws c = command_of_texts ws ≡ c
@@ -21,6 +21,14 @@ module _ where
   run_with_a_word : asks (codes "run" ∷ codes "x" ∷ []) None
   unfolding parts_from
   run_with_a_word = refl
+
+  workers_alone : asks (codes "workers" ∷ []) (Some workers)
+  unfolding parts_from
+  workers_alone = refl
+
+  workers_with_a_word : asks (codes "workers" ∷ codes "2" ∷ []) None
+  unfolding parts_from
+  workers_with_a_word = refl
 
   no_such_option : asks (codes "run" ∷ codes "--frames" ∷ codes "1" ∷ []) None
   unfolding parts_from

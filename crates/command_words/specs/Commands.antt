@@ -8,9 +8,10 @@ use Rattle.command_words.specs.Numbers.{number_in}
 use Rattle.command_words.specs.declared.command.Command.{Command as Asked}
 use Rattle.command_words.specs.declared.command.Command.TheVariants as asked
 
--- a script is run; the document with a name is made from the input, or it is written, or what a path finds from it; the script of the generator with a seed and a count is run
+-- a script is run, line by line or by workers; the document with a name is made from the input, or it is written, or what a path finds from it; the script of the generator with a seed and a count is run
 pub data Command : Type 0 where
   run : Command
+  workers : Command
   put : Word → Command
   get : Word → Command
   query : Word → Word → Command
@@ -57,6 +58,7 @@ IsInRange c = Unit {0}
 abbrev pub commands : List (Word × (List Word → Option Command))
 commands =
     (codes "run", no_words run)
+    ∷ (codes "workers", no_words workers)
     ∷ (codes "put", one_word put)
     ∷ (codes "get", one_word get)
     ∷ (codes "query", two_words query)
@@ -87,6 +89,7 @@ command_of words = command_of_texts (map string_bytes words)
 -- a command that was read
 abbrev pub meant : Asked → Command
 meant asked.Run = run
+meant asked.Workers = workers
 meant (asked.Put name) = put name.now
 meant (asked.Get name) = get name.now
 meant (asked.Query name path) = query name.now path.now

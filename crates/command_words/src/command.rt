@@ -5,6 +5,8 @@
 pub enum Command<'a> {
     /// The script of the input is run.
     Run,
+    /// The script of the input is run by a worker for each of its sessions.
+    Workers,
     /// A document with this name is made from the input.
     Put(&'a str),
     /// The document with this name is written.

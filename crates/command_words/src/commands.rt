@@ -47,6 +47,7 @@ fn command_by<'a>(word: &'a str, plain: &[&'a str]) -> Option<Command<'a>>
 {
     match word {
         "run" => no_words(plain, Command::Run),
+        "workers" => no_words(plain, Command::Workers),
         "put" => Some(Command::Put(one_word(plain)?)),
         "get" => Some(Command::Get(one_word(plain)?)),
         "query" => {

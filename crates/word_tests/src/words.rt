@@ -26,7 +26,7 @@ fn asked(alloc: Global, words: &str) -> Result<String, Fail> {
 }
 
 /// Words, and what they ask for.
-const COMMANDS: [(&str, &str); 55] = [
+const COMMANDS: [(&str, &str); 59] = [
     ("", "Usage"),
     ("''", "Usage"),
     ("run", "Run"),
@@ -38,6 +38,10 @@ const COMMANDS: [(&str, &str); 55] = [
     ("run -- --", "Usage"),
     ("-- run", "Usage"),
     ("run --frames 1", "Usage"),
+    ("workers", "Workers"),
+    ("workers --", "Workers"),
+    ("workers 2", "Usage"),
+    ("worker", "Usage"),
     ("run --checkpoint=0", "Usage"),
     ("--frames 8 run", "Usage"),
     ("run --help", "Usage"),

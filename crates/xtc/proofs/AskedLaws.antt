@@ -1,17 +1,11 @@
 -- Sessions asked in turn, as lists of lines of sessions: that their book is sound, and what files stand for after it.
-use Rattle.std.proofs.Common.{◌≡◌, ℕ, ◌+◌, List, [], ◌∷◌, ◌++◌, length, Ok, sym, ap, subst, ◌∙◌}
+use Rattle.std.proofs.Common.{◌≡◌, ℕ, ◌+◌, List, length, Ok, sym, ap, subst, ◌∙◌}
 use Rattle.tree_model.specs.Tree.{Tree, map_of}
 use Rattle.tree_model.specs.ValidTrees.{IsValidTree}
-use Rattle.call_contract.specs.Books.{Book, IsAnswer, IsBookFrom, IsRun, IsSerial, commits, last, state_of}
-use Rattle.call_contract.specs.Ends.{LeavesAllElse}
+use Rattle.call_contract.specs.Books.{IsBookFrom, IsSerial, commits, last}
 use Rattle.call_contract.specs.SerialRuns.{serial}
 use Rattle.call_contract.specs.States.{State, start}
-use Rattle.call_contract.specs.Steps.{step}
-use Rattle.call_contract.specs.declared.events.Event.{Event}
-use Rattle.call_contract.specs.declared.events.Event.TheVariants.{Abort}
-use Rattle.call_contract.specs.declared.events.Noted.{Noted}
-use Rattle.call_contract.proofs.Appends.{last_append, run_rest}
-use Rattle.call_contract.proofs.BookLaws.{sound as states_sound, serial_book, deadlock_shown, abort_leaves_all_else}
+use Rattle.call_contract.proofs.BookLaws.{sound as states_sound, serial_book}
 use Rattle.call_contract.proofs.SessionBooks.{number_told}
 use Rattle.command_lines.specs.declared.command.StoreCall.{StoreCall}
 use Rattle.store_calls.specs.StoreCalls.{store_meaning, IsValidStoreCall}
@@ -26,7 +20,7 @@ use Rattle.durable_sessions.specs.Durable.{HoldState}
 use Rattle.xtc.specs.TopCall.{OpenAfter, IsSound}
 use Rattle.xtc.specs.inside.Asking.{AreValidAsks}
 use Rattle.xtc.proofs.CommitCounts.{commits_counted}
-use Rattle.xtc.proofs.LiveLaws.{live_stand}
+use Rattle.xtc.proofs.SoundBooks.{sound_book}
 
 -- ---- valid lines from a valid tree
 
@@ -46,23 +40,9 @@ module _ (t : Tree) (n limit : ℕ) (formed : IsValidTree t) (asked : List (Aske
   state_of_book : last store_meaning opened progress.book ≡ progress.state
   state_of_book = lines_state store_meaning opened asked
 
-  abort_leaves : (before : Book StoreCall) (e : Noted StoreCall) (behind : Book StoreCall) → progress.book ≡ before ++ e ∷ behind → e.event ≡ Abort
-      → LeavesAllElse (last store_meaning opened before) (last store_meaning opened (before ++ e ∷ [])) e.session
-  abort_leaves before e behind is aborts =
-      let st : State StoreCall = last store_meaning opened before in
-      let run : IsRun store_meaning st (e ∷ behind) = run_rest store_meaning opened before (e ∷ behind) (subst (IsRun store_meaning opened) is legal.legal.run) in
-      let here : IsAnswer e.answer (step store_meaning st e.session Abort) = subst (λ (v : Event StoreCall). IsAnswer e.answer (step store_meaning st e.session v)) aborts run.0 in
-      subst (λ (u : State StoreCall). LeavesAllElse st u e.session)
-      (ap (λ (v : Event StoreCall). state_of st (step store_meaning st e.session v)) (sym aborts) ∙ sym (last_append store_meaning opened before (e ∷ [])))
-      (abort_leaves_all_else store_meaning st e.session e.answer here)
-
   pub asked_sound : IsSound t n limit progress
   asked_sound = record {
-    legal = legal;
-    serial = serial_is;
-    live = λ before behind is. live_stand t n limit progress.book before behind legal is;
-    deadlocks = λ before e behind is cycle shown answered. deadlock_shown store_meaning t n limit before e cycle answered shown;
-    aborts = abort_leaves;
+    book = sound_book t n limit progress.book legal;
     state = state_of_book;
     no_vain_wait = nobody_waits_in_vain store_meaning t n limit asked;
   }

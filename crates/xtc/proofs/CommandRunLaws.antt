@@ -16,7 +16,7 @@ use Rattle.script_runs.specs.Whole.{piece}
 use Rattle.script_runs.specs.declared.halt.Halt.TheVariants as halt
 use Rattle.script_runs.specs.declared.running.End.{End}
 use Rattle.script_runs.specs.declared.running.End.TheVariants as end
-use Rattle.command_words.specs.Commands.{Command, run, put, get, query, gen}
+use Rattle.command_words.specs.Commands.{Command, run, workers, put, get, query, gen}
 use Rattle.xtc.specs.Commands.{reads_input}
 use Rattle.xtc.specs.Statuses.{status_of_end}
 use Rattle.xtc.specs.TopCall.{IsOfOpened, IsSilent, ScriptRan, tx_limit, whole_limit}
@@ -25,7 +25,7 @@ use Rattle.xtc.specs.declared.status.Status.TheVariants.{Done, Usage, LineTooLon
 use Rattle.xtc.specs.inside.Asking.{IsUnwritten, IsWriteEnd}
 use Rattle.xtc.specs.inside.CommandRuns.{Input, Output, Disks, RanOver, RunsCommand}
 use Rattle.xtc.specs.inside.Stores.{Counts}
-use Rattle.xtc.proofs.StatusLaws.{script_not_silent, script_opened}
+use Rattle.xtc.proofs.StatusLaws.{of_workers, script_not_silent, script_opened}
 
 -- ---- the counts of faults
 
@@ -136,18 +136,20 @@ as_error T e = Err e
 silent_as : (c : Command) (status : Status) (P : Type 0) → P → IsSilent (Some c) status P
 silent_as c Done P p = tt
 silent_as c WriteFault P p = tt
-silent_as c DiskFault P p = tt
-silent_as c NoMemory P p = tt
+silent_as c DiskFault P p = of_workers (Some c) P p
+silent_as c NoMemory P p = of_workers (Some c) P p
 silent_as c Usage P p = p
 silent_as c (Damaged place) P p = p
 silent_as c (NotJsonMl why) P p = p
 silent_as c (DocumentRefused why) P p = p
 silent_as run (LineTooLong line) P p = tt
+silent_as workers (LineTooLong line) P p = p
 silent_as (put name) (LineTooLong line) P p = p
 silent_as (get name) (LineTooLong line) P p = p
 silent_as (query name path) (LineTooLong line) P p = p
 silent_as (gen seed count) (LineTooLong line) P p = p
 silent_as run ReadFault P p = tt
+silent_as workers ReadFault P p = p
 silent_as (put name) ReadFault P p = p
 silent_as (get name) ReadFault P p = p
 silent_as (query name path) ReadFault P p = p

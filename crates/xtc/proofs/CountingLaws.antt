@@ -24,7 +24,7 @@ use Rattle.workload_gen.specs.Summaries.{after_line}
 use Rattle.workload_gen.specs.declared.line.Line.{Line}
 use Rattle.workload_gen.specs.declared.summary.Summary.{Summary}
 use Rattle.command_words.specs.Commands.{gen}
-use Rattle.durable_sessions.specs.Asked.{LeadsTo, LeavesEither, MayBeAsked, TakesNext, asked_from}
+use Rattle.durable_sessions.specs.Asked.{LeadsTo, LeavesEither, asked_from}
 use Rattle.durable_sessions.specs.InTurn.{AllAnswered, stop_of}
 use Rattle.durable_sessions.specs.Reasons.{first_reason, limit_of}
 use Rattle.durable_sessions.specs.Standing.{Stands}
@@ -101,13 +101,6 @@ module _ {B : Type 0} (contents : B → Option Entries) where
   line_done (Ok x) is_known s a valid old new still first core before now none stands leads replies leaves =
       made_one is_known s a valid old new still core now (leads s stands) leaves (replies s stands ∙ ap (λ (l : List LineReply). l ++ (after_asked_line store_meaning s a).lines) none)
   line_done (Err e) is_known s a valid old new still first core before now none stands leads replies leaves = step_stopped IsValidStoreCall store_meaning contents limit_of is_known s a valid old new still [] e leaves
-
-  -- the next may be asked
-  pub next_may : {T : Type 0} (r : Result T Halt) (is_known : Bool) (old new : History) (session : ℕ) (doing : Doing StoreCall) (first core : CoreView StoreCall B) (journal_before journal : JournalView) → MayBeAsked store_meaning contents first journal_before
-      → OnOk r ((u : State StoreCall) → Stands store_meaning contents first u → LeadsTo store_meaning contents is_known old core new u (asked_from store_meaning u session doing).state) → OnOk r (TakesNext core journal) → OnOk r (MayBeAsked store_meaning contents core journal)
-  next_may (Ok x) is_known old new session doing first core journal_before journal may leads takes =
-      record { state = (asked_from store_meaning may.state session doing).state; stands = (leads may.state may.stands).stands; takes = takes }
-  next_may (Err e) is_known old new session doing first core journal_before journal may leads takes = tt
 
   -- then it was answered, or refused by the numbers that are left
   pub line_answered : (is_known : Bool) (s : State StoreCall) (all : List (Asked StoreCall)) (old : History) (core : CoreView StoreCall B) (new : History) (now : List LineReply)

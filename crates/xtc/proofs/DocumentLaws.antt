@@ -35,9 +35,9 @@ use Rattle.command_lines.specs.declared.line_reply.LineReply.{LineReply}
 use Rattle.session_driver.specs.Lines.{Asked}
 use Rattle.tx_core.specs.Cores.{CoreView, next_number, opened_over}
 use Rattle.xtc.specs.Book.{after_asked}
-use Rattle.command_words.specs.Commands.{Command, run, put, get, query, gen}
+use Rattle.command_words.specs.Commands.{Command, run, workers, put, get, query, gen}
 use Rattle.xtc.specs.Commands.{may_commit, reads_input}
-use Rattle.durable_sessions.specs.Asked.{MayBeAsked}
+use Rattle.durable_sessions.specs.Asked.{TakesNext}
 use Rattle.durable_sessions.specs.Durable.{HoldState, HoldsAll, HoldsEither}
 use Rattle.durable_sessions.specs.InTurn.{AllAnswered, AskNoCommit, StopsBy}
 use Rattle.durable_sessions.specs.Reasons.{first_reason}
@@ -87,6 +87,7 @@ query_no_commit (Err why) s name all is = absurd cc
 -- a command that may not commit asks for no commit
 asks_no_commit : (c : Command) (s : State StoreCall) (read : List ℕ) (all : List (Asked StoreCall)) → asks_of c s read ≡ Ok all → may_commit (Some c) ≡ false → AskNoCommit all
 asks_no_commit run s read all is commits_none = absurd cc
+asks_no_commit workers s read all is commits_none = absurd cc
 asks_no_commit (gen seed count) s read all is commits_none = absurd cc
 asks_no_commit (put name) s read all is commits_none = absurd cc
 asks_no_commit (get name) s read all is commits_none = subst AskNoCommit (ap asks_in is) (show_no_commit s name Whole)
@@ -428,15 +429,10 @@ pub core_stands : (base : Entries) (n limit : ℕ) (core : CoreView StoreCall En
     → Stands core (start t n limit)
 core_stands base n limit core t is stands = subst (λ (v : CoreView StoreCall Entries). Stands v (start t n limit)) (sym is) (record { tree = t; opened = stands; state = refl })
 
-pub may_begin : (base : Entries) (n limit : ℕ) (core : CoreView StoreCall Entries) (journal : JournalView) → core ≡ opened_over base (Some base) n limit → IsStoredTree base → TakesBehind journal n
-    → MayBeAsked store_meaning Some core journal
-may_begin base n limit core journal is stored takes = record {
-  state = start stored.tree n limit;
-  stands = core_stands base n limit core stored.tree is (record { valid = stored.is_valid_tree; map = ap Some (sym stored.map) });
-  takes = record {
-    usable = takes.usable;
-    next = ap (λ (v : CoreView StoreCall Entries). is_next journal.last (next_number v)) is ∙ ap (λ (k : ℕ). is_next journal.last (k + 1)) (add-zero n) ∙ takes.next;
-  };
+pub takes_begin : (base : Entries) (n limit : ℕ) (core : CoreView StoreCall Entries) (journal : JournalView) → core ≡ opened_over base (Some base) n limit → TakesBehind journal n → TakesNext core journal
+takes_begin base n limit core journal is takes = record {
+  usable = takes.usable;
+  next = ap (λ (v : CoreView StoreCall Entries). is_next journal.last (next_number v)) is ∙ ap (λ (k : ℕ). is_next journal.last (k + 1)) (add-zero n) ∙ takes.next;
 }
 
 -- memory was wanting for it

@@ -10,8 +10,11 @@ pub mod OpeningLaws
 pub mod PromiseLaws
 pub mod RefusedPaths
 pub mod ShownLaws
+pub mod SoundBooks
 pub mod ScriptBooks
 pub mod ScriptLaws
 pub mod StatusLaws
 pub mod StoreMachineLaws
 pub mod StoreRuns
+pub mod WorkedScripts
+pub mod WorkersLaws

@@ -12,7 +12,8 @@ use Rattle.node_seq.specs.Trees.{StandsFor}
 use Rattle.journal.specs.Groups.{is_next}
 use Rattle.journal.specs.Views.{JournalView, TakesGroups}
 use Rattle.recovery.specs.Opened.{contents_of_files}
-use Rattle.script_runs.specs.Machine.{IsReady, IsSettled}
+use Rattle.script_runs.specs.Machine.{IsSettled}
+use Rattle.durable_sessions.specs.Asked.{TakesNext}
 use Rattle.call_contract.specs.States.{State, start}
 use Rattle.command_lines.specs.declared.command.StoreCall.{StoreCall}
 use Rattle.tx_core.specs.Cores.{CoreView, opened_over}
@@ -34,12 +35,8 @@ module _ {P : Type 0} (is_known : Bool) (history : P → History) (faults : P �
   pub opened_stands : (t : Tree) → StandsFor (Some base) t → Stands (opened_core base n limit) (start t n limit)
   opened_stands t stands = record { tree = t; opened = stands; state = refl }
 
-  pub opened_ready : (t : Tree) → StandsFor (Some base) t → TakesGroups journal → IsTrue (is_next journal.last (n + 1)) → IsReady (store_machine is_known history faults) opened
-  opened_ready t is usable next = record {
-    state = start t n limit;
-    stands = opened_stands t is;
-    usable = record { usable = usable; next = ap (λ (k : ℕ). is_next journal.last (k + 1)) (add-zero n) ∙ next };
-  }
+  pub opened_takes : TakesGroups journal → IsTrue (is_next journal.last (n + 1)) → TakesNext (opened_core base n limit) journal
+  opened_takes usable next = record { usable = usable; next = ap (λ (k : ℕ). is_next journal.last (k + 1)) (add-zero n) ∙ next }
 
   -- the journal stands for what is committed in whichever state the core stands
   journal_holds : contents_of_files journal.history.now.reads [] ≡ Ok (record { entries = base; number = n }) → (s : State StoreCall) → Stands (opened_core base n limit) s → HoldState s journal.history.now.reads []

@@ -3,14 +3,15 @@ use Rattle.std.specs.Prelude.{ℕ, Option, Some, None}
 use Rattle.outside_traits.specs.DiskPairs.{PairsHave, PairsLeave}
 use Rattle.call_contract.specs.Books.{IsSerial}
 use Rattle.store_calls.specs.StoreCalls.{store_meaning}
-use Rattle.command_words.specs.Commands.{Command, run, put, get, query, gen}
-use Rattle.xtc.specs.Promises.{IsOutput, OfAnswered, OfDone, OfPrefix, ShowTrueCycles}
+use Rattle.command_words.specs.Commands.{Command, run, workers, put, get, query, gen}
+use Rattle.xtc.specs.Promises.{IsOutput, OfAnswered, OfBook, OfPrefix, ShowTrueCycles}
 use Rattle.xtc.specs.TopCall.{OpenedStoreLeaves, Outcome}
 use Rattle.xtc.specs.declared.status.Status.{Status}
 
 module _ (limit : ℕ) where
   pub output : (c : Option Command) (status : Status) (o : Outcome) (left : OpenedStoreLeaves limit c status o) → IsOutput limit c status o left
   output (Some run) status o left = left.ran.wrote
+  output (Some workers) status o left = left.ran.output
   output (Some (put name)) status o left = left.ran.wrote
   output (Some (get name)) status o left = left.ran.wrote
   output (Some (query name path)) status o left = left.ran.wrote
@@ -18,26 +19,29 @@ module _ (limit : ℕ) where
   output None status o left = tt
 
   pub serial : (c : Option Command) (status : Status) (o : Outcome) (left : OpenedStoreLeaves limit c status o)
-      → OfDone limit c status o left (λ did. IsSerial store_meaning left.tree left.number limit did.book)
-  serial (Some run) status o left = left.ran.sound.serial
-  serial (Some (put name)) status o left = left.ran.sound.serial
-  serial (Some (get name)) status o left = left.ran.sound.serial
-  serial (Some (query name path)) status o left = left.ran.sound.serial
-  serial (Some (gen seed count)) status o left = left.ran.sound.serial
+      → OfBook limit c status o left (λ book. IsSerial store_meaning left.tree left.number limit book)
+  serial (Some run) status o left = left.ran.sound.book.serial
+  serial (Some workers) status o left = left.ran.sound.serial
+  serial (Some (put name)) status o left = left.ran.sound.book.serial
+  serial (Some (get name)) status o left = left.ran.sound.book.serial
+  serial (Some (query name path)) status o left = left.ran.sound.book.serial
+  serial (Some (gen seed count)) status o left = left.ran.sound.book.serial
   serial None status o left = tt
 
   pub cycles : (c : Option Command) (status : Status) (o : Outcome) (left : OpenedStoreLeaves limit c status o)
-      → OfDone limit c status o left (λ did. ShowTrueCycles left.tree left.number limit did.book)
-  cycles (Some run) status o left = left.ran.sound.deadlocks
-  cycles (Some (put name)) status o left = left.ran.sound.deadlocks
-  cycles (Some (get name)) status o left = left.ran.sound.deadlocks
-  cycles (Some (query name path)) status o left = left.ran.sound.deadlocks
-  cycles (Some (gen seed count)) status o left = left.ran.sound.deadlocks
+      → OfBook limit c status o left (λ book. ShowTrueCycles left.tree left.number limit book)
+  cycles (Some run) status o left = left.ran.sound.book.deadlocks
+  cycles (Some workers) status o left = left.ran.sound.deadlocks
+  cycles (Some (put name)) status o left = left.ran.sound.book.deadlocks
+  cycles (Some (get name)) status o left = left.ran.sound.book.deadlocks
+  cycles (Some (query name path)) status o left = left.ran.sound.book.deadlocks
+  cycles (Some (gen seed count)) status o left = left.ran.sound.book.deadlocks
   cycles None status o left = tt
 
   pub files : (c : Option Command) (status : Status) (o : Outcome) (left : OpenedStoreLeaves limit c status o)
       → OfAnswered limit c status o left (λ Held. Held o.new.journal.now.reads o.new.pages.now.reads)
   files (Some run) status o left = left.ran.reads
+  files (Some workers) status o left = left.ran.reads
   files (Some (put name)) status o left = left.ran.reads
   files (Some (get name)) status o left = left.ran.reads
   files (Some (query name path)) status o left = left.ran.reads
@@ -47,6 +51,7 @@ module _ (limit : ℕ) where
   pub crash : (c : Option Command) (status : Status) (o : Outcome) (left : OpenedStoreLeaves limit c status o)
       → OfAnswered limit c status o left (λ Held. PairsHave Held o.new)
   crash (Some run) status o left = left.ran.left
+  crash (Some workers) status o left = left.ran.left
   crash (Some (put name)) status o left = left.ran.left
   crash (Some (get name)) status o left = left.ran.left
   crash (Some (query name path)) status o left = left.ran.left
@@ -56,6 +61,7 @@ module _ (limit : ℕ) where
   pub moments : (c : Option Command) (status : Status) (o : Outcome) (left : OpenedStoreLeaves limit c status o)
       → OfPrefix limit c status o left (λ Held. PairsLeave Held left.opening o.new)
   moments (Some run) status o left = left.ran.any_moment
+  moments (Some workers) status o left = left.ran.any_moment
   moments (Some (put name)) status o left = left.ran.any_moment
   moments (Some (get name)) status o left = left.ran.any_moment
   moments (Some (query name path)) status o left = left.ran.any_moment

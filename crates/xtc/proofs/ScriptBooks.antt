@@ -6,16 +6,10 @@ use Rattle.outside_traits.specs.Moments.{History}
 use Rattle.tree_model.specs.Tree.{Tree, map_of}
 use Rattle.tree_model.specs.ValidTrees.{IsValidTree}
 use Rattle.script_runs.specs.Texts.{answers, state_after}
-use Rattle.call_contract.specs.Books.{Book, IsAnswer, IsBookFrom, IsRun, IsSerial, commits, last, state_of}
-use Rattle.call_contract.specs.Ends.{LeavesAllElse}
+use Rattle.call_contract.specs.Books.{Book, IsBookFrom, IsSerial, commits, last}
 use Rattle.call_contract.specs.SerialRuns.{serial}
 use Rattle.call_contract.specs.States.{State, start}
-use Rattle.call_contract.specs.Steps.{step}
-use Rattle.call_contract.specs.declared.events.Event.{Event}
-use Rattle.call_contract.specs.declared.events.Event.TheVariants.{Abort}
-use Rattle.call_contract.specs.declared.events.Noted.{Noted}
-use Rattle.call_contract.proofs.Appends.{last_append, run_rest}
-use Rattle.call_contract.proofs.BookLaws.{sound as states_sound, serial_book, deadlock_shown, abort_leaves_all_else}
+use Rattle.call_contract.proofs.BookLaws.{sound as states_sound, serial_book}
 use Rattle.call_contract.proofs.SessionBooks.{number_told}
 use Rattle.command_lines.specs.Replies.{reply_text}
 use Rattle.command_lines.specs.declared.command.StoreCall.{StoreCall}
@@ -33,7 +27,7 @@ use Rattle.xtc.specs.ScriptLine.{Line, nothing, bad, asked, line_of}
 use Rattle.xtc.specs.StoreMachine.{store_machine}
 use Rattle.xtc.specs.TopCall.{OpenAfter, IsSound}
 use Rattle.xtc.proofs.CommitCounts.{commits_counted}
-use Rattle.xtc.proofs.LiveLaws.{live_stand}
+use Rattle.xtc.proofs.SoundBooks.{sound_book}
 
 -- ---- what a store's machine does and answers
 
@@ -125,23 +119,9 @@ module _ (t : Tree) (n limit : ℕ) (formed : IsValidTree t) (lines : List (List
   state_of_book : last store_meaning opened script.book ≡ script.state
   state_of_book = ap (last store_meaning opened) same.book ∙ lines_state store_meaning opened (all_asked lines) ∙ sym same.state
 
-  abort_leaves : (before : Book StoreCall) (e : Noted StoreCall) (behind : Book StoreCall) → script.book ≡ before ++ e ∷ behind → e.event ≡ Abort
-      → LeavesAllElse (last store_meaning opened before) (last store_meaning opened (before ++ e ∷ [])) e.session
-  abort_leaves before e behind is aborts =
-      let st : State StoreCall = last store_meaning opened before in
-      let run : IsRun store_meaning st (e ∷ behind) = run_rest store_meaning opened before (e ∷ behind) (subst (IsRun store_meaning opened) is legal.legal.run) in
-      let here : IsAnswer e.answer (step store_meaning st e.session Abort) = subst (λ (v : Event StoreCall). IsAnswer e.answer (step store_meaning st e.session v)) aborts run.0 in
-      subst (λ (u : State StoreCall). LeavesAllElse st u e.session)
-      (ap (λ (v : Event StoreCall). state_of st (step store_meaning st e.session v)) (sym aborts) ∙ sym (last_append store_meaning opened before (e ∷ [])))
-      (abort_leaves_all_else store_meaning st e.session e.answer here)
-
   pub script_sound : IsSound t n limit script
   script_sound = record {
-    legal = legal;
-    serial = serial_is;
-    live = λ before behind is. live_stand t n limit script.book before behind legal is;
-    deadlocks = λ before e behind is cycle shown answered. deadlock_shown store_meaning t n limit before e cycle answered shown;
-    aborts = abort_leaves;
+    book = sound_book t n limit script.book legal;
     state = state_of_book;
     no_vain_wait = subst (AllStopped store_meaning) (sym same.state) (nobody_waits_in_vain store_meaning t n limit (all_asked lines));
   }

@@ -1,6 +1,6 @@
 -- What a run of the program leaves, by the status that it ends with.
 use Rattle.std.proofs.Common.{◌≡◌, ◌∙◌, Bool, true, false, true≢false, refl, sym, inl, inr, List, ℕ, [], Ok, ap, subst}
-use Rattle.std.specs.Prelude.{◌⊎◌, Option, Some}
+use Rattle.std.specs.Prelude.{◌⊎◌, Option, None, Some}
 use Rattle.outside_traits.specs.DiskPairs.{PairsHave}
 use Rattle.recovery.specs.Trees.{StoodFor}
 use Rattle.command_words.specs.declared.words_error.WordsError.{WordsError}
@@ -17,8 +17,8 @@ use Rattle.script_runs.specs.declared.running.End.TheVariants as end
 use Rattle.xtc.specs.declared.status.Status.{Status}
 use Rattle.xtc.specs.declared.status.Status.TheVariants.{Done, Usage, LineTooLong, Damaged, ReadFault, WriteFault, DiskFault, NoMemory, NotJsonMl, DocumentRefused}
 use Rattle.xtc.specs.Statuses.{status_of, status_of_end, status_of_words}
-use Rattle.command_words.specs.Commands.{Command, run}
-use Rattle.xtc.specs.TopCall.{Outcome, Leaves, UnopenedStoreLeaves, OpenedStoreLeaves, IsSilent, IsUnread, IsOfOpened}
+use Rattle.command_words.specs.Commands.{Command, run, workers, put, get, query, gen}
+use Rattle.xtc.specs.TopCall.{Outcome, Leaves, UnopenedStoreLeaves, OpenedStoreLeaves, IsSilent, IsUnread, IsOfOpened, OfWorkers}
 
 -- ---- words that gave no command
 
@@ -45,9 +45,19 @@ pub refused_leaves : (limit : ℕ) (command : Option Command) (o : Outcome) (err
 refused_leaves limit command o words.Usage unread silent same = (unread, silent, same)
 refused_leaves limit command o words.NoMemory unread silent same = inl (untouched_leaves o unread silent same)
 
+-- it is so in any command
+pub of_workers : (command : Option Command) (P : Type 0) → P → OfWorkers command P
+of_workers None P p = tt
+of_workers (Some run) P p = tt
+of_workers (Some workers) P p = p
+of_workers (Some (put name)) P p = tt
+of_workers (Some (get name)) P p = tt
+of_workers (Some (query name path)) P p = tt
+of_workers (Some (gen seed count)) P p = tt
+
 pub refused_silent : (command : Option Command) (error : WordsError) (P : Type 0) → P → IsSilent command (status_of_words error) P
 refused_silent command words.Usage P p = p
-refused_silent command words.NoMemory P p = tt
+refused_silent command words.NoMemory P p = of_workers command P p
 
 -- the two statuses that words may have, which are no others
 pub refused_as : (status : Status) (error : WordsError) → status ≡ status_of_words error → (status ≡ Usage) ⊎ (status ≡ NoMemory)
@@ -71,8 +81,8 @@ unopened_leaves limit command o error.NoMemory h = inl h
 -- then nothing was written
 pub unopened_silent : (command : Option Command) (fault : OpenError) (P : Type 0) → P → IsSilent command (status_of fault) P
 unopened_silent command (error.Damaged place) P p = p
-unopened_silent command error.DiskFault P p = tt
-unopened_silent command error.NoMemory P p = tt
+unopened_silent command error.DiskFault P p = of_workers command P p
+unopened_silent command error.NoMemory P p = of_workers command P p
 
 -- it is no end
 pub unopened_not_done : (fault : OpenError) → status_of fault ≡ Done → ⊥

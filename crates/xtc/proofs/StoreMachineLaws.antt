@@ -11,13 +11,12 @@ use Rattle.outside_traits.proofs.MomentLaws.{weaker}
 use Rattle.outside_traits.proofs.PairLaws.{journal_phase}
 use Rattle.recovery.specs.Opened.{contents_of_files}
 use Rattle.script_runs.specs.Counts.{Counts, DiskFaultCounted, DisksCountedWhere}
-use Rattle.script_runs.specs.Machine.{IsReady, IsSettled, HoldsEither as EitherHolds}
+use Rattle.script_runs.specs.Machine.{IsSettled, HoldsEither as EitherHolds}
 use Rattle.call_contract.specs.States.{State}
 use Rattle.command_lines.specs.declared.command.StoreCall.{StoreCall}
 use Rattle.xtc.specs.StoreMachine.{KeptStore, Stands, store_machine}
 use Rattle.std.proofs.lemmas.Bool.{cases_lt}
 use Rattle.xtc.specs.inside.Stores.{Counts as JournalCounts}
-use Rattle.durable_sessions.specs.Asked.{MayBeAsked, TakesNext}
 use Rattle.durable_sessions.specs.Durable.{HoldState, HoldsAll, HoldsEither}
 use Rattle.durable_sessions.proofs.StandingLaws.{stands_once}
 use Rattle.store_calls.specs.StoreCalls.{IsValidStoreCall, store_meaning}
@@ -65,12 +64,6 @@ memory_counts {P} before now c = record {
 }
 
 module _ {P : Type 0} (is_known : Bool) (history : P → History) (faults : P → ℕ) where
-  pub may_in : (k : KeptStore P) → IsReady (store_machine is_known history faults) k → MayBeAsked store_meaning Some k.core k.journal
-  may_in k r = record { state = r.state; stands = r.stands; takes = record { usable = r.usable.usable; next = r.usable.next } }
-
-  pub ready_out : (k : KeptStore P) (s : State StoreCall) → Stands k.core s → TakesNext k.core k.journal → IsReady (store_machine is_known history faults) k
-  ready_out k s stands takes = record { state = s; stands = stands; usable = record { usable = takes.usable; next = takes.next } }
-
   -- a journal that is settled stands for what is committed
   pub settled_in : (k : KeptStore P) (s : State StoreCall) → Stands k.core s → IsSettled (store_machine is_known history faults) k s → HoldsAll s k.journal.history
   settled_in k s stands settled = record { synced = settled.kept.journal; holds = settled.kept.holds s stands }

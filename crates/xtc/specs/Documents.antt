@@ -27,7 +27,7 @@ use Rattle.session_driver.specs.Lines.{Asked}
 use Rattle.session_driver.specs.declared.doing.Doing.{Doing}
 use Rattle.session_driver.specs.declared.doing.Doing.TheVariants.{Begin, Commit, Abort, Call}
 use Rattle.xtc.specs.Book.{after_asked}
-use Rattle.command_words.specs.Commands.{Command, run, put, get, query, gen}
+use Rattle.command_words.specs.Commands.{Command, run, workers, put, get, query, gen}
 use Rattle.xpath_parser.specs.Parse.{parsed}
 use Rattle.xpath_parser.specs.declared.path_error.PathError.{PathError}
 use Rattle.path_model.specs.declared.path.XPath.{XPath}
@@ -56,6 +56,7 @@ element_in bytes = element_or_not (fragment_in bytes)
 -- what ends a command before its end: a refusal, and of the generator's script that of a begin or commit alone, since its summary counts the others
 abbrev pub stops_at : Command → LineReply → Option Reason
 stops_at run = reason_of
+stops_at workers = reason_of
 stops_at (put name) = reason_of
 stops_at (get name) = reason_of
 stops_at (query name path) = reason_of
@@ -142,6 +143,7 @@ gen_asks_of false seed count = Ok (generated (script seed count))
 -- what a command asks from a state on, with this input; or how it ends where the input is no element, its path none, or a document in its way
 abbrev pub asks_of : Command → State StoreCall → List ℕ → Result (List (Asked StoreCall)) Status
 asks_of run st input = Ok []
+asks_of workers st input = Ok []
 asks_of (put name) st input = put_asks_of name (element_in input)
 asks_of (get name) st input = Ok (get_asks st name)
 asks_of (query name path) st input = query_asks_of st name (parsed path)
@@ -180,6 +182,7 @@ answer_line (FoundBy path) lines = hits_line (hits_in lines)
 -- by what is answered to what is asked from a state on
 abbrev pub text_of : Command → State StoreCall → List (Asked StoreCall) → List ℕ
 text_of run st asked = []
+text_of workers st asked = []
 text_of (put name) st asked = label_line (label_in (after_asked st asked).lines)
 text_of (get name) st asked = tree_line (tree_in (after_asked st asked).lines)
 text_of (query name path) st asked = hits_line (hits_in (after_asked st asked).lines)

@@ -7,27 +7,28 @@ use Rattle.call_contract.specs.Books as books
 use Rattle.call_contract.specs.States.{start}
 use Rattle.call_contract.specs.declared.events.Noted.{Noted}
 use Rattle.command_lines.specs.declared.command.StoreCall.{StoreCall}
-use Rattle.session_driver.specs.Progress.{Progress}
 use Rattle.store_calls.specs.StoreCalls.{store_meaning}
 use Rattle.tree_model.specs.Tree.{Tree}
 use Rattle.xtc.specs.Book.{after_asked, script_of, replies_text}
-use Rattle.command_words.specs.Commands.{Command, run, put, get, query, gen}
+use Rattle.command_words.specs.Commands.{Command, run, workers, put, get, query, gen}
 use Rattle.xtc.specs.Documents.{text_of}
-use Rattle.xtc.specs.TopCall.{Outcome, OpenedStoreLeaves, OpenAfterAsked, OpenAfterLines, WroteWhole}
+use Rattle.xtc.specs.TopCall.{Outcome, OpenedStoreLeaves, OpenAfterAsked, OpenAfterCommits, OpenAfterLines, IsWorkersOutput, WroteWhole, durable_at}
 use Rattle.xtc.specs.declared.status.Status.{Status}
 
--- so it is of what was done: of a script's lines, or of what was asked in turn
-abbrev pub OfDone : (limit : ℕ) (c : Option Command) (status : Status) (o : Outcome) → OpenedStoreLeaves limit c status o → (Progress StoreCall → Type 0) → Type 0
-OfDone limit (Some run) status o left P = P left.ran.script
-OfDone limit (Some (put name)) status o left P = P (after_asked (start left.tree left.number limit) left.ran.asked)
-OfDone limit (Some (get name)) status o left P = P (after_asked (start left.tree left.number limit) left.ran.asked)
-OfDone limit (Some (query name path)) status o left P = P (after_asked (start left.tree left.number limit) left.ran.asked)
-OfDone limit (Some (gen seed count)) status o left P = P (after_asked (start left.tree left.number limit) left.ran.asked)
-OfDone limit None status o left P = Unit {0}
+-- so it is of the book: of a script's lines, of what was asked in turn, or of what workers did
+abbrev pub OfBook : (limit : ℕ) (c : Option Command) (status : Status) (o : Outcome) → OpenedStoreLeaves limit c status o → (Book StoreCall → Type 0) → Type 0
+OfBook limit (Some run) status o left P = P left.ran.script.book
+OfBook limit (Some workers) status o left P = P left.ran.book
+OfBook limit (Some (put name)) status o left P = P (after_asked (start left.tree left.number limit) left.ran.asked).book
+OfBook limit (Some (get name)) status o left P = P (after_asked (start left.tree left.number limit) left.ran.asked).book
+OfBook limit (Some (query name path)) status o left P = P (after_asked (start left.tree left.number limit) left.ran.asked).book
+OfBook limit (Some (gen seed count)) status o left P = P (after_asked (start left.tree left.number limit) left.ran.asked).book
+OfBook limit None status o left P = Unit {0}
 
 -- so it is of the files that hold the tree after a prefix of the commits: with every one that was answered, or with none of them for sure
 abbrev pub OfAnswered : (limit : ℕ) (c : Option Command) (status : Status) (o : Outcome) → OpenedStoreLeaves limit c status o → ((List ℕ → List ℕ → Type 0) → Type 0) → Type 0
 OfAnswered limit (Some run) status o left P = P (OpenAfterLines left.tree left.number limit left.ran.done (take (left.ran.done + left.ran.further) left.ran.lines))
+OfAnswered limit (Some workers) status o left P = P (OpenAfterCommits left.tree left.number (durable_at status left.ran.book) left.ran.book)
 OfAnswered limit (Some (put name)) status o left P = P (OpenAfterAsked left.tree left.number limit left.ran.answered left.ran.asked)
 OfAnswered limit (Some (get name)) status o left P = P (OpenAfterAsked left.tree left.number limit left.ran.answered left.ran.asked)
 OfAnswered limit (Some (query name path)) status o left P = P (OpenAfterAsked left.tree left.number limit left.ran.answered left.ran.asked)
@@ -36,15 +37,17 @@ OfAnswered limit None status o left P = Unit {0}
 
 abbrev pub OfPrefix : (limit : ℕ) (c : Option Command) (status : Status) (o : Outcome) → OpenedStoreLeaves limit c status o → ((List ℕ → List ℕ → Type 0) → Type 0) → Type 0
 OfPrefix limit (Some run) status o left P = P (OpenAfterLines left.tree left.number limit 0 (take (left.ran.done + left.ran.further) left.ran.lines))
+OfPrefix limit (Some workers) status o left P = P (OpenAfterCommits left.tree left.number 0 left.ran.book)
 OfPrefix limit (Some (put name)) status o left P = P (OpenAfterAsked left.tree left.number limit 0 left.ran.asked)
 OfPrefix limit (Some (get name)) status o left P = P (OpenAfterAsked left.tree left.number limit 0 left.ran.asked)
 OfPrefix limit (Some (query name path)) status o left P = P (OpenAfterAsked left.tree left.number limit 0 left.ran.asked)
 OfPrefix limit (Some (gen seed count)) status o left P = P (OpenAfterAsked left.tree left.number limit 0 left.ran.asked)
 OfPrefix limit None status o left P = Unit {0}
 
--- what the sink took: of a script a prefix of the text of the replies to the lines that were done, of a document its text at the end and else nothing
+-- what the sink took: of a script a prefix of the text of the replies to the lines that were done, of workers a text that the book shows, of a document its text at the end and else nothing
 abbrev pub IsOutput : (limit : ℕ) (c : Option Command) (status : Status) (o : Outcome) → OpenedStoreLeaves limit c status o → Type 0
 IsOutput limit (Some run) status o left = TookPrefix o.before o.now (replies_text (script_of (start left.tree left.number limit) (take left.ran.done left.ran.lines)).lines)
+IsOutput limit (Some workers) status o left = IsWorkersOutput left.tree left.number limit status left.ran.book o.read o.before o.now
 IsOutput limit (Some (put name)) status o left = WroteWhole status o.before o.now (text_of (put name) (start left.tree left.number limit) left.ran.asked)
 IsOutput limit (Some (get name)) status o left = WroteWhole status o.before o.now (text_of (get name) (start left.tree left.number limit) left.ran.asked)
 IsOutput limit (Some (query name path)) status o left = WroteWhole status o.before o.now (text_of (query name path) (start left.tree left.number limit) left.ran.asked)

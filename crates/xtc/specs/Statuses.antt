@@ -13,6 +13,8 @@ use Rattle.script_runs.specs.declared.running.End.{End}
 use Rattle.script_runs.specs.declared.running.End.TheVariants as end
 use Rattle.script_runs.specs.declared.whole.GatherError.{GatherError}
 use Rattle.script_runs.specs.declared.whole.GatherError.TheVariants as gathering
+use Rattle.workers_script.specs.declared.script_error.ScriptError.{ScriptError}
+use Rattle.workers_script.specs.declared.script_error.ScriptError.TheVariants as script
 use Rattle.xpath_parser.specs.declared.path_error.PathError.{PathError}
 use Rattle.xpath_parser.specs.declared.path_error.PathError.TheVariants as path
 use Rattle.durable_sessions.specs.declared.in_turn.Stop.{Stop}
@@ -77,6 +79,12 @@ abbrev pub status_of_gathering : GatherError → Status
 status_of_gathering gathering.TooLong = LineTooLong 0
 status_of_gathering gathering.ReadFault = ReadFault
 status_of_gathering gathering.NoMemory = NoMemory
+
+-- the status of a whole script that can't be had
+abbrev pub status_of_script : ScriptError → Status
+status_of_script (script.TooLong line) = LineTooLong line
+status_of_script script.ReadFault = ReadFault
+status_of_script script.NoMemory = NoMemory
 
 -- the status of an input that isn't an element
 abbrev pub status_of_fragment : FragmentError → Status

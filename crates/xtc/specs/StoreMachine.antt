@@ -1,17 +1,17 @@
 -- A store's sessions over its two disks as a machine that does the lines of a script.
-use Rattle.std.specs.Prelude.{◌≡◌, ℕ, Bool, [], Some, IsTrue}
+use Rattle.std.specs.Prelude.{◌≡◌, ℕ, Bool, [], Some}
 use Rattle.outside_traits.specs.Disks.{all_synced}
 use Rattle.outside_traits.specs.DiskPairs.{pair_of}
 use Rattle.outside_traits.specs.Moments.{History, IsAllSynced}
 use Rattle.tree_model.specs.Entries.{Entries}
-use Rattle.journal.specs.Groups.{is_next}
-use Rattle.journal.specs.Views.{JournalView, TakesGroups}
+use Rattle.journal.specs.Views.{JournalView}
 use Rattle.script_runs.specs.Machine.{Machine}
 use Rattle.call_contract.specs.States.{State}
 use Rattle.command_lines.specs.declared.command.StoreCall.{StoreCall}
-use Rattle.tx_core.specs.Cores.{CoreView, next_number}
+use Rattle.tx_core.specs.Cores.{CoreView}
 use Rattle.store_calls.specs.StoreCalls.{store_meaning}
 use Rattle.xtc.specs.Book.{done_by, replies_text, IsValidLine}
+use Rattle.durable_sessions.specs.Asked.{TakesNext}
 use Rattle.durable_sessions.specs.Durable.{HoldState}
 use Rattle.durable_sessions.specs.Standing as standing
 use Rattle.xtc.specs.ScriptLine.{line_of}
@@ -25,11 +25,6 @@ pub record KeptStore (P : Type 0) : Type 0 where
 -- the state that a core over a map in memory stands in
 abbrev pub Stands : CoreView StoreCall Entries → State StoreCall → Type 0
 Stands core s = standing.Stands store_meaning Some core s
-
--- the journal takes the next commit
-pub record IsUsable {P : Type 0} (k : KeptStore P) : Type 0 where
-  pub usable : TakesGroups k.journal
-  pub next : IsTrue (is_next k.journal.last (next_number k.core))
 
 -- a crash leaves of each file what a read gives: the journal stands for what is committed in the core's state, and the pages are empty
 pub record IsSettledStore {P : Type 0} (k : KeptStore P) (history : History) : Type 0 where
@@ -46,7 +41,7 @@ store_machine is_known history faults = record {
   valid = λ line. IsValidLine (line_of line);
   holds = HoldState;
   stands = λ k s. Stands k.core s;
-  usable = λ k. IsUsable k;
+  usable = λ k. TakesNext k.core k.journal;
   settled = λ k. IsSettledStore k (history k.pages);
   Fixed = History;
   fixed = λ k. history k.pages;

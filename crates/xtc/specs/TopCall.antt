@@ -23,7 +23,10 @@ use Rattle.session_driver.specs.Progress.{Progress}
 use Rattle.session_driver.specs.Waiters.{AllStopped}
 use Rattle.store_calls.specs.StoreCalls.{store_meaning, IsValidStoreCall}
 use Rattle.xtc.specs.Book.{script_of, after_asked, replies_text}
-use Rattle.command_words.specs.Commands.{Command, run, put, get, query, gen}
+use Rattle.command_words.specs.Commands.{Command, run, workers, put, get, query, gen}
+use Rattle.workers_script.specs.Entries.{entries_of}
+use Rattle.workers_script.specs.Limits.{too_long}
+use Rattle.workers_replies.specs.Shown.{lines_in, IsShownBy}
 use Rattle.xtc.specs.Commands.{may_commit, reads_input}
 use Rattle.durable_sessions.specs.InTurn as turn
 use Rattle.durable_sessions.specs.declared.reasons.Reason.{Reason}
@@ -61,18 +64,22 @@ pub record OpenAfterLines (t : Tree) (n limit : ℕ) (least : ℕ) (lines : List
 
 -- ---- the book
 
--- What holds of the book of a script from this tree, number and limit, and of the state after it.
+-- What holds of a book from this tree, number and limit.
 -- It is legal; its committed transactions, run one after another by one thread on a plain tree, give the replies that were given, and the committed tree;
 -- at each moment what the live ones were answered, those that abort later among them, is what they would be answered on the committed tree of that moment;
--- a deadlock shows a true cycle; an aborted transaction leaves all else; and no session waits whose call would be answered.
-pub record IsSound (t : Tree) (n limit : ℕ) (script : Progress StoreCall) : Type 0 where
-  pub legal : IsBookFrom IsValidStoreCall store_meaning t n limit script.book
-  pub serial : IsSerial store_meaning t n limit script.book
-  pub live : (before behind : Book StoreCall) → script.book ≡ before ++ behind → RepliesStand store_meaning (last store_meaning (start t n limit) before)
-  pub deadlocks : (before : Book StoreCall) (e : Noted StoreCall) (behind : Book StoreCall) → script.book ≡ before ++ e ∷ behind
+-- a deadlock shows a true cycle; and an aborted transaction leaves all else.
+pub record IsSoundBook (t : Tree) (n limit : ℕ) (book : Book StoreCall) : Type 0 where
+  pub legal : IsBookFrom IsValidStoreCall store_meaning t n limit book
+  pub serial : IsSerial store_meaning t n limit book
+  pub live : (before behind : Book StoreCall) → book ≡ before ++ behind → RepliesStand store_meaning (last store_meaning (start t n limit) before)
+  pub deadlocks : (before : Book StoreCall) (e : Noted StoreCall) (behind : Book StoreCall) → book ≡ before ++ e ∷ behind
       → DeadlockIsTrue store_meaning (last store_meaning (start t n limit) before) e
-  pub aborts : (before : Book StoreCall) (e : Noted StoreCall) (behind : Book StoreCall) → script.book ≡ before ++ e ∷ behind → e.event ≡ Abort
+  pub aborts : (before : Book StoreCall) (e : Noted StoreCall) (behind : Book StoreCall) → book ≡ before ++ e ∷ behind → e.event ≡ Abort
       → LeavesAllElse (last store_meaning (start t n limit) before) (last store_meaning (start t n limit) (before ++ e ∷ [])) e.session
+
+-- The book of a script is sound, the state after it is that of the script, and no session waits whose call would be answered.
+pub record IsSound (t : Tree) (n limit : ℕ) (script : Progress StoreCall) : Type 0 where
+  pub book : IsSoundBook t n limit script.book
   pub state : last store_meaning (start t n limit) script.book ≡ script.state
   pub no_vain_wait : AllStopped store_meaning script.state
 
@@ -202,9 +209,72 @@ pub record DocumentRan (t : Tree) (n limit : ℕ) (c : Command) (status : Status
   -- the pages aren't written
   pub pages : o.new.pages ≡ opening.pages
 
+-- ---- a script that was run by workers
+
+-- the files stand for the tree and the number after none of this book's commits or after all, at least after so many
+pub record OpenAfterCommits (t : Tree) (n least : ℕ) (book : Book StoreCall) (journal pages : List ℕ) : Type 0 where
+  pub count : ℕ
+  pub enough : least ≤ count
+  pub none_or_all : (count ≡ 0) ⊎ (count ≡ length (commits book))
+  pub opens : StandFor journal pages (serial store_meaning (take count (commits book)) t).tree (n + count)
+
+-- what was written: the text that this book shows of the lines, whole where the status says so
+pub record WroteShown (t : Tree) (n limit : ℕ) (status : Status) (book : Book StoreCall) (read : List ℕ) (before now : Option (List ℕ)) : Type 0 where
+  pub text : List LineReply
+  pub shows : IsShownBy store_meaning t n limit book (lines_in (entries_of read)) text
+  pub wrote : WroteWhole status before now (replies_text text)
+
+-- The workers did all lines, and the book shows a text of them, of which nothing is written where a disk failed.
+-- At any other status nothing of what lines may have done is written or found: the book is empty.
+abbrev pub IsWorkersOutput : Tree → ℕ → ℕ → Status → Book StoreCall → List ℕ → Option (List ℕ) → Option (List ℕ) → Type 0
+IsWorkersOutput t n limit Done book read before now = WroteShown t n limit Done book read before now
+IsWorkersOutput t n limit WriteFault book read before now = WroteShown t n limit WriteFault book read before now
+IsWorkersOutput t n limit DiskFault book read before now = WroteShown t n limit DiskFault book read before now
+IsWorkersOutput t n limit status book read before now = (book ≡ []) × (now ≡ before)
+
+-- what a status says of the input
+abbrev pub IsWorkersEnd : Status → List ℕ → Type 0
+IsWorkersEnd Done read = too_long read ≡ None
+IsWorkersEnd WriteFault read = too_long read ≡ None
+IsWorkersEnd DiskFault read = too_long read ≡ None
+IsWorkersEnd ReadFault read = too_long read ≡ None
+IsWorkersEnd (LineTooLong line) read = too_long read ≡ Some line
+IsWorkersEnd NoMemory read = Unit {0}
+IsWorkersEnd status read = ⊥
+
+-- the statuses at which lines were done need the whole input
+abbrev pub NeedsWholeScript : Status → Type 0 → Type 0
+NeedsWholeScript Done P = P
+NeedsWholeScript WriteFault P = P
+NeedsWholeScript DiskFault P = P
+NeedsWholeScript status P = Unit {0}
+
+-- how many of a book's commits are sure to be found: all, before the first byte of the text is written
+abbrev pub durable_at : Status → Book StoreCall → ℕ
+durable_at Done book = length (commits book)
+durable_at WriteFault book = length (commits book)
+durable_at status book = 0
+
+-- `workers` over a store that was opened as a tree and a number. One book, sound and that which the store kept, shows what was written;
+-- the files, now and as a crash leaves them at any moment, stand for the tree after none of its commits or after all, and after all where anything was written.
+pub record WorkersRan (t : Tree) (n limit : ℕ) (status : Status) (opening : Pair) (o : Outcome) : Type 0 where
+  pub book : Book StoreCall
+  pub sound : IsSoundBook t n limit book
+  pub output : IsWorkersOutput t n limit status book o.read o.before o.now
+  pub end : IsWorkersEnd status o.read
+  pub whole : NeedsWholeScript status (IfSome o.left (λ rest. rest ≡ []))
+  pub short : length o.read ≤ whole_limit + piece
+  -- a crash at any moment since the opening, a crash now, and the files as they read
+  pub any_moment : PairsLeave (OpenAfterCommits t n 0 book) opening o.new
+  pub left : PairsHave (OpenAfterCommits t n (durable_at status book) book) o.new
+  pub reads : OpenAfterCommits t n (durable_at status book) book o.new.journal.now.reads o.new.pages.now.reads
+  -- the pages aren't written
+  pub pages : o.new.pages ≡ opening.pages
+
 -- a command that ran
 abbrev pub CommandRan : Tree → ℕ → ℕ → Option Command → Status → Pair → Outcome → Type 0
 CommandRan t n limit (Some run) status opening o = ScriptRan t n limit status opening o
+CommandRan t n limit (Some workers) status opening o = WorkersRan t n limit status opening o
 CommandRan t n limit (Some (put name)) status opening o = DocumentRan t n limit (put name) status opening o
 CommandRan t n limit (Some (get name)) status opening o = DocumentRan t n limit (get name) status opening o
 CommandRan t n limit (Some (query name path)) status opening o = DocumentRan t n limit (query name path) status opening o
@@ -255,7 +325,13 @@ OfDocument (Some (put name)) P = P
 OfDocument (Some (get name)) P = P
 OfDocument (Some (query name path)) P = P
 OfDocument (Some (gen seed count)) P = P
+OfDocument (Some workers) P = P
 OfDocument command P = Unit {0}
+
+-- so it is in one that writes nothing but at its end
+abbrev pub OfWorkers : Option Command → Type 0 → Type 0
+OfWorkers (Some workers) P = P
+OfWorkers command P = Unit {0}
 
 -- so it is where nothing is written
 abbrev pub IsSilent : Option Command → Status → Type 0 → Type 0
@@ -265,6 +341,8 @@ IsSilent command (NotJsonMl why) P = P
 IsSilent command (DocumentRefused why) P = P
 IsSilent command (LineTooLong line) P = OfDocument command P
 IsSilent command ReadFault P = OfDocument command P
+IsSilent command DiskFault P = OfWorkers command P
+IsSilent command NoMemory P = OfWorkers command P
 IsSilent command status P = Unit {0}
 
 -- the statuses with which a command ends over a store that was opened

@@ -4,3 +4,4 @@ pub mod Stores
 pub mod Asking
 pub mod Showing
 pub mod Counting
+pub mod Working

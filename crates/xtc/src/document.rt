@@ -16,7 +16,7 @@ ghost use Rattle.command_lines.specs.declared.command.What.TheVariants.{Call};
 ghost use Rattle.session_driver.specs.Lines.{IsValidDoing};
 ghost use Rattle.session_driver.specs.declared.doing.Doing.TheVariants as asked;
 ghost use Rattle.store_calls.specs.StoreCalls.{IsValidStoreCall, store_meaning};
-ghost use Rattle.durable_sessions.specs.Asked.{counts_of, MayBeAsked};
+ghost use Rattle.durable_sessions.specs.Asked.{counts_of, TakesNext};
 ghost use Rattle.durable_sessions.specs.Standing.{Stands};
 ghost use Rattle.jsonml_io.specs.declared.fragment_error.FragmentError.TheVariants as fragment_error;
 ghost use Rattle.command_words.specs.Commands.{put as put_command};
@@ -200,7 +200,7 @@ fn put<B: Base, J: Disk>(
     name: &str,
     element: Fragment,
 ) -> Result<Vec<u8>, Status>
-    requires may { MayBeAsked store_meaning B.contents core.old journal.old }
+    requires takes { TakesNext core.old journal.old }
     requires valid { IsValid (plain element) }
     ensures done { (s : State StoreCall) → Stands store_meaning B.contents core.old s → (read : List ℕ) → element_in read ≡ Ok element → length read ≤ whole_limit
         → DocumentDone J.is_known s (put_command name.now) read journal.old.history journal.new.history (λ text. text.items) result }

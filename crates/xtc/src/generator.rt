@@ -11,7 +11,7 @@ ghost use Rattle.command_words.specs.Commands.{gen as gen_command};
 ghost use Rattle.workload_gen.specs.LineTexts.{line_text};
 ghost use Rattle.workload_gen.specs.Summaries.{after_line, summary_text};
 ghost use Rattle.xtc.specs.Book.{IsValidLine};
-ghost use Rattle.durable_sessions.specs.Asked.{counts_of, MayBeAsked};
+ghost use Rattle.durable_sessions.specs.Asked.{counts_of, TakesNext};
 ghost use Rattle.durable_sessions.specs.InTurn.{AskedInTurn};
 ghost use Rattle.durable_sessions.specs.Reasons.{limit_of};
 ghost use Rattle.durable_sessions.specs.Standing.{Stands};
@@ -119,7 +119,7 @@ fn run_lines<B: Base, J: Disk>(
     script: &mut Script,
     summary: &mut Summary,
 ) -> Result<(), Stop>
-    requires may { MayBeAsked store_meaning B.contents core.old journal.old }
+    requires takes { TakesNext core.old journal.old }
     ensures ran { (s : State StoreCall) → Stands store_meaning B.contents core.old s → RanLines B.contents J.is_known s script.old
         journal.old.history core.new journal.new.history summary.old summary.new result }
     ensures counts { DisksCountedWhere (result ≡ Err Stop.DiskFault) (counts_of B.count core.old journal.old) (counts_of B.count core.new journal.new) }
@@ -140,12 +140,12 @@ fn run_line<B: Base, J: Disk>(
     summary: &mut Summary,
     replies: &mut Vec<LineReply>,
 ) -> Result<(), Stop>
-    requires may { MayBeAsked store_meaning B.contents core.old journal.old }
+    requires takes { TakesNext core.old journal.old }
     ensures asked { (s : State StoreCall) → Stands store_meaning B.contents core.old s
         → AskedInTurn IsValidStoreCall store_meaning B.contents limit_of J.is_known s (generated_line line)
         journal.old.history core.new journal.new.history [] replies.new.items result }
     ensures counted { OnOk result (summary.new ≡ after_line summary.old line.step replies.new.items) }
-    ensures may { OnOk result (MayBeAsked store_meaning B.contents core.new journal.new) }
+    ensures takes { OnOk result (TakesNext core.new journal.new) }
     ensures counts { DisksCountedWhere (result ≡ Err Stop.DiskFault) (counts_of B.count core.old journal.old) (counts_of B.count core.new journal.new) }
 {
     replies.clear();
@@ -165,11 +165,11 @@ fn ask_line<B: Base, J: Disk>(
     line: Line,
     replies: &mut Vec<LineReply>,
 ) -> Result<(), Halt>
-    requires may { MayBeAsked store_meaning B.contents core.old journal.old }
+    requires takes { TakesNext core.old journal.old }
     requires none { replies.old.items ≡ [] }
     ensures asked { (s : State StoreCall) → Stands store_meaning B.contents core.old s → AskedLine B.contents J.is_known s (generated_line line)
         journal.old.history core.new journal.new.history replies.new.items result }
-    ensures may { OnOk result (MayBeAsked store_meaning B.contents core.new journal.new) }
+    ensures takes { OnOk result (TakesNext core.new journal.new) }
     ensures counts { DisksCountedWhere (result ≡ Err Halt.DiskFault) (counts_of B.count core.old journal.old) (counts_of B.count core.new journal.new) }
 {
     let read = read_generated(alloc, line)?;

@@ -15,6 +15,7 @@ mod showing;
 mod status;
 mod store;
 mod top_call;
+mod workers;
 
 pub use durable_sessions::Reason;
 pub use laws::{get_is_dump, put_is_create, query_is_find};

@@ -4,11 +4,11 @@ ghost use Rattle.outside_traits.specs.DiskPairs.{PairsHave, PairsLeave};
 ghost use Rattle.call_contract.specs.Books.{IsSerial};
 ghost use Rattle.store_calls.specs.StoreCalls.{store_meaning};
 ghost use Rattle.command_words.specs.Commands.{Command};
-ghost use Rattle.xtc.specs.Promises.{IsOutput, OfAnswered, OfDone, OfPrefix, ShowTrueCycles};
+ghost use Rattle.xtc.specs.Promises.{IsOutput, OfAnswered, OfBook, OfPrefix, ShowTrueCycles};
 ghost use Rattle.xtc.specs.TopCall.{OpenedStoreLeaves, Outcome};
 ghost use Rattle.xtc.specs.declared.status.Status.{Status};
 
-/// The output is the replies that the lines have by the definition of sessions, after a fault a prefix of them; of a document its text, once all went well.
+/// The output is the replies that the lines have by the definition of sessions, after a fault a prefix of them; of workers replies that one book shows, and of a document its text, once all went well.
 #[tactic(auto, using(crate::proofs::PromiseLaws::output))]
 pub fn every_output_is_the_replies()
     ensures { (limit : ℕ) (c : Option Command) (status : Status) (o : Outcome) (left : OpenedStoreLeaves limit c status o) → IsOutput limit c status o left }
@@ -18,17 +18,17 @@ pub fn every_output_is_the_replies()
 #[tactic(auto, using(crate::proofs::PromiseLaws::serial))]
 pub fn every_run_is_serial()
     ensures { (limit : ℕ) (c : Option Command) (status : Status) (o : Outcome) (left : OpenedStoreLeaves limit c status o)
-        → OfDone limit c status o left (λ did. IsSerial store_meaning left.tree left.number limit did.book) }
+        → OfBook limit c status o left (λ book. IsSerial store_meaning left.tree left.number limit book) }
 {}
 
 /// A deadlock that was answered shows a true circle of waiting.
 #[tactic(auto, using(crate::proofs::PromiseLaws::cycles))]
 pub fn every_deadlock_is_true()
     ensures { (limit : ℕ) (c : Option Command) (status : Status) (o : Outcome) (left : OpenedStoreLeaves limit c status o)
-        → OfDone limit c status o left (λ did. ShowTrueCycles left.tree left.number limit did.book) }
+        → OfBook limit c status o left (λ book. ShowTrueCycles left.tree left.number limit book) }
 {}
 
-/// As they read at the end, the files stand for the tree after a prefix of the commits with every one that was answered.
+/// As they read at the end, the files stand for the tree after a prefix of the commits with every one that was answered; of workers after none or all.
 #[tactic(auto, using(crate::proofs::PromiseLaws::files))]
 pub fn files_hold_what_was_answered()
     ensures { (limit : ℕ) (c : Option Command) (status : Status) (o : Outcome) (left : OpenedStoreLeaves limit c status o)

@@ -1,15 +1,17 @@
 // The statuses that the program ends with, with their numbers and texts.
 ghost use Rattle.std.specs.Prelude.{◌≡◌};
-ghost use Rattle.xtc.specs.Statuses.{file_text, status_number, status_of, status_of_end, status_of_gathering, status_of_fragment, status_of_path, status_of_stop, status_of_words};
+ghost use Rattle.xtc.specs.Statuses.{file_text, status_number, status_of, status_of_end, status_of_gathering, status_of_fragment, status_of_path, status_of_script, status_of_stop, status_of_words};
 
 use command_words::WordsError;
 use dewey_labels::NoMemory as WantsMemory;
 use durable_sessions::{Reason, Stop};
+use journal::DiskFault as JournalFault;
 use jsonml_io::FragmentError;
 use node_records::{File, OpenError, Place};
 use script_runs::{End, GatherError, Halt};
 use std::fmt;
 use std::fmt::{Display, Formatter, Write};
+use workers_script::ScriptError;
 use xpath_parser::PathError;
 
 /// How a run of the program ended.
@@ -19,7 +21,7 @@ pub enum Status {
     Done,
     /// The words aren't those of a command.
     Usage,
-    /// A line, by its number from 1, has more bytes than a line may have; with number 0 the whole input of `put` has more than that may have.
+    /// A line, by its number from 1, has more bytes than a line may have; with number 0 the whole input of `put` or `workers` has more than that may have.
     LineTooLong { line: u64 },
     /// The files hold no store; the place is that of the first rule that they break.
     Damaged(Place),
@@ -145,6 +147,30 @@ impl From<Stop> for Status {
             Stop::DiskFault => Status::DiskFault,
             Stop::NoMemory => Status::NoMemory,
         }
+    }
+}
+
+/// A whole script that can't be had.
+impl From<ScriptError> for Status {
+    ghost from_gives = { λ error status. status ≡ status_of_script error };
+
+    fn from(error: ScriptError) -> Status {
+        match error {
+            ScriptError::TooLong { line } => Status::LineTooLong { line },
+            ScriptError::ReadFault => Status::ReadFault,
+            ScriptError::NoMemory => Status::NoMemory,
+        }
+    }
+}
+
+/// Commits that can't be made durable.
+impl From<JournalFault> for Status {
+    ghost use Rattle.xtc.specs.declared.status.Status.TheVariants.{DiskFault};
+
+    ghost from_gives = { λ _ status. status ≡ DiskFault };
+
+    fn from(_failed: JournalFault) -> Status {
+        Status::DiskFault
     }
 }
 

@@ -4,7 +4,7 @@ ghost use Rattle.call_contract.specs.States.{State};
 ghost use Rattle.command_lines.specs.Replies.{reply_text};
 ghost use Rattle.command_lines.specs.declared.command.StoreCall.{StoreCall};
 ghost use Rattle.command_lines.specs.declared.line_reply.LineReply.TheVariants as line_reply;
-ghost use Rattle.durable_sessions.specs.Asked.{asked_from, counts_of, LeadsTo, LeavesEither, MayBeAsked, TakesNext};
+ghost use Rattle.durable_sessions.specs.Asked.{asked_from, counts_of, LeadsTo, LeavesEither, TakesNext};
 ghost use Rattle.durable_sessions.specs.Standing.{Stands};
 ghost use Rattle.script_runs.specs.Counts.{DisksCountedWhere};
 ghost use Rattle.store_calls.specs.StoreCalls.{store_meaning};
@@ -89,7 +89,7 @@ fn do_line<B: Base, J: Disk>(
     line: ReadLine,
     out: &mut Vec<u8>,
 ) -> Result<(), Halt>
-    requires may { MayBeAsked store_meaning B.contents core.old journal.old }
+    requires takes { TakesNext core.old journal.old }
     ensures state { OnOk result ((s : State StoreCall) → Stands store_meaning B.contents core.old s
         → LeadsTo store_meaning B.contents J.is_known journal.old.history core.new journal.new.history s (done_by s 0 (line_in line)).state) }
     ensures text { OnOk result ((s : State StoreCall) → Stands store_meaning B.contents core.old s
@@ -118,7 +118,7 @@ fn ask<B: Base, J: Disk>(
     doing: Doing<StoreOp>,
     out: &mut Vec<u8>,
 ) -> Result<(), Halt>
-    requires may { MayBeAsked store_meaning B.contents core.old journal.old }
+    requires takes { TakesNext core.old journal.old }
     ensures state { OnOk result ((s : State StoreCall) → Stands store_meaning B.contents core.old s
         → LeadsTo store_meaning B.contents J.is_known journal.old.history core.new journal.new.history s (asked_from store_meaning s session doing).state) }
     ensures text { OnOk result ((s : State StoreCall) → Stands store_meaning B.contents core.old s

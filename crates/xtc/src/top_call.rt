@@ -17,10 +17,13 @@ use crate::generator::run_gen;
 use crate::showing::{run_get, run_query};
 use crate::status::Status;
 use crate::store::Store;
+use crate::workers::run_workers;
 use command_words::{Command, read_words};
-use outside_traits::{Disk, Sink, Source};
+use outside_traits::{Disk, Gate, Sink, Source};
 use recovery::{Opened, StoreFault, open_store};
 use std::alloc::Global;
+use std::sync::Wait;
+use std::thread::Threads;
 use tx_core::Core;
 
 /// The greatest number that a commit may have.
@@ -35,16 +38,27 @@ pub struct Finish<J, P> {
 }
 
 /// Does what the words after the program's name say, over the store on two disks: `run` takes a script from the source and gives its replies to the sink,
+/// `workers` takes a whole script first, does it by a worker for each session, and gives the replies in the order of the lines, once all commits are durable;
 /// `put NAME` makes a document of the whole input and gives its label, `get NAME` gives a document, and `query NAME PATH` what a path finds from one.
 /// `gen SEED COUNT` runs the generator's script over a store without documents, and gives what is counted of its replies. A commit is answered once it is durable.
 /// What is pending of a script is written before each read, so whoever writes a line and waits has its reply.
-pub fn xtc<S: Source, K: Sink, J: Disk + Send, P: Disk + Send>(
+/// `rt` serves the threads of `workers` alone, and `gate` is told of each of their lines, before it and behind it.
+pub fn xtc<
+    R: Threads + Wait + Sync,
+    S: Source,
+    K: Sink,
+    J: Disk + Send,
+    P: Disk + Send,
+    G: Gate + Sync,
+>(
+    rt: &R,
     alloc: Global,
     words: &Vec<String>,
     source: &mut S,
     sink: &mut K,
     journal: J,
     pages: P,
+    gate: &G,
 ) -> Finish<J, P>
     // What is read and written, and what a crash leaves now and at any moment before, by the status.
     ensures leaves { (read : List ℕ) × Gave (S.left source.old) (S.left source.new) read × (S.given source.new ≡ S.given source.old + length read)
@@ -87,7 +101,7 @@ pub fn xtc<S: Source, K: Sink, J: Disk + Send, P: Disk + Send>(
         }
     };
     match open_store(alloc, journal, pages) {
-        Ok(store) => run_command(alloc, command, source, sink, store),
+        Ok(store) => run_command(rt, alloc, command, source, sink, store, gate),
         Err(
             StoreFault {
                 fault,
@@ -103,12 +117,14 @@ pub fn xtc<S: Source, K: Sink, J: Disk + Send, P: Disk + Send>(
 }
 
 /// Runs a command over a store that was opened.
-fn run_command<S: Source, K: Sink, J: Disk, P: Disk>(
+fn run_command<R: Threads + Wait + Sync, S: Source, K: Sink, J: Disk, P: Disk, G: Gate + Sync>(
+    rt: &R,
     alloc: Global,
     command: Command<'_>,
     source: &mut S,
     sink: &mut K,
     store: Opened<J, P>,
+    gate: &G,
 ) -> Finish<J, P>
     requires ranges { IsInRange (meant command) }
     requires tree { IsStoredTree store.base }
@@ -128,6 +144,7 @@ fn run_command<S: Source, K: Sink, J: Disk, P: Disk>(
 {
     match command {
         Command::Run => run_store(alloc, source, sink, store),
+        Command::Workers => run_workers(rt, alloc, source, sink, store, gate),
         Command::Put(name) => run_put(alloc, name, source, sink, store),
         Command::Get(name) => run_get(alloc, name, sink, store),
         Command::Query(name, path) => run_query(alloc, name, path, sink, store),

@@ -173,7 +173,7 @@ module _ (empty : StandFor [] [] empty_tree 0) (name : Name) (o : Outcome) (inpu
       element = element;
       of_input = is;
       answered = took_all o text before now _ ran.wrote ∙ ap (λ (p : Progress StoreCall). label_line (label_in p.lines)) did;
-      tree = ap (λ (p : Progress StoreCall). (serial store_meaning (commits p.book) empty_tree).tree) (sym did) ∙ ran.sound.serial.tree ∙ ap (λ (s : State StoreCall). s.tree) ran.sound.state
+      tree = ap (λ (p : Progress StoreCall). (serial store_meaning (commits p.book) empty_tree).tree) (sym did) ∙ ran.sound.book.serial.tree ∙ ap (λ (s : State StoreCall). s.tree) ran.sound.state
           ∙ ap (λ (p : Progress StoreCall). p.state.tree) did ∙ law.tree unrefused;
       stored = all_stand o.new.journal.now.reads o.new.pages.now.reads ran.reads;
       durable = λ journal pages of_journal of_pages. all_stand journal pages (ran.left journal pages of_journal of_pages);

@@ -15,15 +15,22 @@ ghost use Rattle.xtc_callers.specs.NewDocuments.{PutBegun, PutDone, UnlessFailed
 
 use crate::new_store::MemRun;
 use dewey_labels::List;
-use outside_kinds::{MemDisk, MemSink, MemSource};
+use outside_kinds::{MemDisk, MemSink, MemSource, NoGate};
 use outside_traits::Disk;
 use recovery::empty_files_stand_for_the_empty_tree;
 use std::alloc::Global;
+use std::sync::Wait;
+use std::thread::Threads;
 use xtc::{Finish, Status, get_is_dump, put_is_create, xtc};
 
 /// Puts the input as a document into a new store, where the words are `put NAME`.
 /// It isn't JsonML exactly where the whole input is none, unless a call or memory failed; and what is committed is of the whole input.
-pub fn put_into_new_store(alloc: Global, words: &Vec<String>, input: List<u8>) -> MemRun
+pub fn put_into_new_store<R: Threads + Wait + Sync>(
+    rt: &R,
+    alloc: Global,
+    words: &Vec<String>,
+    input: List<u8>,
+) -> MemRun
     ensures not_json { (name : Name) (why : FragmentError) → command_of words.now.items ≡ Some (put name) → result.status ≡ Status.NotJsonMl why
         → element_in input ≡ Err why }
     ensures no_element { (name : Name) (why : FragmentError) → command_of words.now.items ≡ Some (put name) → element_in input ≡ Err why
@@ -46,7 +53,16 @@ pub fn put_into_new_store(alloc: Global, words: &Vec<String>, input: List<u8>) -
         status,
         journal,
         pages,
-    } = xtc(alloc, words, &mut source, &mut sink, journal, pages);
+    } = xtc(
+        rt,
+        alloc,
+        words,
+        &mut source,
+        &mut sink,
+        journal,
+        pages,
+        &NoGate,
+    );
     // Called for its contract: what a read gives is among what a crash leaves.
     let _faults = (journal.faults(), pages.faults());
     MemRun {
@@ -66,7 +82,8 @@ pub struct PutAndGot {
 }
 
 /// Puts the input as a document into a new store, where the words are `put NAME`, and gets it from there, where they are `get NAME`.
-pub fn put_and_get(
+pub fn put_and_get<R: Threads + Wait + Sync>(
+    rt: &R,
     alloc: Global,
     put_words: &Vec<String>,
     get_words: &Vec<String>,
@@ -83,11 +100,20 @@ pub fn put_and_get(
         journal,
         pages,
         ..
-    } = put_into_new_store(alloc, put_words, input);
+    } = put_into_new_store(rt, alloc, put_words, input);
     let mut source = MemSource::new(List::new(alloc), List::new(alloc));
     let mut sink = MemSink::new(alloc, List::new(alloc));
     // Called for its contract: what `get` answers on the plain tree.
     get_is_dump();
-    let Finish { status: got, .. } = xtc(alloc, get_words, &mut source, &mut sink, journal, pages);
+    let Finish { status: got, .. } = xtc(
+        rt,
+        alloc,
+        get_words,
+        &mut source,
+        &mut sink,
+        journal,
+        pages,
+        &NoGate,
+    );
     PutAndGot { put, got, sink }
 }

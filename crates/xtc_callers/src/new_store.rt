@@ -6,10 +6,12 @@ ghost use Rattle.command_words.specs.Commands.{command_of, run};
 ghost use Rattle.xtc_callers.specs.NewStores.{ScriptDone, ScriptBegun};
 
 use dewey_labels::List;
-use outside_kinds::{MemDisk, MemSink, MemSource};
+use outside_kinds::{MemDisk, MemSink, MemSource, NoGate};
 use outside_traits::Disk;
 use recovery::empty_files_stand_for_the_empty_tree;
 use std::alloc::Global;
+use std::sync::Wait;
+use std::thread::Threads;
 use xtc::{Finish, Status, xtc};
 
 /// How a run in memory ended: its status, what it wrote, and the files of its store.
@@ -24,7 +26,12 @@ pub struct MemRun {
 /// Runs a script over the two empty files of a new store, where the words are `run`.
 /// At Done what the script's lines do to the sessions has the replies that were written and a book that is sound, whose transactions are serial,
 /// and the files stand for the tree after them, as they read and as a crash leaves them. At another status some first lines were done.
-pub fn run_new_store(alloc: Global, words: &Vec<String>, script: List<u8>) -> MemRun
+pub fn run_new_store<R: Threads + Wait + Sync>(
+    rt: &R,
+    alloc: Global,
+    words: &Vec<String>,
+    script: List<u8>,
+) -> MemRun
     ensures done { command_of words.now.items ≡ Some run → result.status ≡ Status.Done
         → ScriptDone script result.sink.held (history_of result.journal) (history_of result.pages) }
     ensures begun { command_of words.now.items ≡ Some run → result.status ≢ Status.Usage
@@ -47,7 +54,16 @@ pub fn run_new_store(alloc: Global, words: &Vec<String>, script: List<u8>) -> Me
         status,
         journal,
         pages,
-    } = xtc(alloc, words, &mut source, &mut sink, journal, pages);
+    } = xtc(
+        rt,
+        alloc,
+        words,
+        &mut source,
+        &mut sink,
+        journal,
+        pages,
+        &NoGate,
+    );
     // Called for its contract: what a read gives is among what a crash leaves.
     let _faults = (journal.faults(), pages.faults());
     MemRun {

@@ -7,10 +7,12 @@ ghost use Rattle.std.specs.Prelude.{◌≡◌};
 ghost use Rattle.std.specs.Process.{exit_status};
 ghost use Rattle.xtc.specs.Statuses.{status_number};
 
-use outside_kinds::{FileDisk, StdSink, StdSource};
+use outside_kinds::{FileDisk, NoGate, StdSink, StdSource};
 use std::alloc::Global;
 use std::env::Env;
 use std::process::ExitCode;
+use std::sync::Wait;
+use std::thread::Threads;
 use std::{env, io};
 use store_files::{JournalKind, PagesKind, StoreFile, StoreFiles};
 use xtc::{Finish, Status, xtc};
@@ -18,8 +20,8 @@ use xtc::{Finish, Status, xtc};
 /// What the program ends with where it doesn't get the store's files.
 const NOT_AVAILABLE: u8 = 11;
 
-/// Runs the program's words on the store of the working folder.
-pub fn run_process(rt: &HostRuntime) -> ExitCode {
+/// Runs the program's words on the store of the working folder. `threads` serves workers alone; it is `main` that has it.
+pub fn run_process<T: Threads + Wait + Sync>(rt: &HostRuntime, threads: &T) -> ExitCode {
     let Ok(StoreFiles { journal, pages }) = StoreFiles::open(rt) else {
         return not_available(rt);
     };
@@ -31,12 +33,14 @@ pub fn run_process(rt: &HostRuntime) -> ExitCode {
     let mut sink = StdSink::new(rt.stdout());
     // It has the journal, and with it the lock, up to the end.
     let finish: Finish<StoreFile<FileDisk, JournalKind>, StoreFile<FileDisk, PagesKind>> = xtc(
+        threads,
         rt.alloc(),
         &words,
         &mut source,
         &mut sink,
         journal,
         pages,
+        &NoGate,
     );
     ended(rt, finish.status)
 }

@@ -5,5 +5,5 @@ use std::process::ExitCode;
 use xtc_process::run_process;
 
 fn main(rt: HostRuntime) -> ExitCode {
-    run_process(&rt)
+    run_process(&rt, &rt)
 }

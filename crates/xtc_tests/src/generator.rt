@@ -1,10 +1,12 @@
 //! The command `gen`: over which stores it runs, what it writes, and what it leaves of the files. Its counts are worked by hand from docs/PROFILE.md, "The generator".
 use crate::tests::{CUT, Case, NEW, Outcome, PLAIN, SIXTY, listed, run_case, run_cases, words_of};
 use dewey_labels::List;
-use outside_kinds::{MemDisk, MemSink, MemSource};
+use outside_kinds::{MemDisk, MemSink, MemSource, NoGate};
 use std::alloc::{AllocError, Global};
 use std::process::Abort;
+use std::sync::Wait;
 use std::test::Fail;
+use std::thread::Threads;
 use workload_gen::Script;
 use xtc::xtc;
 
@@ -131,7 +133,7 @@ const FAILING: [(u64, &str, &str); 6] = [
 
 /// Runs `get gen` on a journal.
 fn get_gen<'x>(
-    rt: &impl Abort,
+    rt: &(impl Abort + Threads + Wait + Sync),
     alloc: Global,
     journal: &'x [u8],
     status: &'x str,
@@ -148,7 +150,7 @@ fn get_gen<'x>(
 }
 
 fn got_after(
-    rt: &impl Abort,
+    rt: &(impl Abort + Threads + Wait + Sync),
     alloc: Global,
     call: u64,
     status: &str,
@@ -184,13 +186,27 @@ fn script(alloc: Global) -> Result<String, AllocError> {
 }
 
 /// The journal that a run over a new store leaves.
-fn left(alloc: Global, words: &str, input: &str) -> Result<Vec<u8>, AllocError> {
+fn left(
+    rt: &(impl Abort + Threads + Wait + Sync),
+    alloc: Global,
+    words: &str,
+    input: &str,
+) -> Result<Vec<u8>, AllocError> {
     let words = words_of(alloc, words)?;
     let mut source = MemSource::new(listed(alloc, input.as_bytes())?, List::new(alloc));
     let mut sink = MemSink::new(alloc, List::new(alloc));
     let journal = MemDisk::new(List::new(alloc), List::new(alloc));
     let pages = MemDisk::new(List::new(alloc), List::new(alloc));
-    let finish = xtc(alloc, &words, &mut source, &mut sink, journal, pages);
+    let finish = xtc(
+        rt,
+        alloc,
+        &words,
+        &mut source,
+        &mut sink,
+        journal,
+        pages,
+        &NoGate,
+    );
     Vec::from_slice(alloc, finish.journal.bytes())
 }
 
@@ -198,8 +214,8 @@ fn left(alloc: Global, words: &str, input: &str) -> Result<Vec<u8>, AllocError> 
 fn it_leaves_the_bytes_that_its_script_leaves(rt: HostRuntime) -> Result<(), Fail> {
     let alloc = rt.alloc();
     let text = script(alloc)?;
-    let ran = left(alloc, "run", text.as_str())?;
-    let generated = left(alloc, "gen 7 20", "")?;
+    let ran = left(&rt, alloc, "run", text.as_str())?;
+    let generated = left(&rt, alloc, "gen 7 20", "")?;
     assert_eq!(rt; generated, ran);
     Ok(())
 }

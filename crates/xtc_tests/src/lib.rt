@@ -16,3 +16,5 @@ mod real_files;
 mod sessions;
 #[cfg(test)]
 mod tests;
+#[cfg(test)]
+mod workers;

@@ -4,7 +4,9 @@ use crate::sessions::{Row, run_rows};
 use crate::tests::{CUT, Case, NEW, PLAIN, run_case, run_case_on, words_of, written_out};
 use std::alloc::{AllocError, Global};
 use std::process::Abort;
+use std::sync::Wait;
 use std::test::Fail;
+use std::thread::Threads;
 
 const FINDS: &[Row<'static>] = &[
     // A path that finds nothing is kept: whoever would make it find something waits until its transaction ends.
@@ -326,7 +328,7 @@ fn words_of_query(alloc: Global, row: &Query<'_>) -> Result<Vec<String>, AllocEr
 
 /// Runs a query over a journal: it ends and writes as the row says, and the journal's bytes stay.
 fn run_query<'x>(
-    rt: &impl Abort,
+    rt: &(impl Abort + Threads + Wait + Sync),
     alloc: Global,
     journal: &'x [u8],
     row: &Query<'x>,
@@ -342,7 +344,7 @@ fn run_query<'x>(
 }
 
 fn run_queries<'x>(
-    rt: &impl Abort,
+    rt: &(impl Abort + Threads + Wait + Sync),
     alloc: Global,
     journal: &'x [u8],
     rows: &[Query<'x>],
@@ -353,7 +355,7 @@ fn run_queries<'x>(
     Ok(())
 }
 
-fn run_in_prices(rt: &impl Abort, alloc: Global) -> Result<(), Fail> {
+fn run_in_prices(rt: &(impl Abort + Threads + Wait + Sync), alloc: Global) -> Result<(), Fail> {
     let store = run_case(rt, alloc, &PRICES)?;
     run_queries(rt, alloc, &store.journal, IN_PRICES)
 }

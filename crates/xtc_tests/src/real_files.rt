@@ -1,10 +1,12 @@
 //! The whole program over the real files of a store, which are opened anew for each command.
 use crate::tests::{SIXTY, listed, told, words_of};
 use dewey_labels::List;
-use outside_kinds::{MemSink, MemSource};
+use outside_kinds::{MemSink, MemSource, NoGate};
 use outside_traits::Disk;
 use std::alloc::{AllocError, Global};
+use std::sync::Wait;
 use std::test::Fail;
+use std::thread::Threads;
 use store_files::StoreFiles;
 use xtc::xtc;
 
@@ -13,12 +15,26 @@ fn source_of(alloc: Global, input: &[u8]) -> Result<MemSource, AllocError> {
 }
 
 /// How a command ends over the files of the working folder, and then what it writes.
-fn run(rt: &HostRuntime, words: &str, input: &[u8]) -> Result<Vec<u8>, Fail> {
+fn run<T: Threads + Wait + Sync>(
+    rt: &HostRuntime,
+    threads: &T,
+    words: &str,
+    input: &[u8],
+) -> Result<Vec<u8>, Fail> {
     let words = words_of(rt.alloc(), words)?;
     let mut source = source_of(rt.alloc(), input)?;
     let mut sink = MemSink::new(rt.alloc(), List::new(rt.alloc()));
     let StoreFiles { journal, pages } = StoreFiles::open(rt)?;
-    let finish = xtc(rt.alloc(), &words, &mut source, &mut sink, journal, pages);
+    let finish = xtc(
+        threads,
+        rt.alloc(),
+        &words,
+        &mut source,
+        &mut sink,
+        journal,
+        pages,
+        &NoGate,
+    );
     Ok(told(rt.alloc(), &finish.status, sink.bytes())?)
 }
 
@@ -31,17 +47,22 @@ fn journal(rt: &HostRuntime) -> Result<([u8; 60], Option<u64>), Fail> {
 }
 
 /// Each command with its input, and how it ends and what it writes.
-const COMMANDS: [(&str, &[u8], &[u8]); 4] = [
+const COMMANDS: [(&str, &[u8], &[u8]); 5] = [
     ("get x", b"", b"10 Call(Dom(8))"),
     ("put x", b"[\"a\"]", b"0 \"1.1001\"\n"),
     ("get x", b"", b"0 [\"a\"]\n"),
     ("put x", b"[\"b\"]", b"10 Call(DocumentExists)"),
+    (
+        "workers",
+        b"{\"s\":1,\"call\":\"commit\"}",
+        b"0 {\"err\":{\"name\":\"NoTransaction\"},\"s\":1}\n{\"order\":[]}\n",
+    ),
 ];
 
 #[test]
 fn a_document_is_there_when_the_files_are_opened_again(rt: HostRuntime) -> Result<(), Fail> {
     for (words, input, want) in &COMMANDS {
-        assert_eq!(rt; run(&rt, words, input)?.as_slice(), *want, "{words}");
+        assert_eq!(rt; run(&rt, &rt, words, input)?.as_slice(), *want, "{words}");
     }
     let (bytes, len) = journal(&rt)?;
     assert_eq!(rt; (bytes.as_slice(), len), (SIXTY, Some(60)));

@@ -2,7 +2,9 @@
 use crate::tests::{Case, Outcome, PLAIN, run_case};
 use std::alloc::{AllocError, Global};
 use std::process::Abort;
+use std::sync::Wait;
 use std::test::Fail;
+use std::thread::Threads;
 
 /// The tree of the document x, a script on a store of it alone, and one on the store that this leaves.
 /// The replies to a line stand below it, set in, and all is as `written_out` has it. Session 1 has committed as number 1 and begun once.
@@ -565,7 +567,7 @@ fn with_document(alloc: Global, tree: &str) -> Result<Script, AllocError> {
 
 /// Runs a script over a journal of these bytes: it has the replies that stand below its lines.
 fn run_answered<'x>(
-    rt: &impl Abort,
+    rt: &(impl Abort + Threads + Wait + Sync),
     alloc: Global,
     script: &'x Script,
     journal: &'x [u8],
@@ -580,14 +582,24 @@ fn run_answered<'x>(
 }
 
 /// Runs a script on a store with a document of the tree alone.
-fn run_first(rt: &impl Abort, alloc: Global, tree: &str, script: &str) -> Result<Outcome, Fail> {
+fn run_first(
+    rt: &(impl Abort + Threads + Wait + Sync),
+    alloc: Global,
+    tree: &str,
+    script: &str,
+) -> Result<Outcome, Fail> {
     let mut first = with_document(alloc, tree)?;
     first.add(script)?;
     run_answered(rt, alloc, &first, b"")
 }
 
 /// Runs a script on the store that a run has left.
-fn run_then(rt: &impl Abort, alloc: Global, left: &Outcome, script: &str) -> Result<(), Fail> {
+fn run_then(
+    rt: &(impl Abort + Threads + Wait + Sync),
+    alloc: Global,
+    left: &Outcome,
+    script: &str,
+) -> Result<(), Fail> {
     let mut then = Script::new(alloc);
     then.add(script)?;
     let _found = run_answered(rt, alloc, &then, &left.journal)?;
@@ -595,7 +607,7 @@ fn run_then(rt: &impl Abort, alloc: Global, left: &Outcome, script: &str) -> Res
 }
 
 fn run_both(
-    rt: &impl Abort,
+    rt: &(impl Abort + Threads + Wait + Sync),
     alloc: Global,
     tree: &str,
     script: &str,
@@ -605,11 +617,19 @@ fn run_both(
     run_then(rt, alloc, &left, then)
 }
 
-fn run_row(rt: &impl Abort, alloc: Global, row: &Row<'_>) -> Result<(), Fail> {
+fn run_row(
+    rt: &(impl Abort + Threads + Wait + Sync),
+    alloc: Global,
+    row: &Row<'_>,
+) -> Result<(), Fail> {
     run_both(rt, alloc, row.tree, row.script, row.then)
 }
 
-pub fn run_rows(rt: &impl Abort, alloc: Global, rows: &[Row<'_>]) -> Result<(), Fail> {
+pub fn run_rows(
+    rt: &(impl Abort + Threads + Wait + Sync),
+    alloc: Global,
+    rows: &[Row<'_>],
+) -> Result<(), Fail> {
     for row in rows {
         run_row(rt, alloc, row)?;
     }
@@ -697,12 +717,18 @@ const GAP_THEN: &str = r#"
  {"ok":["a",["b"]@251 ,["p"]@@251 ,["q"]@,["c"]],"s":1}
 "#;
 
-fn run_before_the_first(rt: &impl Abort, alloc: Global) -> Result<(), Fail> {
+fn run_before_the_first(
+    rt: &(impl Abort + Threads + Wait + Sync),
+    alloc: Global,
+) -> Result<(), Fail> {
     let script = before_the_first(alloc)?;
     run_both(rt, alloc, r#"["a",["b"]]"#, &script, FIRST_THEN)
 }
 
-fn run_in_a_narrowing_gap(rt: &impl Abort, alloc: Global) -> Result<(), Fail> {
+fn run_in_a_narrowing_gap(
+    rt: &(impl Abort + Threads + Wait + Sync),
+    alloc: Global,
+) -> Result<(), Fail> {
     let script = in_a_narrowing_gap(alloc)?;
     run_both(rt, alloc, r#"["a",["b"],["c"]]"#, &script, GAP_THEN)
 }

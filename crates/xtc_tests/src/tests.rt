@@ -1,9 +1,11 @@
 use crate::in_pieces::InPieces;
 use dewey_labels::List;
-use outside_kinds::{MemDisk, MemSink, MemSource};
+use outside_kinds::{MemDisk, MemSink, MemSource, NoGate};
 use std::alloc::{AllocError, Global};
 use std::process::Abort;
+use std::sync::Wait;
 use std::test::Fail;
+use std::thread::Threads;
 use xtc::{Finish, Status, xtc};
 
 /// A run of the program: its words, its input and files, what fails of them, and what comes of it. Its texts are as `written_out` has them.
@@ -141,12 +143,18 @@ pub fn words_of(alloc: Global, text: &str) -> Result<Vec<String>, AllocError> {
 }
 
 /// Runs the program, where this call of the journal's file fails.
-fn run(alloc: Global, case: &Case<'_>, call: u64) -> Result<Outcome, AllocError> {
+pub fn run(
+    rt: &(impl Abort + Threads + Wait + Sync),
+    alloc: Global,
+    case: &Case<'_>,
+    call: u64,
+) -> Result<Outcome, AllocError> {
     let words = words_of(alloc, case.words)?;
-    run_words(alloc, case, call, &words)
+    run_words(rt, alloc, case, call, &words)
 }
 
 fn run_words(
+    rt: &(impl Abort + Threads + Wait + Sync),
     alloc: Global,
     case: &Case<'_>,
     call: u64,
@@ -154,11 +162,12 @@ fn run_words(
 ) -> Result<Outcome, AllocError> {
     let mut source = source_of(alloc, case)?;
     let mut sink = sink_of(alloc, case)?;
-    let finish = finish_of(alloc, case, call, words, &mut source, &mut sink)?;
+    let finish = finish_of(rt, alloc, case, call, words, &mut source, &mut sink)?;
     outcome_of(alloc, &finish, sink.inner.bytes())
 }
 
 fn finish_of(
+    rt: &(impl Abort + Threads + Wait + Sync),
     alloc: Global,
     case: &Case<'_>,
     call: u64,
@@ -168,7 +177,7 @@ fn finish_of(
 ) -> Result<Finish<MemDisk, MemDisk>, AllocError> {
     let journal = disk(alloc, case.journal, call)?;
     let pages = disk(alloc, case.pages, case.pages_call)?;
-    Ok(xtc(alloc, words, source, sink, journal, pages))
+    Ok(xtc(rt, alloc, words, source, sink, journal, pages, &NoGate))
 }
 
 fn outcome_of(
@@ -187,6 +196,7 @@ fn outcome_of(
 
 /// Runs the script on a journal, one call of which fails, 0 where none does.
 fn run_on<'x>(
+    rt: &(impl Abort + Threads + Wait + Sync),
     alloc: Global,
     input: &'x str,
     journal: &'x [u8],
@@ -197,19 +207,24 @@ fn run_on<'x>(
         journal,
         ..PLAIN
     };
-    run(alloc, &case, call)
+    run(rt, alloc, &case, call)
 }
 
 /// The number of a call behind those of the journal's opening, 0 where none is meant.
-fn behind_opening(alloc: Global, journal: &[u8], call: u64) -> Result<u64, AllocError> {
+pub fn behind_opening(
+    rt: &(impl Abort + Threads + Wait + Sync),
+    alloc: Global,
+    journal: &[u8],
+    call: u64,
+) -> Result<u64, AllocError> {
     if call == 0 {
         return Ok(0);
     }
-    let opened = run_on(alloc, "", journal, 0)?;
+    let opened = run_on(rt, alloc, "", journal, 0)?;
     Ok(opened.journal_calls.saturating_add(call))
 }
 
-fn agree(rt: &impl Abort, case: &Case<'_>, found: &[u8], wanted: &[u8]) {
+fn agree(rt: &(impl Abort + Threads + Wait + Sync), case: &Case<'_>, found: &[u8], wanted: &[u8]) {
     assert_eq!(rt; found, wanted, "{}: {}", case.words, case.status);
 }
 
@@ -223,31 +238,40 @@ fn wanted(alloc: Global, case: &Case<'_>) -> Result<Vec<u8>, AllocError> {
 }
 
 /// Runs the program on these words, where the calls that the case says fail.
-fn run_as(alloc: Global, case: &Case<'_>, words: &Vec<String>) -> Result<Outcome, AllocError> {
-    let later = behind_opening(alloc, case.journal, case.later_call)?;
-    run_words(alloc, case, case.journal_call.max(later), words)
+fn run_as(
+    rt: &(impl Abort + Threads + Wait + Sync),
+    alloc: Global,
+    case: &Case<'_>,
+    words: &Vec<String>,
+) -> Result<Outcome, AllocError> {
+    let later = behind_opening(rt, alloc, case.journal, case.later_call)?;
+    run_words(rt, alloc, case, case.journal_call.max(later), words)
 }
 
 /// Runs the program: it ends, writes and leaves what the case says.
-pub fn run_case(rt: &impl Abort, alloc: Global, case: &Case<'_>) -> Result<Outcome, Fail> {
+pub fn run_case(
+    rt: &(impl Abort + Threads + Wait + Sync),
+    alloc: Global,
+    case: &Case<'_>,
+) -> Result<Outcome, Fail> {
     let words = words_of(alloc, case.words)?;
     run_case_on(rt, alloc, case, &words)
 }
 
 /// The same on words that may have blanks in them.
 pub fn run_case_on(
-    rt: &impl Abort,
+    rt: &(impl Abort + Threads + Wait + Sync),
     alloc: Global,
     case: &Case<'_>,
     words: &Vec<String>,
 ) -> Result<Outcome, Fail> {
-    let outcome = run_as(alloc, case, words)?;
+    let outcome = run_as(rt, alloc, case, words)?;
     agree_on_end(rt, alloc, case, &outcome)?;
     Ok(outcome)
 }
 
 fn agree_on_end(
-    rt: &impl Abort,
+    rt: &(impl Abort + Threads + Wait + Sync),
     alloc: Global,
     case: &Case<'_>,
     outcome: &Outcome,
@@ -261,23 +285,31 @@ fn agree_on_end(
 }
 
 /// Runs `get x` on a journal.
-fn get_x(alloc: Global, journal: &[u8]) -> Result<Outcome, AllocError> {
+fn get_x(
+    rt: &(impl Abort + Threads + Wait + Sync),
+    alloc: Global,
+    journal: &[u8],
+) -> Result<Outcome, AllocError> {
     let case = Case {
         words: "get x",
         journal,
         ..PLAIN
     };
-    run(alloc, &case, 0)
+    run(rt, alloc, &case, 0)
 }
 
-fn run_and_get(rt: &impl Abort, alloc: Global, case: &Case<'_>) -> Result<(), Fail> {
+fn run_and_get(
+    rt: &(impl Abort + Threads + Wait + Sync),
+    alloc: Global,
+    case: &Case<'_>,
+) -> Result<(), Fail> {
     let outcome = run_case(rt, alloc, case)?;
     Ok(agree_then(rt, alloc, case, &outcome.journal)?)
 }
 
 /// Where the case asks it, `get x` tells of the journal what the case says.
 fn agree_then(
-    rt: &impl Abort,
+    rt: &(impl Abort + Threads + Wait + Sync),
     alloc: Global,
     case: &Case<'_>,
     journal: &[u8],
@@ -286,12 +318,16 @@ fn agree_then(
         return Ok(());
     }
     let then = written_out(alloc, case.then)?;
-    let found = get_x(alloc, journal)?;
+    let found = get_x(rt, alloc, journal)?;
     agree(rt, case, &found.told, then.as_bytes());
     Ok(())
 }
 
-pub fn run_cases(rt: &impl Abort, alloc: Global, cases: &[Case<'_>]) -> Result<(), Fail> {
+pub fn run_cases(
+    rt: &(impl Abort + Threads + Wait + Sync),
+    alloc: Global,
+    cases: &[Case<'_>],
+) -> Result<(), Fail> {
     for case in cases {
         run_and_get(rt, alloc, case)?;
     }
@@ -553,7 +589,11 @@ const OTHERS: &[&str] = &[
     "query -x a",
 ];
 
-fn is_usage(rt: &impl Abort, alloc: Global, words: &str) -> Result<(), Fail> {
+fn is_usage(
+    rt: &(impl Abort + Threads + Wait + Sync),
+    alloc: Global,
+    words: &str,
+) -> Result<(), Fail> {
     let case = Case {
         words,
         input: CREATE,
@@ -565,12 +605,16 @@ fn is_usage(rt: &impl Abort, alloc: Global, words: &str) -> Result<(), Fail> {
 }
 
 /// The more calls that a run makes of one of its disks.
-fn calls_of(rt: &impl Abort, alloc: Global, case: &Case<'_>) -> Result<u64, Fail> {
+fn calls_of(
+    rt: &(impl Abort + Threads + Wait + Sync),
+    alloc: Global,
+    case: &Case<'_>,
+) -> Result<u64, Fail> {
     let outcome = run_case(rt, alloc, case)?;
     Ok(outcome.journal_calls.max(outcome.pages_calls))
 }
 
-fn run_others(rt: &impl Abort, alloc: Global) -> Result<(), Fail> {
+fn run_others(rt: &(impl Abort + Threads + Wait + Sync), alloc: Global) -> Result<(), Fail> {
     for words in OTHERS {
         is_usage(rt, alloc, words)?;
     }
@@ -578,8 +622,8 @@ fn run_others(rt: &impl Abort, alloc: Global) -> Result<(), Fail> {
 }
 
 /// No word at all is no command.
-fn no_words(rt: &impl Abort, alloc: Global) -> Result<(), Fail> {
-    let outcome = run_words(alloc, &PLAIN, 0, &Vec::new(alloc))?;
+fn no_words(rt: &(impl Abort + Threads + Wait + Sync), alloc: Global) -> Result<(), Fail> {
+    let outcome = run_words(rt, alloc, &PLAIN, 0, &Vec::new(alloc))?;
     assert_eq!(rt; outcome.told.as_slice(), b"2 xtc: usage".as_slice());
     assert_eq!(rt; (outcome.journal_calls, outcome.pages_calls), (0, 0));
     Ok(())
@@ -624,24 +668,36 @@ fn found_at(text: &[u8]) -> Option<usize> {
 }
 
 /// How many of the commits a journal holds, if it holds a prefix of them.
-fn found_in(alloc: Global, journal: &[u8]) -> Result<Option<usize>, AllocError> {
-    let outcome = run_on(alloc, WHICH, journal, 0)?;
+fn found_in(
+    rt: &(impl Abort + Threads + Wait + Sync),
+    alloc: Global,
+    journal: &[u8],
+) -> Result<Option<usize>, AllocError> {
+    let outcome = run_on(rt, alloc, WHICH, journal, 0)?;
     Ok(outcome.told.strip_prefix(b"0 ").and_then(found_at))
 }
 
-fn commits_in(alloc: Global, journal: &[u8]) -> Result<usize, Fail> {
-    match found_in(alloc, journal)? {
+fn commits_in(
+    rt: &(impl Abort + Threads + Wait + Sync),
+    alloc: Global,
+    journal: &[u8],
+) -> Result<usize, Fail> {
+    match found_in(rt, alloc, journal)? {
         Some(count) => Ok(count),
         None => Err(Fail::from("the files hold no prefix of the commits")),
     }
 }
 
 /// The fewest and the most commits that images of a journal hold.
-fn commits_among(alloc: Global, images: &[List<u8>]) -> Result<(usize, usize), Fail> {
+fn commits_among(
+    rt: &(impl Abort + Threads + Wait + Sync),
+    alloc: Global,
+    images: &[List<u8>],
+) -> Result<(usize, usize), Fail> {
     let mut least = usize::MAX;
     let mut most = 0;
     for image in images {
-        let count = commits_in(alloc, image.as_slice())?;
+        let count = commits_in(rt, alloc, image.as_slice())?;
         least = least.min(count);
         most = most.max(count);
     }
@@ -649,9 +705,14 @@ fn commits_among(alloc: Global, images: &[List<u8>]) -> Result<(usize, usize), F
 }
 
 /// The fewest and the most commits that a crash in a call of the journal's disk leaves.
-fn commits_after_stop(alloc: Global, journal: &MemDisk, call: u64) -> Result<(usize, usize), Fail> {
+fn commits_after_stop(
+    rt: &(impl Abort + Threads + Wait + Sync),
+    alloc: Global,
+    journal: &MemDisk,
+    call: u64,
+) -> Result<(usize, usize), Fail> {
     let images = journal.stop_images(alloc, call)?;
-    commits_among(alloc, images.as_slice())
+    commits_among(rt, alloc, images.as_slice())
 }
 
 /// A call behind those of the opening, four a commit, and how few and many commits are found where it doesn't come to its end.
@@ -701,19 +762,23 @@ const STOPS: &[Stop] = &[
 
 /// A crash in the call, or behind it where it fails, leaves as many commits as the row says.
 fn crash_leaves(
-    rt: &impl Abort,
+    rt: &(impl Abort + Threads + Wait + Sync),
     alloc: Global,
     journal: &MemDisk,
     call: u64,
     stop: &Stop,
 ) -> Result<(), Fail> {
-    let found = commits_after_stop(alloc, journal, call)?;
+    let found = commits_after_stop(rt, alloc, journal, call)?;
     assert_eq!(rt; found, (stop.least, stop.most), "at call {}", stop.call);
     Ok(())
 }
 
 /// Makes the three commits on a new journal, one call of which fails, 0 where none does.
-fn commit_three(alloc: Global, call: u64) -> Result<Finish<MemDisk, MemDisk>, AllocError> {
+fn commit_three(
+    rt: &(impl Abort + Threads + Wait + Sync),
+    alloc: Global,
+    call: u64,
+) -> Result<Finish<MemDisk, MemDisk>, AllocError> {
     let case = Case {
         input: THREE,
         journal: NEW,
@@ -722,33 +787,47 @@ fn commit_three(alloc: Global, call: u64) -> Result<Finish<MemDisk, MemDisk>, Al
     let words = words_of(alloc, case.words)?;
     let mut source = source_of(alloc, &case)?;
     let mut sink = sink_of(alloc, &case)?;
-    finish_of(alloc, &case, call, &words, &mut source, &mut sink)
+    finish_of(rt, alloc, &case, call, &words, &mut source, &mut sink)
 }
 
-fn fault_leaves(rt: &impl Abort, alloc: Global, call: u64, stop: &Stop) -> Result<(), Fail> {
-    let failed = commit_three(alloc, call)?;
+fn fault_leaves(
+    rt: &(impl Abort + Threads + Wait + Sync),
+    alloc: Global,
+    call: u64,
+    stop: &Stop,
+) -> Result<(), Fail> {
+    let failed = commit_three(rt, alloc, call)?;
     assert_eq!(rt; failed.status.number(), 7);
     let after = failed.journal.calls().saturating_add(1);
     crash_leaves(rt, alloc, &failed.journal, after, stop)
 }
 
 /// A crash in the call, or behind it where it fails, leaves as many commits as the row says.
-fn run_stop(rt: &impl Abort, alloc: Global, whole: &MemDisk, stop: &Stop) -> Result<(), Fail> {
-    let call = behind_opening(alloc, NEW, stop.call)?;
+fn run_stop(
+    rt: &(impl Abort + Threads + Wait + Sync),
+    alloc: Global,
+    whole: &MemDisk,
+    stop: &Stop,
+) -> Result<(), Fail> {
+    let call = behind_opening(rt, alloc, NEW, stop.call)?;
     crash_leaves(rt, alloc, whole, call, stop)?;
     fault_leaves(rt, alloc, call, stop)
 }
 
-fn run_stops(rt: &impl Abort, alloc: Global, whole: &MemDisk) -> Result<(), Fail> {
+fn run_stops(
+    rt: &(impl Abort + Threads + Wait + Sync),
+    alloc: Global,
+    whole: &MemDisk,
+) -> Result<(), Fail> {
     for stop in STOPS {
         run_stop(rt, alloc, whole, stop)?;
     }
     Ok(())
 }
 
-fn run_three(rt: &impl Abort, alloc: Global) -> Result<(), Fail> {
-    let calls = behind_opening(alloc, NEW, 12)?;
-    let whole = commit_three(alloc, 0)?;
+fn run_three(rt: &(impl Abort + Threads + Wait + Sync), alloc: Global) -> Result<(), Fail> {
+    let calls = behind_opening(rt, alloc, NEW, 12)?;
+    let whole = commit_three(rt, alloc, 0)?;
     assert_eq!(rt; whole.journal.calls(), calls);
     run_stops(rt, alloc, &whole.journal)
 }

@@ -11,7 +11,7 @@ use Rattle.xtc.proofs.generator.run_lines.Goals as goal
 pub loop-line-init : goal.loop-line-init
 loop-line-init g c = record {
   run = λ s stands. none_run g.B.NodeRead.contents g.J.Disk.is_known s c.args.script.now c.args.core.now c.args.journal.now.history c.args.summary.now stands;
-  may = c.requires.may;
+  takes = c.requires.takes;
   no_fault = refl;
 }
 
@@ -32,7 +32,7 @@ loop-line-preserved g c =
           (c.in_ok-run_line.ensures.asked (here g.B.NodeRead.contents g.J.Disk.is_known s c.args.script.now left c.in-Some.line c.args.journal.now.history mid c.loop-line.core c.args.summary.now c.loop-line.summary (run s stands))
           (here_stands g.B.NodeRead.contents g.J.Disk.is_known s c.args.script.now left c.in-Some.line c.args.journal.now.history mid c.loop-line.core c.args.summary.now c.loop-line.summary (run s stands)))
           c.in_ok-run_line.ensures.counted;
-      may = c.in_ok-run_line.ensures.may;
+      takes = c.in_ok-run_line.ensures.takes;
       no_fault = c.in_ok-run_line.ensures.counts.exact (λ is. cc) ∙ inv.no_fault;
     }
 

@@ -1,7 +1,7 @@
 use Rattle.std.proofs.Common.{◌≡◌, length}
 use Rattle.call_contract.specs.States.{State}
 use Rattle.command_lines.specs.declared.command.StoreCall.{StoreCall}
-use Rattle.durable_sessions.specs.Asked.{MayBeAsked, counts_of}
+use Rattle.durable_sessions.specs.Asked.{TakesNext, counts_of}
 use Rattle.durable_sessions.specs.Standing.{Stands}
 use Rattle.store_calls.specs.StoreCalls.{store_meaning}
 use Rattle.xtc.specs.inside.Counting.{HasRun}
@@ -11,7 +11,7 @@ use Rattle.xtc.proofs.generator.run_lines.Given as goal
 abbrev pub invariant-loop-line : goal.invariant-loop-line
 invariant-loop-line g l = record {
   run : (s : State StoreCall) → Stands store_meaning g.B.NodeRead.contents l.fn.core s → HasRun g.B.NodeRead.contents g.J.Disk.is_known s l.fn.script l.script l.fn.journal.history l.core l.journal.history l.fn.summary l.summary;
-  may : MayBeAsked store_meaning g.B.NodeRead.contents l.core l.journal;
+  takes : TakesNext l.core l.journal;
   no_fault : counts_of g.B.NodeRead.count l.core l.journal ≡ counts_of g.B.NodeRead.count l.fn.core l.fn.journal;
 }
 

@@ -20,7 +20,7 @@ use Rattle.xtc.specs.inside.Asking.{Stopped, said}
 use Rattle.xtc.specs.inside.Counting.{AllCounted}
 use Rattle.durable_sessions.proofs.InTurnLaws.{stopped_behind}
 use Rattle.xtc.proofs.CountingLaws.{documents_refused, no_document, script_asked, some_document}
-use Rattle.xtc.proofs.DocumentLaws.{core_stands, document_answered, document_stopped, done_err, may_begin, not_opened}
+use Rattle.xtc.proofs.DocumentLaws.{core_stands, document_answered, document_stopped, done_err, takes_begin, not_opened}
 use Rattle.xtc.proofs.generator.run_script.Goals as goal
 
 pub returns-then-not-is_empty-clause-done : goal.returns-then-not-is_empty-clause-done
@@ -33,7 +33,7 @@ returns-in_err-core-clause-done g c = λ t is.
     not_opened c.from_residual.result c.in_err-core.field-0.0 g.J.Disk.is_known (start t c.args.number tx_limit) (gen c.args.seed c.args.count) [] c.args.journal.now.history (λ text. text.items) (omega arith) c.in_err-core.ensures.err c.from_residual.ensures.1
 
 pub run_lines-requires : goal.run_lines-requires
-run_lines-requires g c = record { may = may_begin c.args.base c.args.number tx_limit c.in_ok-core.core c.args.journal.now c.in_ok-core.ensures.ok c.requires.tree c.requires.next }
+run_lines-requires g c = record { takes = takes_begin c.args.base c.args.number tx_limit c.in_ok-core.core c.args.journal.now c.in_ok-core.ensures.ok c.requires.next }
 
 pub returns-in_err-run_lines-clause-done : goal.returns-in_err-run_lines-clause-done
 returns-in_err-run_lines-clause-done g c = λ t is.

@@ -16,6 +16,18 @@ returns-in-Run g c =
     let left : Disks = record { files = pair_of (g.J.Disk.history result.journal) (g.P.Disk.history result.pages); faults = record { journal = g.J.Disk.faults result.journal; pages = g.P.Disk.faults result.pages } } in
     subst (λ (command : Command). RunsCommand g.J.Disk.is_known g.P.Disk.is_known store.base store.number command result.status input input_now output output_now before left) (sym (ap meant c.in-Run.is)) c.run_store.ensures
 
+pub returns-in-Workers : goal.returns-in-Workers
+returns-in-Workers g c =
+    let store = c.args.store in
+    let result = c.run_workers.result in
+    let input : Input = record { left = g.S.Source.left c.args.source.now; given = g.S.Source.given c.args.source.now; asked = g.S.Source.asked c.args.source.now; faults = g.S.Source.faults c.args.source.now } in
+    let input_now : Input = record { left = g.S.Source.left c.run_workers.new.source; given = g.S.Source.given c.run_workers.new.source; asked = g.S.Source.asked c.run_workers.new.source; faults = g.S.Source.faults c.run_workers.new.source } in
+    let output : Output = record { held = g.K.Sink.held c.args.sink.now; faults = g.K.Sink.faults c.args.sink.now } in
+    let output_now : Output = record { held = g.K.Sink.held c.run_workers.new.sink; faults = g.K.Sink.faults c.run_workers.new.sink } in
+    let before : Disks = record { files = pair_of store.journal.history (g.P.Disk.history store.pages); faults = record { journal = store.journal.faults; pages = g.P.Disk.faults store.pages } } in
+    let left : Disks = record { files = pair_of (g.J.Disk.history result.journal) (g.P.Disk.history result.pages); faults = record { journal = g.J.Disk.faults result.journal; pages = g.P.Disk.faults result.pages } } in
+    subst (λ (command : Command). RunsCommand g.J.Disk.is_known g.P.Disk.is_known store.base store.number command result.status input input_now output output_now before left) (sym (ap meant c.in-Workers.is)) c.run_workers.ensures
+
 pub returns-in-Put : goal.returns-in-Put
 returns-in-Put g c =
     let store = c.args.store in

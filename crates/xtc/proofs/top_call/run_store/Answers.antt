@@ -1,28 +1,26 @@
 use Rattle.std.proofs.Common.{◌≡◌, ◌&&◌, refl, sym, subst, ap, ◌∙◌}
 use Rattle.std.specs.Prelude.{Some}
 use Rattle.outside_traits.specs.DiskPairs.{pair_of}
-use Rattle.script_runs.specs.Machine.{IsReady}
+use Rattle.durable_sessions.specs.Asked.{TakesNext}
 use Rattle.command_words.specs.Commands.{run}
 use Rattle.xtc.specs.StoreMachine.{KeptStore, store_machine}
 use Rattle.xtc.specs.TopCall.{tx_limit}
 use Rattle.xtc.specs.declared.top_call.Finish.{Finish}
 use Rattle.xtc.specs.inside.CommandRuns.{Input, Output, Disks, RunsCommand}
 use Rattle.xtc.proofs.CommandRunLaws.{disks_moved, nothing_runs, script_runs}
-use Rattle.xtc.proofs.OpeningLaws.{both_known, opened_core, opened_ready}
+use Rattle.xtc.proofs.OpeningLaws.{both_known, opened_core, opened_takes}
 use Rattle.xtc.proofs.StoreRuns.{store_ran, nothing_ran}
 use Rattle.xtc.proofs.top_call.run_store.Goals as goal
 
 -- the store that runs is the one that was opened
 pub run-run-requires : goal.run-run-requires
 run-run-requires g c =
-    let stored = c.requires.tree in
     let store = c.args.store in
-    let known = g.J.Disk.is_known && g.P.Disk.is_known in
     let first : KeptStore g.row.P.Denot = record { core = opened_core store.base store.number tx_limit; journal = store.journal; pages = store.pages } in
     let same : c.new-2.result ≡ first = c.new-2.ensures ∙ ap (λ core. record { core = core; journal = store.journal; pages = store.pages }) c.in-Ok.ensures.ok in
     record {
-      ready = subst (λ (k : KeptStore g.row.P.Denot). IsReady (store_machine known g.P.Disk.history g.P.Disk.faults) k) (sym same)
-          (opened_ready known g.P.Disk.history g.P.Disk.faults store.base store.number tx_limit store.journal store.pages stored.tree (record { valid = stored.is_valid_tree; map = ap Some (sym stored.map) }) c.requires.next.usable c.requires.next.next);
+      ready = subst (λ (k : KeptStore g.row.P.Denot). TakesNext k.core k.journal) (sym same)
+          (opened_takes (g.J.Disk.is_known && g.P.Disk.is_known) g.P.Disk.history g.P.Disk.faults store.base store.number tx_limit store.journal store.pages c.requires.next.usable c.requires.next.next);
     }
 
 pub returns : goal.returns

@@ -5,7 +5,7 @@ use Rattle.xtc_callers.proofs.NewDocumentLaws.{got_document, put_of}
 use Rattle.xtc_callers.proofs.new_document.put_and_get.Goals as goal
 
 pub returns : goal.returns
-returns c = record {
+returns g c = record {
   kept = λ name element at document put_named get_named is put_done got_done doc dump.
       let run = c.xtc-got.ensures.leaves in
       let done = put_of name element c.args.input _ _ _ is (c.put_into_new_store-put.ensures.done name put_named put_done) in

@@ -13,7 +13,7 @@ use Rattle.xtc_callers.proofs.NewStoreLaws.{not_damaged}
 use Rattle.xtc_callers.proofs.new_document.put_into_new_store.Goals as goal
 
 pub returns : goal.returns
-returns c =
+returns g c =
     let run = c.xtc-status.ensures.leaves in
     let empty = c.empty_files_stand_for_the_empty_tree.ensures in
     let input_is = ap (λ (s : SourceInMemory). Some s.left) c.new-source.ensures in

@@ -10,7 +10,7 @@ use Rattle.xtc_callers.proofs.NewStoreLaws.{script_done, script_begun, not_damag
 use Rattle.xtc_callers.proofs.new_store.run_new_store.Goals as goal
 
 pub returns : goal.returns
-returns c =
+returns g c =
     let run = c.xtc-status.ensures.leaves in
     let empty = c.empty_files_stand_for_the_empty_tree.ensures in
     let script_is = ap (λ (s : SourceInMemory). Some s.left) c.new-source.ensures in

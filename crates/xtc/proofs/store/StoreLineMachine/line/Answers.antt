@@ -1,5 +1,5 @@
 use Rattle.std.proofs.Common.{◌&&◌, OnOk, Err, ap, sym, subst, ◌∙◌}
-use Rattle.script_runs.specs.Machine.{IsSettled, IsReady}
+use Rattle.script_runs.specs.Machine.{IsSettled}
 use Rattle.call_contract.specs.States.{State}
 use Rattle.command_lines.specs.declared.command.StoreCall.{StoreCall}
 use Rattle.xtc.specs.Book.{done_by, IsValidLine}
@@ -7,17 +7,14 @@ use Rattle.xtc.specs.ReadLines.{line_in}
 use Rattle.xtc.specs.ScriptLine.{Line, line_of}
 use Rattle.xtc.specs.StoreMachine.{KeptStore, Stands, store_machine}
 use Rattle.std.specs.Prelude.{Some}
-use Rattle.durable_sessions.specs.Asked.{LeadsTo, LeavesEither, MayBeAsked}
+use Rattle.durable_sessions.specs.Asked.{LeadsTo, LeavesEither, TakesNext}
 use Rattle.store_calls.specs.StoreCalls.{store_meaning}
-use Rattle.xtc.proofs.StoreMachineLaws.{first_known, may_in, ready_out, settled_in, settled_out, moments_out, counts_out}
+use Rattle.xtc.proofs.StoreMachineLaws.{first_known, settled_in, settled_out, moments_out, counts_out}
 use Rattle.xtc.proofs.store.StoreLineMachine.line.Goals as goal
 use Rattle.xtc.proofs.store.StoreLineMachine.line.Goals.{in-Ok-do_line, in-Err-DiskFault, in-Err-NoMemory}
 
 pub do_line-requires : goal.do_line-requires
-do_line-requires g c = record {
-  may = subst (λ (k : KeptStore g.row.P.Denot). MayBeAsked store_meaning Some k.core k.journal) (sym c.self.view_is)
-      (may_in (g.J.Disk.is_known && g.P.Disk.is_known) g.P.Disk.history g.P.Disk.faults c.args.self.now c.requires.ready);
-}
+do_line-requires g c = record { takes = subst (λ (k : KeptStore g.row.P.Denot). TakesNext k.core k.journal) (sym c.self.view_is) c.requires.ready }
 
 pub returns-clause-state : goal.returns-clause-state
 returns-clause-state g c =
@@ -35,17 +32,11 @@ returns-clause-state g c =
 
 pub returns-clause-ready : goal.returns-clause-ready
 returns-clause-ready g c =
-    let known = g.J.Disk.is_known && g.P.Disk.is_known in
-    let machine = store_machine known g.P.Disk.history g.P.Disk.faults in
-    let new : KeptStore g.row.P.Denot = record { core = c.do_line.new.core; journal = c.do_line.new.journal; pages = c.self.inside.pages } in
+    let After : Type 0 = TakesNext c.do_line.new.core c.do_line.new.journal in
     elim c.match-do_line.branch [
-      | in-Ok-do_line w ↦
-          let s = c.requires.ready.state in
-          let led = w.in-Ok-do_line.ensures.state s (subst (λ (k : KeptStore g.row.P.Denot). Stands k.core s) (sym c.self.view_is) c.requires.ready.stands) in
-          let after : IsReady machine new = ready_out known g.P.Disk.history g.P.Disk.faults new (done_by s 0 (line_in c.in-Ok.line)).state led.stands w.in-Ok-do_line.ensures.takes in
-          subst (λ r. OnOk r (IsReady machine new)) (sym w.result-is) after
-      | in-Err-DiskFault w ↦ subst (λ r. OnOk r (IsReady machine new)) (sym w.result-is) tt
-      | in-Err-NoMemory w ↦ subst (λ r. OnOk r (IsReady machine new)) (sym w.result-is) tt
+      | in-Ok-do_line w ↦ subst (λ r. OnOk r After) (sym w.result-is) w.in-Ok-do_line.ensures.takes
+      | in-Err-DiskFault w ↦ subst (λ r. OnOk r After) (sym w.result-is) tt
+      | in-Err-NoMemory w ↦ subst (λ r. OnOk r After) (sym w.result-is) tt
     ]
 
 pub returns-clause-settled : goal.returns-clause-settled
