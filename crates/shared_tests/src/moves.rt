@@ -3,6 +3,7 @@ ghost use Rattle.std.specs.Prelude.{◌≡◌, ◌≢◌};
 ghost use Rattle.shared_store.specs.Sessions.{having_seen};
 
 use crate::line::{Held, Here, Port, Trouble, end_of};
+use crate::plain::sum_behind;
 use crate::spread::{spread, store_with};
 use call_contract::Event;
 use shared_store::Ended;
@@ -12,13 +13,13 @@ use std::thread::{Threads, yield_now};
 use tree_model::Reply;
 
 /// How many texts amounts are moved between.
-const TEXTS: u32 = 8;
+pub const TEXTS: u32 = 8;
 
 /// How often a transaction is tried that deadlocks end.
 const MOST_TIMES: u32 = 1_000_000;
 
 /// The line that makes the amounts, 10,000,000 in each text.
-const CREATE_AMOUNTS: &str =
+pub const CREATE_AMOUNTS: &str =
     "{\"s\":64,\"call\":\"create\",\"name\":\"x\",\"tree\":[\"a\",[\"n\",\"10000000\"],[\"n\",\"10000000\"],[\"n\",\"10000000\"],[\"n\",\"10000000\"],[\"n\",\"10000000\"],[\"n\",\"10000000\"],[\"n\",\"10000000\"],[\"n\",\"10000000\"]]}";
 
 const BEGIN: &str = "{\"s\":64,\"call\":\"begin\"}";
@@ -26,7 +27,7 @@ const BEGIN: &str = "{\"s\":64,\"call\":\"begin\"}";
 const COMMIT: &str = "{\"s\":64,\"call\":\"commit\"}";
 
 /// The label of the text of an amount.
-fn text_label(alloc: Global, index: u32) -> Result<String, Trouble> {
+pub fn text_label(alloc: Global, index: u32) -> Result<String, Trouble> {
     let division = 1001 + 2 * (index % TEXTS);
     Ok(format!(in alloc; "1.1001.1001.{division}.1001")?)
 }
@@ -185,7 +186,7 @@ fn sum_at_end<R: Wait>(rt: &R, alloc: Global, store: &Here, port: &mut Port) -> 
 }
 
 /// The sum of all amounts after so many moves in each of so many threads, at most 63, and the core.
-fn moved<R: Threads + Wait + Sync>(
+pub fn moved<R: Threads + Wait + Sync>(
     rt: &R,
     alloc: Global,
     threads: u32,
@@ -197,15 +198,15 @@ fn moved<R: Threads + Wait + Sync>(
     Ok((sum, store.close(port)))
 }
 
-/// That sum, and how many commits the core has then.
-pub fn commits_after<R: Threads + Wait + Sync>(
+/// That sum, how many commits the core has then, and the sum that a plain model finds behind its book, if it finds it legal and serial.
+pub fn sums_after<R: Threads + Wait + Sync>(
     rt: &R,
     alloc: Global,
     threads: u32,
     moves: u32,
-) -> Result<(u64, usize), Trouble> {
+) -> Result<(u64, usize, Option<u64>), Trouble> {
     let (sum, core) = moved(rt, alloc, threads, moves)?;
-    Ok((sum, commits_in(&core)))
+    Ok((sum, commits_in(&core), sum_behind(alloc, core.book())?))
 }
 
 fn commits_in(core: &Held) -> usize {
