@@ -99,7 +99,8 @@ pub fn answer_script<R: Threads + Wait + Sync, B: NodeRead + Drop + Send, G: Gat
     ensures legal { (t : Tree) → StandsFor (B.contents core.opening) t → IsBookFrom IsValidStoreCall store_meaning t core.number core.limit result.core.book }
     ensures sessions { SessionsFit result.core.book }
     ensures undrained { IfOk result.text (λ _. (result.core.undrained.after ≡ core.number) × HasBodies store_meaning B.contents result.core) }
-    ensures text { IfOk result.text (λ text. (lines : List LineReply) × (text.items ≡ flat_map reply_text lines) × ((t : Tree) → StandsFor (B.contents core.opening) t
+    ensures text { IfOk result.text (λ text. (lines : List LineReply) × (text.items ≡ flat_map reply_text lines)
+        × ((t : Tree) → StandsFor (B.contents core.opening) t
         → IsShownBy store_meaning t core.number core.limit result.core.book (lines_in script.now.entries) lines)) }
 {
     let Ran { core, replies } = run_lines(rt, alloc, core, script.commands(), gate);

@@ -1,5 +1,5 @@
 -- The lines of bytes, one after the other.
-use Rattle.std.proofs.Common.{◌≡◌, ℕ, suc, ◌+◌, List, [], ◌∷◌, ◌++◌, take, drop, refl, sym, ap, ◌∙◌, subst, arith, append_assoc, append-nil, drop-drop}
+use Rattle.std.proofs.Common.{◌≡◌, ℕ, suc, ◌+◌, List, [], ◌∷◌, ◌++◌, take, drop, refl, sym, ap, ◌∙◌, arith, append_assoc, append-nil, drop-drop}
 use Rattle.script_runs.specs.Lines.{ended, unended, last_line, lines_of}
 use Rattle.script_runs.specs.inside.Feeding.{EndsAt, IsInLine}
 use Rattle.script_runs.proofs.FeedingLaws.{ended_in_line, ended_on, unended_in_line, unended_on}

@@ -1,10 +1,10 @@
 -- What is known of an input, piece by piece.
-use Rattle.std.proofs.Common.{◌≡◌, ◌≤◌, ◌+◌, ℕ, suc, List, [], ◌∷◌, ◌++◌, length, take, drop, refl, sym, ap, ◌∙◌, subst, arith, append_assoc, append-nil, take-append-drop}
-use Rattle.std.specs.Prelude.{Option, Some, None, Result, Ok, Err}
+use Rattle.std.proofs.Common.{◌≡◌, ℕ, List, [], ◌∷◌, ◌++◌, refl, sym, ap, ◌∙◌, append_assoc}
+use Rattle.std.specs.Prelude.{Some, None, Result, Err}
 use Rattle.workers_script.specs.Limits.{KeepsLimits, too_long_in}
 use Rattle.workers_script.specs.declared.script_error.ScriptError.{ScriptError}
 use Rattle.workers_script.specs.declared.script_error.ScriptError.TheVariants.{TooLong, ReadFault, NoMemory}
-use Rattle.workers_script.specs.inside.Inputs.{CameOn, IfTooLong, IsTaken, Taken}
+use Rattle.workers_script.specs.inside.Inputs.{IfTooLong, IsTaken, Taken}
 use Rattle.workers_script.proofs.TooLong.{kept, stays}
 
 -- an input so far isn't too long

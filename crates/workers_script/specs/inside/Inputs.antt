@@ -1,5 +1,5 @@
 -- How far an input has come, and what was read of it.
-use Rattle.std.specs.Prelude.{◌≡◌, ◌≤◌, ◌<◌, ℕ, ◌+◌, ◌^◌, List, [], ◌++◌, length, if◌then◌else◌, ◌==◌, Option, Some, None, Result, Ok, Err}
+use Rattle.std.specs.Prelude.{◌≡◌, ◌<◌, ℕ, ◌+◌, ◌^◌, List, [], ◌++◌, length, if◌then◌else◌, ◌==◌, Some, None, Result, Ok, Err}
 use Rattle.script_runs.specs.Lines.{ended, unended}
 use Rattle.workers_script.specs.Limits.{KeepsLimits, too_long_in}
 use Rattle.workers_script.specs.declared.script_error.ScriptError.{ScriptError}

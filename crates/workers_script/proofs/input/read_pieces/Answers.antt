@@ -1,4 +1,4 @@
-use Rattle.std.proofs.Common.{rules, arith, refl, sym, ap, ◌∙◌, subst, ◌≡◌, ◌+◌, ◌≤◌, ◌<◌, List, ℕ, [], ◌++◌, take, length, length-append, append-nil}
+use Rattle.std.proofs.Common.{rules, arith, refl, sym, ap, ◌∙◌, subst, ◌≡◌, ◌≤◌, ◌++◌, take, length, length-append, append-nil}
 use Rattle.std.specs.Prelude.{Err}
 use Rattle.std.proofs.lemmas.List.{length-take-le}
 use Rattle.outside_traits.specs.Bytes.{Gave}

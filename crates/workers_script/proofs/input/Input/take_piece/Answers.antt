@@ -1,4 +1,4 @@
-use Rattle.std.proofs.Common.{rules, refl, sym, ap, ◌∙◌, subst, ◌≡◌, ◌<◌, ◌+◌, ℕ, suc, List, [], ◌∷◌, ◌++◌, length, take, drop, get_or, take-append-drop, drop-cons}
+use Rattle.std.proofs.Common.{rules, sym, ap, ◌∙◌, subst, ◌≡◌, ◌<◌, ℕ, suc, List, ◌∷◌, ◌++◌, length, take, drop, get_or, take-append-drop, drop-cons}
 use Rattle.std.specs.Prelude.{Some, Err}
 use Rattle.workers_script.specs.Limits.{too_long_in}
 use Rattle.workers_script.specs.inside.Inputs.{IfTooLong}

@@ -1,5 +1,4 @@
-use Rattle.std.proofs.Common.{◌≡◌, ◌++◌, take}
-use Rattle.workers_script.specs.Limits.{KeepsLimits}
+use Rattle.std.proofs.Common.{take}
 use Rattle.workers_script.specs.inside.Inputs.{CameOn}
 use Rattle.workers_script.proofs.input.Input.take_piece.Given as goal
 

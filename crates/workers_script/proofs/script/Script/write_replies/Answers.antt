@@ -1,5 +1,5 @@
 use Rattle.std.specs.Prelude.{flat_map, OnOk}
-use Rattle.std.proofs.Common.{sym, ap, ◌∙◌, subst, ◌≡◌, ◌++◌, List, length}
+use Rattle.std.proofs.Common.{sym, ap, ◌∙◌, subst, ◌≡◌, ◌++◌, length}
 use Rattle.command_lines.specs.Replies.{reply_text}
 use Rattle.workers_script.specs.Entries.{Script, commands_in, in_places}
 use Rattle.workers_script.specs.inside.Places.{HavePlaces, put_in}
