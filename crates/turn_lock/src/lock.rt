@@ -24,8 +24,8 @@ const TAKERS_ASLEEP: usize = 2;
 
 const GROWTH_ASLEEP: usize = 3;
 
-// How often a thread looks whether the turn is free before it sleeps.
-const LOOKS: u32 = 100;
+// How often a thread looks whether the turn is free before it sleeps: for about as long as a sleep and its wake-up take, where a look takes about a nanosecond.
+const LOOKS: u32 = 20_000;
 
 /// The value while it is out.
 #[derive(Drop)]
