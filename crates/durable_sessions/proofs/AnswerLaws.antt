@@ -78,10 +78,10 @@ module _ {C B : Type 0} (is_valid : C → Type 0) (m : CallMeaning C) (laws : Ca
   -- ---- a journal that is left alone
 
   pub same_leads : (is_known : Bool) (core : CoreView C B) (journal : History) (s : State C) → Stands m contents core s → LeadsTo m contents is_known journal core journal s s
-  same_leads is_known core journal s stands = record { stands = stands; settled = λ known holds. holds }
+  same_leads is_known core journal s stands = record { stands = stands; settled = λ known pages holds. holds }
 
   pub still_leaves : (is_known : Bool) (old new : History) (s u : State C) → new ≡ old → LeavesEither is_known old new s u
-  still_leaves is_known old new s u same = λ known holds. record { more = []; states = ap (λ (h : History). h.now ∷ h.past) same; images = tt }
+  still_leaves is_known old new s u same = λ known pages holds. record { more = []; states = ap (λ (h : History). h.now ∷ h.past) same; images = tt }
 
   -- ---- a line that is done at once
 
@@ -91,9 +91,9 @@ module _ {C B : Type 0} (is_valid : C → Type 0) (m : CallMeaning C) (laws : Ca
       let done = line_done is_valid m laws contents (record { session = session; doing = doing }) old new before said (λ t opened. (driven t opened).0) s stands in
       record {
         stands = done.stands;
-        settled = λ known holds. record {
+        settled = λ known pages holds. record {
           synced = holds.synced;
-          holds = same_holds s (after s session doing) journal.now.reads [] (driven_keeps is_valid m laws contents session doing old new before said driven s stands) holds.holds;
+          holds = same_holds s (after s session doing) journal.now.reads pages (driven_keeps is_valid m laws contents session doing old new before said driven s stands) holds.holds;
         };
       }
 
@@ -111,20 +111,22 @@ module _ {C B : Type 0} (is_valid : C → Type 0) (m : CallMeaning C) (laws : Ca
     short = let within : length p.body ≤ 4294967295 = due.commit.short in omega (arith, ap length same, within);
   }
 
-  pub commit_leaves : (is_known : Bool) (core : CoreView C B) (session : ℕ) (p : Prepared) (old roomy new : History) (bytes : List ℕ) → IsDue m contents core session p → IsLegalCore is_valid m contents core → roomy ≡ old → bytes ≡ p.body
+  pub commit_leaves : (is_known : Bool) (core : CoreView C B) (session : ℕ) (p : Prepared) (old roomy new : History) (bytes : List ℕ) → IsDue m contents core session p → IsLegalCore is_valid m contents core
+      → (IsTrue is_known → (groups_in old).images ≡ None) → roomy ≡ old → bytes ≡ p.body
       → (IsTrue is_known → LeavesWithOrWithout p.number bytes roomy new) → (s : State C) → Stands m contents core s → LeavesEither is_known old new s (after s session Commit)
-  commit_leaves is_known core session p old roomy new bytes due legal room same run s stands = λ known holds.
-      commit_moments s (after s session Commit) p.number p.body old new (due_leads is_valid m laws contents core session p due legal s stands) holds
+  commit_leaves is_known core session p old roomy new bytes due legal none room same run s stands = λ known pages holds.
+      commit_moments s (after s session Commit) p.number p.body pages old new (due_leads is_valid m laws contents core session p due legal s stands) (none known) holds
       (subst (λ (x : History × List ℕ). LeavesWithOrWithout p.number x.1 x.0 new) (λ i. (room i, same i)) (run known))
 
   pub commit_leads_to : (is_known : Bool) (old now : CoreView C B) (session : ℕ) (p : Prepared) (before_it roomy after_it : History) (bytes : List ℕ) (gate : ℕ) (before said : List LineReply)
-      → IsDue m contents old session p → IsLegalCore is_valid m contents old → roomy ≡ before_it → bytes ≡ p.body → (IsTrue is_known → AddsCommit gate p.number bytes roomy after_it) → Finished session old now before said
+      → IsDue m contents old session p → IsLegalCore is_valid m contents old → (IsTrue is_known → (groups_in before_it).images ≡ None) → roomy ≡ before_it → bytes ≡ p.body
+      → (IsTrue is_known → AddsCommit gate p.number bytes roomy after_it) → Finished session old now before said
       → (s : State C) → Stands m contents old s → LeadsTo m contents is_known before_it now after_it s (after s session Commit)
-  commit_leads_to is_known old now session p before_it roomy after_it bytes gate before said due legal room same adds finished s stands = record {
+  commit_leads_to is_known old now session p before_it roomy after_it bytes gate before said due legal none room same adds finished s stands = record {
     stands = (commit_done is_valid m laws contents session old now before said p due finished s stands).stands;
-    settled = λ known holds.
+    settled = λ known pages holds.
         let added = adds known in
-        commit_settles s (after s session Commit) p.number p.body before_it after_it (due_leads is_valid m laws contents old session p due legal s stands) holds added.synced
+        commit_settles s (after s session Commit) p.number p.body pages before_it after_it (due_leads is_valid m laws contents old session p due legal s stands) (none known) holds added.synced
         (added.groups ∙ (λ i. Ok (with_commit (groups_in (room i)) (commit p.number (same i)))));
   }
 

@@ -1,6 +1,6 @@
 -- What a commit writes is read again, and what a crash in it leaves is what was committed before it or after it.
 use Rattle.std.proofs.Common.{◌≡◌, ℕ, ◌+◌, inl, inr, IsTrue, List, [], refl, sym, ap, subst, ◌∙◌}
-use Rattle.std.specs.Prelude.{Option, Some, None, Ok, Err, IsSome, unwrap_or, option_and_then, if◌then◌else◌, Bool}
+use Rattle.std.specs.Prelude.{Option, Some, None, Result, Ok, Err, IsSome, unwrap_or, option_and_then, if◌then◌else◌, Bool}
 use Rattle.std.proofs.lemmas.Bool.{eq-eqb}
 use Rattle.outside_traits.specs.Moments.{History, IsAllSynced, LeavesOnly}
 use Rattle.outside_traits.proofs.MomentLaws.{weaker}
@@ -19,8 +19,9 @@ use Rattle.journal.specs.Groups.{commit, is_next, with_commit}
 use Rattle.journal.specs.Journals.{read}
 use Rattle.journal.specs.Appends.{IsBeforeOrAfter, LeavesWithOrWithout, groups_in, groups_read}
 use Rattle.journal.specs.declared.group.Group.{Group}
-use Rattle.recovery.specs.Opened.{Contents, contents_of_files, contents_beside}
-use Rattle.recovery.proofs.CommitLaws.{one_more, same_groups}
+use Rattle.store_contents.specs.Contents.{Contents, contents_of_files}
+use Rattle.store_contents.proofs.CommitLaws.{one_more, same_groups}
+use Rattle.store_contents.proofs.ContentsLaws.{by_damage}
 use Rattle.call_contract.specs.Books.{IsReached}
 use Rattle.call_contract.specs.CallChanges.{changes_of_calls, LeadTo}
 use Rattle.call_contract.specs.Calls.{CallLaws, CallMeaning}
@@ -86,40 +87,47 @@ module _ {C : Type 0} (is_valid : C → Type 0) (m : CallMeaning C) (laws : Call
 
 -- ---- what the journal holds
 
+-- an answer is no error
+apart : {A E : Type 0} (r : Result A E) (x : A) (e : E) → r ≡ Ok x → r ≡ Err e → ⊥
+apart r x e ok err = cc (ok, err)
+
 -- a journal that stands for a map is read as groups
-settled_groups : (history : History) (contents : Contents) → contents_of_files history.now.reads [] ≡ Ok contents → read history.now.reads ≡ Ok (groups_in history)
-unfolding contents_beside
-settled_groups history contents holds = elim (read history.now.reads) as (λ r. read history.now.reads ≡ r → read history.now.reads ≡ Ok (groups_read r)) [
+settled_groups : (history : History) (pages : List ℕ) (contents : Contents) → contents_of_files history.now.reads pages ≡ Ok contents → read history.now.reads ≡ Ok (groups_in history)
+settled_groups history pages contents holds = elim (read history.now.reads) as (λ r. read history.now.reads ≡ r → read history.now.reads ≡ Ok (groups_read r)) [
   | Ok groups ↦ λ is. is
-  | Err at ↦ λ is. cc (is, holds)
+  | Err at ↦ λ is. absurd (apart (contents_of_files history.now.reads pages) contents _ holds (by_damage pages history.now.reads at is))
 ] refl
 
 module _ {C : Type 0} where
   -- with the commit it stands for the state after it
-  commit_holds : (st u : State C) (number : ℕ) (body : List ℕ) (history : History) (image : List ℕ) → Leads st u number body → HoldsAll st history
-      → read image ≡ Ok (with_commit (groups_in history) (commit number body)) → HoldState u image []
-  commit_holds st u number body history image leads settled after =
+  commit_holds : (st u : State C) (number : ℕ) (body pages : List ℕ) (history : History) (image : List ℕ) → Leads st u number body → (groups_in history).images ≡ None → HoldsAll st pages history
+      → read image ≡ Ok (with_commit (groups_in history) (commit number body)) → HoldState u image pages
+  commit_holds st u number body pages history image leads none settled after =
       let group : Group = commit number body in
       let changes_are : changed group.changes (map_of st.tree) ≡ map_of u.tree = ap (λ (o : Option (List Change)). changed (unwrap_or o []) (map_of st.tree)) leads.body_is ∙ leads.map in
-      one_more history.now.reads image [] (groups_in history) group (record { entries = map_of st.tree; number = st.number }) (settled_groups history _ settled.holds) after settled.holds leads.next
+      one_more history.now.reads image pages (groups_in history) group (record { entries = map_of st.tree; number = st.number }) (settled_groups history pages _ settled.holds) none after settled.holds leads.next
       (ap broken_at changes_are ∙ unbroken u.tree leads.valid)
       ∙ (λ i. Ok (record { entries = changes_are i; number = sym leads.counted i }))
 
   -- before it or after it
-  commit_either : (st u : State C) (number : ℕ) (body : List ℕ) (history : History) → Leads st u number body → HoldsAll st history
-      → (image : List ℕ) → IsBeforeOrAfter (groups_in history) (commit number body) image → HoldsEither st u image
-  commit_either st u number body history leads settled image (inl before) = inl (same_groups history.now.reads image [] (groups_in history) (settled_groups history _ settled.holds) before ∙ settled.holds)
-  commit_either st u number body history leads settled image (inr with_it) = inr (commit_holds st u number body history image leads settled with_it)
+  commit_either : (st u : State C) (number : ℕ) (body pages : List ℕ) (history : History) → Leads st u number body → (groups_in history).images ≡ None → HoldsAll st pages history
+      → (image : List ℕ) → IsBeforeOrAfter (groups_in history) (commit number body) image → HoldsEither st u pages image
+  commit_either st u number body pages history leads none settled image (inl before) = inl (same_groups history.now.reads image pages (groups_in history) (settled_groups history pages _ settled.holds) before ∙ settled.holds)
+  commit_either st u number body pages history leads none settled image (inr with_it) = inr (commit_holds st u number body pages history image leads none settled with_it)
 
   -- so does a crash at any moment of the append
-  pub commit_moments : (st u : State C) (number : ℕ) (body : List ℕ) (old new : History) → Leads st u number body → HoldsAll st old → LeavesWithOrWithout number body old new → LeavesOnly (HoldsEither st u) old new
-  commit_moments st u number body old new leads settled run =
-      weaker (IsBeforeOrAfter (groups_in old) (commit number body)) (HoldsEither st u) old new (commit_either st u number body old leads settled) run
+  pub commit_moments : (st u : State C) (number : ℕ) (body pages : List ℕ) (old new : History) → Leads st u number body → (groups_in old).images ≡ None → HoldsAll st pages old
+      → LeavesWithOrWithout number body old new → LeavesOnly (HoldsEither st u pages) old new
+  commit_moments st u number body pages old new leads none settled run =
+      weaker (IsBeforeOrAfter (groups_in old) (commit number body)) (HoldsEither st u pages) old new (commit_either st u number body pages old leads none settled) run
 
   -- and after it the whole
-  pub commit_settles : (st u : State C) (number : ℕ) (body : List ℕ) (old new : History) → Leads st u number body → HoldsAll st old
-      → IsAllSynced new → read new.now.reads ≡ Ok (with_commit (groups_in old) (commit number body)) → HoldsAll u new
-  commit_settles st u number body old new leads settled synced after = record { synced = synced; holds = commit_holds st u number body old new.now.reads leads settled after }
+  pub commit_settles : (st u : State C) (number : ℕ) (body pages : List ℕ) (old new : History) → Leads st u number body → (groups_in old).images ≡ None → HoldsAll st pages old
+      → IsAllSynced new → read new.now.reads ≡ Ok (with_commit (groups_in old) (commit number body)) → HoldsAll u pages new
+  commit_settles st u number body pages old new leads none settled synced after = record {
+    synced = synced;
+    holds = commit_holds st u number body pages old new.now.reads leads none settled after;
+  }
 
   -- what is the same stands for the same
   pub same_holds : (st u : State C) (journal pages : List ℕ) → SameCommitted st u → HoldState st journal pages → HoldState u journal pages

@@ -9,7 +9,7 @@ use Rattle.outside_traits.specs.Moments.{History, LeavesOnly}
 use Rattle.outside_traits.proofs.ImageLaws.{image-all_synced}
 use Rattle.outside_traits.proofs.MomentLaws.{started, joined, weaker, since_itself, image_since, leaves_all}
 use Rattle.tree_model.specs.Entries.{Entries}
-use Rattle.recovery.specs.Opened.{contents_of_files}
+use Rattle.store_contents.specs.Contents.{contents_of_files}
 use Rattle.call_contract.specs.Calls.{CallMeaning}
 use Rattle.call_contract.specs.States.{State}
 use Rattle.command_lines.specs.declared.line_reply.LineReply.{LineReply}
@@ -37,25 +37,25 @@ now_left P old new run at_start image is =
 
 module _ {C : Type 0} where
   -- a crash of a journal that is all synced leaves what is committed
-  pub image_holds : (s : State C) (journal : History) → HoldsAll s journal → (image : List ℕ) → IsImage journal.now image → HoldState s image []
-  image_holds s journal settled image is =
-      ap (λ b. contents_of_files b []) (image-all_synced journal.now.reads image (subst (λ (d : DiskState). IsImage d image) settled.synced is)) ∙ settled.holds
+  pub image_holds : (s : State C) (pages : List ℕ) (journal : History) → HoldsAll s pages journal → (image : List ℕ) → IsImage journal.now image → HoldState s image pages
+  image_holds s pages journal settled image is =
+      ap (λ b. contents_of_files b pages) (image-all_synced journal.now.reads image (subst (λ (d : DiskState). IsImage d image) settled.synced is)) ∙ settled.holds
 
 module _ {C : Type 0} (m : CallMeaning C) where
-  first_wider : (s : State C) (xs ys : List (Asked C)) (image : List ℕ) → HoldsFirst m s xs image → HoldsFirst m s (xs ++ ys) image
-  first_wider s xs ys image h = record {
+  first_wider : (s : State C) (xs ys : List (Asked C)) (pages image : List ℕ) → HoldsFirst m s xs pages image → HoldsFirst m s (xs ++ ys) pages image
+  first_wider s xs ys pages image h = record {
     first = h.first;
     rest = h.rest ++ ys;
     parts = sym (append_assoc h.first h.rest ys) ∙ ap (λ (l : List (Asked C)). l ++ ys) h.parts;
     holds = h.holds;
   }
 
-  first_behind : (s : State C) (xs ys : List (Asked C)) (image : List ℕ) → HoldsFirst m (after m s xs) ys image → HoldsFirst m s (xs ++ ys) image
-  first_behind s xs ys image h = record {
+  first_behind : (s : State C) (xs ys : List (Asked C)) (pages image : List ℕ) → HoldsFirst m (after m s xs) ys pages image → HoldsFirst m s (xs ++ ys) pages image
+  first_behind s xs ys pages image h = record {
     first = xs ++ h.first;
     rest = h.rest;
     parts = append_assoc xs h.first h.rest ∙ ap (λ (l : List (Asked C)). xs ++ l) h.parts;
-    holds = subst (λ (u : State C). HoldState u image []) (sym (after_on m s xs h.first)) h.holds;
+    holds = subst (λ (u : State C). HoldState u image pages) (sym (after_on m s xs h.first)) h.holds;
   }
 
 -- ---- one list behind another
@@ -63,10 +63,10 @@ module _ {C : Type 0} (m : CallMeaning C) where
 module _ {C B : Type 0} (is_valid : C → Type 0) (m : CallMeaning C) (contents : B → Option Entries) (by : LineReply → Option Reason) (is_known : Bool) (s : State C) (xs ys : List (Asked C)) (old mid : History) (core : CoreView C B) (before now : List LineReply)
     (one : AllAnswered is_valid m contents by is_known s xs old core mid before now) where
   moments_on : (new : History) (zs : List (Asked C)) → LeavesFirst m is_known (after m s xs) zs mid new → LeavesFirst m is_known s (xs ++ zs) old new
-  moments_on new zs two known holds =
-      joined (HoldsFirst m s (xs ++ zs)) old mid new
-      (weaker (HoldsFirst m s xs) (HoldsFirst m s (xs ++ zs)) old mid (first_wider m s xs zs) (one.moments known holds))
-      (weaker (HoldsFirst m (after m s xs) zs) (HoldsFirst m s (xs ++ zs)) mid new (first_behind m s xs zs) (two known (one.leads.settled known holds)))
+  moments_on new zs two known pages holds =
+      joined (HoldsFirst m s (xs ++ zs) pages) old mid new
+      (weaker (HoldsFirst m s xs pages) (HoldsFirst m s (xs ++ zs) pages) old mid (first_wider m s xs zs pages) (one.moments known pages holds))
+      (weaker (HoldsFirst m (after m s xs) zs pages) (HoldsFirst m s (xs ++ zs) pages) mid new (first_behind m s xs zs pages) (two known pages (one.leads.settled known pages holds)))
 
   pub answered_on : (last : CoreView C B) (new : History) (later : List LineReply) → AllAnswered is_valid m contents by is_known (after m s xs) ys mid last new now later → AllAnswered is_valid m contents by is_known s (xs ++ ys) old last new before later
   answered_on last new later two =
@@ -76,7 +76,7 @@ module _ {C B : Type 0} (is_valid : C → Type 0) (m : CallMeaning C) (contents 
         valid = valid_on is_valid xs ys one.valid two.valid;
         leads = record {
           stands = subst (Stands m contents last) (sym state) two.leads.stands;
-          settled = λ known holds. subst (λ (u : State C). HoldsAll u new) (sym state) (two.leads.settled known (one.leads.settled known holds));
+          settled = λ known pages holds. subst (λ (u : State C). HoldsAll u pages new) (sym state) (two.leads.settled known pages (one.leads.settled known pages holds));
         };
         moments = moments_on new ys two.moments;
         still = λ none. two.still (no_commit_rest xs ys none) ∙ one.still (no_commit_first xs ys none);
@@ -101,10 +101,10 @@ module _ {C B : Type 0} (is_valid : C → Type 0) (m : CallMeaning C) (contents 
         one = two.one;
         valid = subst (AreValid is_valid) whole (valid_on is_valid xs (two.answered ++ two.more) one.valid two.valid);
         moments = subst (λ (l : List (Asked C)). LeavesFirst m is_known s l old new) whole (moments_on new (two.answered ++ two.more) two.moments);
-        left = λ known holds image is.
-            subst (λ (u : State C × State C). HoldsEither u.0 u.1 image)
+        left = λ known pages holds image is.
+            subst (λ (u : State C × State C). HoldsEither u.0 u.1 pages image)
             (λ i. (sym (after_on m s xs two.answered) i, (sym (after_on m s xs (two.answered ++ two.more)) ∙ ap (after m s) whole) i))
-            (two.left known (one.leads.settled known holds) image is);
+            (two.left known pages (one.leads.settled known pages holds) image is);
         still = λ none. two.still (no_commit_rest xs ys none) ∙ one.still (no_commit_first xs ys none);
         stops = record {
           front = xs ++ two.stops.front;
@@ -127,8 +127,8 @@ module _ {C : Type 0} (is_valid : C → Type 0) (m : CallMeaning C) (by : LineRe
     parts = refl;
     one = omega arith;
     valid = tt;
-    moments = λ known holds. started (HoldsFirst m s []) old;
-    left = λ known holds image is. inl (image_holds s old holds image is);
+    moments = λ known pages holds. started (HoldsFirst m s [] pages) old;
+    left = λ known pages holds image is. inl (image_holds s pages old holds image is);
     still = λ none. refl;
     stops = record { front = []; last = []; parts = refl; one = omega arith; unrefused = refl };
     cause = tt;
@@ -154,8 +154,8 @@ module _ {C B : Type 0} (is_valid : C → Type 0) (m : CallMeaning C) (contents 
   pub none_asked : (is_known : Bool) (s : State C) (core : CoreView C B) (journal : History) (replies : List LineReply) → Stands m contents core s → AllAnswered is_valid m contents by is_known s [] journal core journal replies replies
   none_asked is_known s core journal replies stands = record {
     valid = tt;
-    leads = record { stands = stands; settled = λ known holds. holds };
-    moments = λ known holds. started (HoldsFirst m s []) journal;
+    leads = record { stands = stands; settled = λ known pages holds. holds };
+    moments = λ known pages holds. started (HoldsFirst m s [] pages) journal;
     still = λ none. refl;
     replies = sym (append-nil replies);
     unrefused = refl;
@@ -174,7 +174,7 @@ module _ {C B : Type 0} (is_valid : C → Type 0) (m : CallMeaning C) (contents 
         one = omega arith;
         valid = subst (AreValid is_valid) (sym whole) h.valid;
         moments = subst (λ (l : List (Asked C)). LeavesFirst m is_known s l old new) (sym whole) h.moments;
-        left = λ known holds image is. inl (image_holds (after m s all) new (h.leads.settled known holds) image is);
+        left = λ known pages holds image is. inl (image_holds (after m s all) pages new (h.leads.settled known pages holds) image is);
         still = h.still;
         stops = record { front = all; last = []; parts = refl; one = omega arith; unrefused = h.unrefused };
         cause = tt;
@@ -198,12 +198,12 @@ module _ {C B : Type 0} (is_valid : C → Type 0) (m : CallMeaning C) (contents 
   abbrev one_asked : List (Asked C)
   one_asked = a ∷ []
 
-  either_first : (image : List ℕ) → HoldsEither s (after_line m s a).state image → HoldsFirst m s one_asked image
-  either_first image (inl holds) = record { first = []; rest = one_asked; parts = refl; holds = holds }
-  either_first image (inr holds) = record { first = one_asked; rest = []; parts = refl; holds = holds }
+  either_first : (pages image : List ℕ) → HoldsEither s (after_line m s a).state pages image → HoldsFirst m s one_asked pages image
+  either_first pages image (inl holds) = record { first = []; rest = one_asked; parts = refl; holds = holds }
+  either_first pages image (inr holds) = record { first = one_asked; rest = []; parts = refl; holds = holds }
 
   pub step_moments : LeavesEither is_known old new s (after_line m s a).state → LeavesFirst m is_known s one_asked old new
-  step_moments leaves known holds = weaker (HoldsEither s (after_line m s a).state) (HoldsFirst m s one_asked) old new either_first (leaves known holds)
+  step_moments leaves known pages holds = weaker (HoldsEither s (after_line m s a).state pages) (HoldsFirst m s one_asked pages) old new (either_first pages) (leaves known pages holds)
 
   pub step_lines : said m s one_asked ≡ (after_line m s a).lines
   step_lines = append-nil (after_line m s a).lines
@@ -229,7 +229,7 @@ module _ {C B : Type 0} (is_valid : C → Type 0) (m : CallMeaning C) (contents 
     one = omega arith;
     valid = (valid, tt);
     moments = step_moments leaves;
-    left = λ known holds image is. inl (image_holds (after_line m s a).state new (leads.settled known holds) image is);
+    left = λ known pages holds image is. inl (image_holds (after_line m s a).state pages new (leads.settled known pages holds) image is);
     still = λ asks_none. still asks_none.0;
     stops = record { front = []; last = one_asked; parts = refl; one = omega arith; unrefused = refl };
     cause = (ap (first_reason by) step_lines ∙ sym (reason_behind by before (after_line m s a).lines unrefused) ∙ ap (first_reason by) (sym replies) ∙ refused, refl);
@@ -248,7 +248,7 @@ module _ {C B : Type 0} (is_valid : C → Type 0) (m : CallMeaning C) (contents 
     one = omega arith;
     valid = (valid, tt);
     moments = step_moments leaves;
-    left = λ known holds. now_left (HoldsEither s (after_line m s a).state) old new (leaves known holds) (λ image is. inl (image_holds s old holds image is));
+    left = λ known pages holds. now_left (HoldsEither s (after_line m s a).state pages) old new (leaves known pages holds) (λ image is. inl (image_holds s pages old holds image is));
     still = λ asks_none. still asks_none.0;
     stops = record { front = []; last = one_asked; parts = refl; one = omega arith; unrefused = refl };
     cause = halts h one_asked;

@@ -1,5 +1,5 @@
 -- What one thing that a session is asked leaves of the core and the journal.
-use Rattle.std.specs.Prelude.{ℕ, Bool, Option, IsTrue}
+use Rattle.std.specs.Prelude.{ℕ, Bool, List, Option, IsTrue}
 use Rattle.outside_traits.specs.Moments.{History, LeavesOnly}
 use Rattle.tree_model.specs.Entries.{Entries}
 use Rattle.journal.specs.Groups.{is_next}
@@ -27,14 +27,14 @@ pub record TakesNext {C B : Type 0} (core : CoreView C B) (journal : JournalView
 abbrev pub asked_from : {C : Type 0} → CallMeaning C → State C → ℕ → Doing C → Progress C
 asked_from m s session doing = after_line m s (record { session = session; doing = doing })
 
--- from the one state it has led to the other, in which the core is then; the journal held the one and holds the other
+-- from the one state it has led to the other, in which the core is then; beside the pages beside which the journal held the one it holds the other
 pub record LeadsTo {C B : Type 0} (m : CallMeaning C) (contents : B → Option Entries) (is_known : Bool) (old : History) (core : CoreView C B) (new : History) (s t : State C) : Type 0 where
   pub stands : Stands m contents core t
-  pub settled : IsTrue is_known → HoldsAll s old → HoldsAll t new
+  pub settled : IsTrue is_known → (pages : List ℕ) → HoldsAll s pages old → HoldsAll t pages new
 
 -- on the way from the one to the other a crash leaves what was committed in the one or is in the other
 abbrev pub LeavesEither : {C : Type 0} → Bool → History → History → State C → State C → Type 0
-LeavesEither is_known old new s t = IsTrue is_known → HoldsAll s old → LeavesOnly (HoldsEither s t) old new
+LeavesEither is_known old new s t = IsTrue is_known → (pages : List ℕ) → HoldsAll s pages old → LeavesOnly (HoldsEither s t pages) old new
 
 -- the faults that the journal's disk and the base have counted
 abbrev pub counts_of : {C B : Type 0} → (B → ℕ) → CoreView C B → JournalView → Counts

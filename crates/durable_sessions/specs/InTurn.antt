@@ -47,21 +47,21 @@ pub record StopsAtRefusal {C : Type 0} (m : CallMeaning C) (by : LineReply → O
 
 -- ---- the journal
 
--- it stands beside empty pages for what is committed after the first of these
-pub record HoldsFirst {C : Type 0} (m : CallMeaning C) (s : State C) (asked : List (Asked C)) (journal : List ℕ) : Type 0 where
+-- beside these pages it stands for what is committed after the first of these
+pub record HoldsFirst {C : Type 0} (m : CallMeaning C) (s : State C) (asked : List (Asked C)) (pages journal : List ℕ) : Type 0 where
   pub first : List (Asked C)
   pub rest : List (Asked C)
   pub parts : first ++ rest ≡ asked
-  pub holds : HoldState (after m s first) journal []
+  pub holds : HoldState (after m s first) journal pages
 
 -- a crash on the way leaves that
 abbrev pub LeavesFirst : {C : Type 0} → CallMeaning C → Bool → State C → List (Asked C) → History → History → Type 0
-LeavesFirst m is_known s asked old new = IsTrue is_known → HoldsAll s old → LeavesOnly (HoldsFirst m s asked) old new
+LeavesFirst m is_known s asked old new = IsTrue is_known → (pages : List ℕ) → HoldsAll s pages old → LeavesOnly (HoldsFirst m s asked pages) old new
 
 -- a crash now leaves what is committed after these, or after these and more
 abbrev pub LeftEither : {C : Type 0} → CallMeaning C → Bool → State C → List (Asked C) → List (Asked C) → History → History → Type 0
-LeftEither m is_known s answered more old new = IsTrue is_known → HoldsAll s old → (image : List ℕ) → IsImage new.now image
-    → HoldsEither (after m s answered) (after m s (answered ++ more)) image
+LeftEither m is_known s answered more old new = IsTrue is_known → (pages : List ℕ) → HoldsAll s pages old → (image : List ℕ) → IsImage new.now image
+    → HoldsEither (after m s answered) (after m s (answered ++ more)) pages image
 
 -- ---- how it ends
 

@@ -84,6 +84,8 @@ fn commit<C: TreeCall + Drop, B: Base, J: Disk>(
 {
     // It tells that the book is legal, before and after.
     core.is_legal();
+    // It tells that no images are open.
+    journal.is_usable();
     let faults = core.faults();
     journal.make_room(alloc, prepared.body.len())?;
     journal.append_group(prepared.number, prepared.body.as_slice())?;

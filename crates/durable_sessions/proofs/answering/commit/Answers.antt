@@ -10,13 +10,13 @@ append_group-requires-clause-commit g c =
 pub returns-in_err-append_group-clause-any_moment : goal.returns-in_err-append_group-clause-any_moment
 returns-in_err-append_group-clause-any_moment g c =
     commit_leaves g.C.TreeCall.is_valid g.C.TreeCall.meaning g.met.C.TreeCall.laws g.B.NodeRead.contents g.J.Disk.is_known c.args.core.now c.args.session c.args.prepared c.args.journal.now.history c.make_room.new.self.history c.append_group.new.self.history _ c.requires.due c.is_legal.ensures.book
-    (ap (λ (j : JournalView). j.history) c.in_ok-make_room.ensures.ok) c.as_slice.ensures c.in_err-append_group.ensures.any_moment
+    (λ known. c.is_usable.ensures.commits known c.requires.takes.usable.unfailed c.requires.takes.usable.unheld) (ap (λ (j : JournalView). j.history) c.in_ok-make_room.ensures.ok) c.as_slice.ensures c.in_err-append_group.ensures.any_moment
 
 pub returns-in-Ok-clause-state : goal.returns-in-Ok-clause-state
 returns-in-Ok-clause-state g c =
     commit_leads_to g.C.TreeCall.is_valid g.C.TreeCall.meaning g.met.C.TreeCall.laws g.B.NodeRead.contents g.J.Disk.is_known c.args.core.now c.take_in.new.core c.args.session c.args.prepared c.args.journal.now.history c.make_room.new.self.history c.append_group.new.self.history _ _
     c.args.replies.now.items c.finish_commit.new.out.items c.requires.due c.is_legal.ensures.book
-    (ap (λ (j : JournalView). j.history) c.in_ok-make_room.ensures.ok) c.as_slice.ensures c.in_ok-append_group.ensures.durable
+    (λ known. c.is_usable.ensures.commits known c.requires.takes.usable.unfailed c.requires.takes.usable.unheld) (ap (λ (j : JournalView). j.history) c.in_ok-make_room.ensures.ok) c.as_slice.ensures c.in_ok-append_group.ensures.durable
     (finished_over g.C.TreeCall.is_valid g.C.TreeCall.meaning g.met.C.TreeCall.laws g.B.NodeRead.contents c.args.session c.args.core.now c.finish_commit.new.core c.take_in.new.core c.args.replies.now.items c.finish_commit.new.out.items c.take_in.ensures.same c.in-Ok.ensures.line)
 
 pub returns-in-Ok-clause-takes : goal.returns-in-Ok-clause-takes
@@ -27,12 +27,12 @@ returns-in-Ok-clause-takes g c =
 pub returns-in-Ok-clause-any_moment : goal.returns-in-Ok-clause-any_moment
 returns-in-Ok-clause-any_moment g c =
     commit_leaves g.C.TreeCall.is_valid g.C.TreeCall.meaning g.met.C.TreeCall.laws g.B.NodeRead.contents g.J.Disk.is_known c.args.core.now c.args.session c.args.prepared c.args.journal.now.history c.make_room.new.self.history c.append_group.new.self.history _ c.requires.due c.is_legal.ensures.book
-    (ap (λ (j : JournalView). j.history) c.in_ok-make_room.ensures.ok) c.as_slice.ensures c.in_ok-append_group.ensures.any_moment
+    (λ known. c.is_usable.ensures.commits known c.requires.takes.usable.unfailed c.requires.takes.usable.unheld) (ap (λ (j : JournalView). j.history) c.in_ok-make_room.ensures.ok) c.as_slice.ensures c.in_ok-append_group.ensures.any_moment
 
 pub returns-in-Err-clause-any_moment : goal.returns-in-Err-clause-any_moment
 returns-in-Err-clause-any_moment g c =
     commit_leaves g.C.TreeCall.is_valid g.C.TreeCall.meaning g.met.C.TreeCall.laws g.B.NodeRead.contents g.J.Disk.is_known c.args.core.now c.args.session c.args.prepared c.args.journal.now.history c.make_room.new.self.history c.append_group.new.self.history _ c.requires.due c.is_legal.ensures.book
-    (ap (λ (j : JournalView). j.history) c.in_ok-make_room.ensures.ok) c.as_slice.ensures c.in_ok-append_group.ensures.any_moment
+    (λ known. c.is_usable.ensures.commits known c.requires.takes.usable.unfailed c.requires.takes.usable.unheld) (ap (λ (j : JournalView). j.history) c.in_ok-make_room.ensures.ok) c.as_slice.ensures c.in_ok-append_group.ensures.any_moment
 
 pub returns-in_err-make_room-clause-begun : goal.returns-in_err-make_room-clause-begun
 returns-in_err-make_room-clause-begun g c = on_err c.from_residual.result _ (λ s stands. begun_nothing c.args.core.now c.args.replies.now.items _)
