@@ -41,6 +41,7 @@ pub fn answer<C: TreeCall + Drop, B: Base, J: Disk>(
     ensures unmade { journal.new.faults ≢ journal.old.faults → core.new.book ≡ core.old.book }
     ensures begun { OnErr result ((s : State C) → Stands C.meaning B.contents core.old s
         → HasBegun core.old core.new replies.old.items replies.new.items (asked_from C.meaning s session doing)) }
+    ensures base { B.stays core.old.base core.new.base }
     ensures counts { DisksCountedWhere (result ≡ Err Halt.DiskFault) (counts_of B.count core.old journal.old) (counts_of B.count core.new journal.new) }
 {
     // It tells that the book is legal, before and after.
@@ -80,6 +81,7 @@ fn commit<C: TreeCall + Drop, B: Base, J: Disk>(
     ensures unmade { journal.new.faults ≢ journal.old.faults → core.new ≡ core.old }
     ensures begun { OnErr result ((s : State C) → Stands C.meaning B.contents core.old s
         → HasBegun core.old core.new replies.old.items replies.new.items (asked_from C.meaning s session Commit)) }
+    ensures base { B.stays core.old.base core.new.base }
     ensures counts { DisksCountedWhere (result ≡ Err Halt.DiskFault) (counts_of B.count core.old journal.old) (counts_of B.count core.new journal.new) }
 {
     // It tells that the book is legal, before and after.

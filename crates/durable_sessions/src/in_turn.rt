@@ -70,6 +70,7 @@ pub fn ask_in_turn<C: TreeCall + Drop, B: Base, J: Disk>(
         journal.old.history core.new journal.new.history replies.old.items replies.new.items result }
     ensures takes { OnOk result (TakesNext core.new journal.new) }
     ensures unrefused { OnOk result (reason_in replies.new.items ≡ None) }
+    ensures base { B.stays core.old.base core.new.base }
     ensures counts { DisksCountedWhere (result ≡ Err Stop.DiskFault) (counts_of B.count core.old journal.old) (counts_of B.count core.new journal.new) }
 {
     let Some(doing) = take_first(&mut doings) else {

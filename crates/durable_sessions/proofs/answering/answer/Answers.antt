@@ -93,3 +93,16 @@ returns-in-Ok-Some-clause-begun g c =
     (λ s stands. subst (λ (before : List LineReply). HasBegun old new before now (asked_from m s c.args.session Commit)) room.0
     (begun_over c.args.session old mid new c.drive.new.out.items now (asked_from m s c.args.session Commit) due.0 (told s stands))))
     c.commit.ensures.begun
+
+-- ---- what is left alone of the base
+
+pub returns-in-Ok-None-clause-base : goal.returns-in-Ok-None-clause-base
+returns-in-Ok-None-clause-base g c = g.met.B.Base.unchanged_stays c.args.core.now.base c.drive.new.core.base c.drive.ensures.unchanged
+
+pub returns-in-Ok-Some-clause-base : goal.returns-in-Ok-Some-clause-base
+returns-in-Ok-Some-clause-base g c =
+    g.met.B.Base.stays_onward c.args.core.now.base c.drive.new.core.base c.commit.new.core.base
+    (g.met.B.Base.unchanged_stays c.args.core.now.base c.drive.new.core.base c.drive.ensures.unchanged) c.commit.ensures.base
+
+pub returns-in-Err-clause-base : goal.returns-in-Err-clause-base
+returns-in-Err-clause-base g c = g.met.B.Base.unchanged_stays c.args.core.now.base c.drive.new.core.base c.drive.ensures.unchanged

@@ -39,3 +39,19 @@ returns-in_err-make_room-clause-begun g c = on_err c.from_residual.result _ (λ 
 
 pub returns-in_err-append_group-clause-begun : goal.returns-in_err-append_group-clause-begun
 returns-in_err-append_group-clause-begun g c = on_err c.from_residual-in_err-append_group.result _ (λ s stands. begun_nothing c.args.core.now c.args.replies.now.items _)
+
+-- ---- what is left alone of the base
+
+pub returns-in_err-make_room-clause-base : goal.returns-in_err-make_room-clause-base
+returns-in_err-make_room-clause-base g c = g.met.B.Base.unchanged_stays c.args.core.now.base c.args.core.now.base (g.met.B.NodeRead.unchanged_itself c.args.core.now.base)
+
+pub returns-in_err-append_group-clause-base : goal.returns-in_err-append_group-clause-base
+returns-in_err-append_group-clause-base g c = g.met.B.Base.unchanged_stays c.args.core.now.base c.args.core.now.base (g.met.B.NodeRead.unchanged_itself c.args.core.now.base)
+
+pub returns-in-Ok-clause-base : goal.returns-in-Ok-clause-base
+returns-in-Ok-clause-base g c =
+    g.met.B.Base.stays_onward c.args.core.now.base c.finish_commit.new.core.base c.take_in.new.core.base
+    (g.met.B.Base.unchanged_stays c.args.core.now.base c.finish_commit.new.core.base c.finish_commit.ensures.unchanged) c.take_in.ensures.stays
+
+pub returns-in-Err-clause-base : goal.returns-in-Err-clause-base
+returns-in-Err-clause-base g c = g.met.B.Base.unchanged_stays c.args.core.now.base c.finish_commit.new.core.base c.finish_commit.ensures.unchanged

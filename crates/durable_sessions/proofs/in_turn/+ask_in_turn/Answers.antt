@@ -71,3 +71,11 @@ returns-in_default-clause-asked g t c = λ s stands.
 
 pub returns-in_err-answer-clause-counts : goal.returns-in_err-answer-clause-counts
 returns-in_err-answer-clause-counts g t c = stop_counts c.from_residual.result c.in_err-answer.field-0.0 _ _ c.from_residual.ensures.1 c.in_err-answer.ensures.counts
+
+-- ---- what is left alone of the base
+
+pub returns-clause-base : goal.returns-clause-base
+returns-clause-base g t c = g.met.B.Base.stays_onward c.args.core.now.base c.answer.new.core.base c.ask_in_turn.new.core.base c.answer.ensures.base c.ask_in_turn.ensures.base
+
+pub returns-in_default-clause-base : goal.returns-in_default-clause-base
+returns-in_default-clause-base g t c = g.met.B.Base.unchanged_stays c.args.core.now.base c.args.core.now.base (g.met.B.NodeRead.unchanged_itself c.args.core.now.base)
