@@ -1,6 +1,7 @@
 -- The bodies of a book's commits, read again one after another, lead to the tree after them.
-use Rattle.std.proofs.Common.{◌≡◌, ℕ, suc, ◌+◌, List, [], ◌∷◌, length, map, Option, refl, ap, ◌∙◌, arith}
+use Rattle.std.proofs.Common.{◌≡◌, ℕ, suc, ◌+◌, true, List, [], ◌∷◌, length, map, Option, Some, refl, ap, ◌∙◌, arith}
 use Rattle.std.specs.Prelude.{unwrap_or}
+use Rattle.std.proofs.lemmas.Bool.{eq-eqb}
 use Rattle.tree_model.specs.declared.change.Change.{Change}
 use Rattle.tree_model.specs.Entries.{changed}
 use Rattle.tree_model.specs.Tree.{Tree, map_of}
@@ -11,7 +12,7 @@ use Rattle.node_records.specs.declared.pending.Pending.{Pending}
 use Rattle.journal.specs.Bodies.{changes_in}
 use Rattle.journal.specs.Batches.{pairs_of}
 use Rattle.journal.specs.Groups.{commits_of}
-use Rattle.recovery.specs.Opened.{after_commits, Begins, last_of}
+use Rattle.store_contents.specs.Contents.{after_commits, goes_on_from, last_of}
 use Rattle.call_contract.specs.CallChanges.{changes_of_calls}
 use Rattle.call_contract.specs.Calls.{CallLaws, CallMeaning}
 use Rattle.call_contract.specs.SerialRuns.{Committed, serial}
@@ -63,9 +64,9 @@ module _ {C : Type 0} (is_valid : C → Type 0) (m : CallMeaning C) (laws : Call
 
 -- ---- numbers
 
-pub begins : (n : ℕ) (ps : List Pending) → FollowOn n ps → Begins (n + 1) (commits_of (pairs_of ps))
-begins n [] follow = tt
-begins n (p ∷ ps) follow = follow.0
+pub goes_on : (n : ℕ) (ps : List Pending) → FollowOn n ps → goes_on_from (Some n) (commits_of (pairs_of ps)) ≡ true
+goes_on n [] follow = refl
+goes_on n (p ∷ ps) follow = eq-eqb p.number (n + 1) follow.0
 
 pub last_is : (n : ℕ) (ps : List Pending) → FollowOn n ps → last_of (commits_of (pairs_of ps)) n ≡ n + length ps
 last_is n [] follow = let e : n ≡ n + 0 = omega arith in e

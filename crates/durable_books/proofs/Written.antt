@@ -1,6 +1,6 @@
 -- What a journal stands for when the commits that waited were written, and what a crash leaves within.
 use Rattle.std.proofs.Common.{◌≡◌, Bool, false, true≢false, inl, inr, ℕ, suc, ◌+◌, ◌<◌, ◌≤◌, List, [], ◌∷◌, ◌++◌, length, Option, Some, Result, Ok, Err, IsTrue, refl, sym, ap, subst, ◌∙◌, arith, length-append}
-use Rattle.std.specs.Prelude.{OnOk}
+use Rattle.std.specs.Prelude.{OnOk, None}
 use Rattle.std.proofs.lemmas.Bool.{eq-eqb}
 use Rattle.std.proofs.lemmas.List.{length-map}
 use Rattle.outside_traits.specs.CrashImages.{IsImage}
@@ -23,8 +23,8 @@ use Rattle.journal.specs.Journals.{read}
 use Rattle.journal.specs.Views.{JournalView}
 use Rattle.journal.specs.declared.group.Groups.{Groups}
 use Rattle.recovery.specs.Openings.{TakesBehind}
-use Rattle.recovery.specs.Trees.{StandFor}
-use Rattle.recovery.proofs.CommitLaws.{many_more, same_groups}
+use Rattle.store_contents.specs.StoredTrees.{StandFor}
+use Rattle.store_contents.proofs.CommitLaws.{many_more, same_groups}
 use Rattle.call_contract.specs.Books.{commits, HasValidCalls}
 use Rattle.call_contract.specs.Calls.{CallLaws, CallMeaning}
 use Rattle.call_contract.specs.SerialRuns.{Committed, serial}
@@ -33,7 +33,7 @@ use Rattle.tx_core.specs.Cores.{CoreView, IsUndrained}
 use Rattle.shared_store.specs.Bodies.{bodies_of, HasBodies, HaveLastBodies}
 use Rattle.shared_store.proofs.Bodies.{as_listed}
 use Rattle.durable_books.specs.WrittenBooks.{HasWrittenBook, HoldsBook, HoldsBookOrNone, LeavesBookOrNone, StandAfter}
-use Rattle.durable_books.proofs.BookBodies.{begins, bodies_in, bodies_lead, last_is, made_length, serial_valid}
+use Rattle.durable_books.proofs.BookBodies.{bodies_in, bodies_lead, goes_on, last_is, made_length, serial_valid}
 use Rattle.durable_books.proofs.BookCounts.{no_more}
 use Rattle.durable_books.proofs.ValidCommits.{commits_valid}
 
@@ -108,8 +108,8 @@ module _ {C B : Type 0} (is_valid : C → Type 0) (m : CallMeaning C) (laws : Ca
       omega (arith, made, same, all)
 
   -- bytes with them behind the groups stand for the tree after the whole book
-  holds : (before journal : List ℕ) (groups : Groups) → read before ≡ Ok groups → read journal ≡ Ok (with_commits groups (commits_of (pairs_of ps))) → HoldsBook m told core before journal
-  holds before journal groups old new t pages stands stood =
+  holds : (before journal : List ℕ) (groups : Groups) → read before ≡ Ok groups → groups.images ≡ None → read journal ≡ Ok (with_commits groups (commits_of (pairs_of ps))) → HoldsBook m told core before journal
+  holds before journal groups old none new t pages stands stood =
       let ds = commits core.book in
       let good = commits_valid is_valid core.book valid in
       let tree = (serial m ds t).tree in
@@ -117,15 +117,15 @@ module _ {C B : Type 0} (is_valid : C → Type 0) (m : CallMeaning C) (laws : Ca
       let formed : IsValidTree tree = serial_valid is_valid m laws ds t stands.valid good in
       record {
         is_valid_tree = formed;
-        opens = many_more before journal pages groups (commits_of (pairs_of ps)) (record { entries = map_of t; number = n }) old new stood.opens (begins n ps follow) (ap broken_at leads ∙ unbroken tree formed)
+        opens = many_more before journal pages groups (commits_of (pairs_of ps)) (record { entries = map_of t; number = n }) old none new stood.opens (goes_on n ps follow) (ap broken_at leads ∙ unbroken tree formed)
             ∙ (λ i. Ok (record { entries = leads i; number = (last_is n ps follow ∙ sym (number_is t stands)) i }));
       }
 
-  all_or_none : (before journal : List ℕ) (groups : Groups) → read before ≡ Ok groups → IsAllOrNone groups (commits_of (pairs_of ps)) journal → HoldsBookOrNone m told core before journal
-  all_or_none before journal groups old (inl none) t pages stands stood = inl (record { is_valid_tree = stood.is_valid_tree; opens = same_groups before journal pages groups old none ∙ stood.opens })
-  all_or_none before journal groups old (inr all) t pages stands stood = inr (holds before journal groups old all t pages stands stood)
+  all_or_none : (before journal : List ℕ) (groups : Groups) → read before ≡ Ok groups → groups.images ≡ None → IsAllOrNone groups (commits_of (pairs_of ps)) journal → HoldsBookOrNone m told core before journal
+  all_or_none before journal groups old none (inl same) t pages stands stood = inl (record { is_valid_tree = stood.is_valid_tree; opens = same_groups before journal pages groups old same ∙ stood.opens })
+  all_or_none before journal groups old none (inr all) t pages stands stood = inr (holds before journal groups old none all t pages stands stood)
 
-  module _ (old new : History) (synced : IsAllSynced old) (reads : read old.now.reads ≡ Ok (groups_in old)) where
+  module _ (old new : History) (synced : IsAllSynced old) (reads : read old.now.reads ≡ Ok (groups_in old)) (no_images : (groups_in old).images ≡ None) where
     before_image : (image : List ℕ) → IsImage old.now image → HoldsBookOrNone m told core old.now.reads image
     before_image image is =
         let same : image ≡ old.now.reads = image-all_synced old.now.reads image (subst (λ (d : DiskState). IsImage d image) synced is) in
@@ -134,12 +134,12 @@ module _ {C B : Type 0} (is_valid : C → Type 0) (m : CallMeaning C) (laws : Ca
     -- within an append a crash leaves all or none
     pub leaves : LeavesAllOrNone (pairs_of ps) old new → LeavesBookOrNone m told core old new
     leaves run =
-        let moments = weaker _ (HoldsBookOrNone m told core old.now.reads) old new (λ image h. all_or_none old.now.reads image (groups_in old) reads h) run in
+        let moments = weaker _ (HoldsBookOrNone m told core old.now.reads) old new (λ image h. all_or_none old.now.reads image (groups_in old) reads no_images h) run in
         record { moments = moments; now = leaves_now (HoldsBookOrNone m told core old.now.reads) old new moments before_image }
 
     -- and behind it all
     pub written : (gate : ℕ) → AddsCommits gate (pairs_of ps) old new → HasWrittenBook m told core old new
-    written gate adds = record { synced = adds.synced; holds = holds old.now.reads new.now.reads (groups_in old) reads adds.groups }
+    written gate adds = record { synced = adds.synced; holds = holds old.now.reads new.now.reads (groups_in old) reads no_images adds.groups }
 
     -- where none waits all is as it was
     pub none_written : ps ≡ [] → HasWrittenBook m told core old old

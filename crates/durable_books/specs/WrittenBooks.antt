@@ -5,7 +5,7 @@ use Rattle.outside_traits.specs.Moments.{History, IsAllSynced, LeavesOnly}
 use Rattle.tree_model.specs.Entries.{Entries}
 use Rattle.tree_model.specs.Tree.{Tree}
 use Rattle.node_seq.specs.Trees.{StandsFor}
-use Rattle.recovery.specs.Trees.{StandFor}
+use Rattle.store_contents.specs.StoredTrees.{StandFor}
 use Rattle.call_contract.specs.Books.{commits}
 use Rattle.call_contract.specs.Calls.{CallMeaning}
 use Rattle.call_contract.specs.SerialRuns.{Committed, serial}

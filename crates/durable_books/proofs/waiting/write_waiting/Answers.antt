@@ -7,14 +7,14 @@ pub returns-then-is_empty-clause-durable : goal.returns-then-is_empty-clause-dur
 returns-then-is_empty-clause-durable g c = λ known.
     let h = c.args.journal.now.history in
     none_written g.C.TreeCall.is_valid g.C.TreeCall.meaning g.met.C.TreeCall.laws g.B.NodeRead.contents c.args.core.now c.requires.first c.requires.bodies c.is_legal.ensures.undrained c.is_legal.ensures.valid
-    c.drain-waiting.result c.drain-waiting.ensures.waiting h h (c.is_usable.ensures.settled known c.requires.takes.usable.unfailed) (c.is_usable.ensures.groups known c.requires.takes.usable.unfailed)
+    c.drain-waiting.result c.drain-waiting.ensures.waiting h h (c.is_usable.ensures.settled known c.requires.takes.usable.unfailed) (c.is_usable.ensures.groups known c.requires.takes.usable.unfailed) (c.is_usable.ensures.commits known c.requires.takes.usable.unfailed c.requires.takes.usable.unheld)
     (c.is_empty.ensures.0 c.if-is_empty.true)
 
 pub returns-then-is_empty-clause-any_moment : goal.returns-then-is_empty-clause-any_moment
 returns-then-is_empty-clause-any_moment g c = λ known.
     let h = c.args.journal.now.history in
     none_leaves g.C.TreeCall.is_valid g.C.TreeCall.meaning g.met.C.TreeCall.laws g.B.NodeRead.contents c.args.core.now c.requires.first c.requires.bodies c.is_legal.ensures.undrained c.is_legal.ensures.valid
-    c.drain-waiting.result c.drain-waiting.ensures.waiting h h (c.is_usable.ensures.settled known c.requires.takes.usable.unfailed) (c.is_usable.ensures.groups known c.requires.takes.usable.unfailed)
+    c.drain-waiting.result c.drain-waiting.ensures.waiting h h (c.is_usable.ensures.settled known c.requires.takes.usable.unfailed) (c.is_usable.ensures.groups known c.requires.takes.usable.unfailed) (c.is_usable.ensures.commits known c.requires.takes.usable.unfailed c.requires.takes.usable.unheld)
 
 pub append_groups-requires-clause-commits : goal.append_groups-requires-clause-commits
 append_groups-requires-clause-commits g c =
@@ -25,7 +25,7 @@ pub returns-clause-durable : goal.returns-clause-durable
 returns-clause-durable g c = if_ok c.append_groups.result (λ durable known.
     let h = c.args.journal.now.history in
     written g.C.TreeCall.is_valid g.C.TreeCall.meaning g.met.C.TreeCall.laws g.B.NodeRead.contents c.args.core.now c.requires.first c.requires.bodies c.is_legal.ensures.undrained c.is_legal.ensures.valid
-    c.as_slice.result.now (c.as_slice.ensures ∙ c.drain-waiting.ensures.waiting) h c.append_groups.new.self.history (c.is_usable.ensures.settled known c.requires.takes.usable.unfailed) (c.is_usable.ensures.groups known c.requires.takes.usable.unfailed)
+    c.as_slice.result.now (c.as_slice.ensures ∙ c.drain-waiting.ensures.waiting) h c.append_groups.new.self.history (c.is_usable.ensures.settled known c.requires.takes.usable.unfailed) (c.is_usable.ensures.groups known c.requires.takes.usable.unfailed) (c.is_usable.ensures.commits known c.requires.takes.usable.unfailed c.requires.takes.usable.unheld)
     c.args.journal.now.gate (durable known)) c.append_groups.ensures.durable
 
 pub returns-clause-takes : goal.returns-clause-takes
@@ -39,7 +39,7 @@ returns-clause-any_moment g c = λ known.
     let ps = c.as_slice.result.now in
     let h = c.args.journal.now.history in
     leaves g.C.TreeCall.is_valid g.C.TreeCall.meaning g.met.C.TreeCall.laws g.B.NodeRead.contents c.args.core.now c.requires.first c.requires.bodies c.is_legal.ensures.undrained c.is_legal.ensures.valid
-    ps (c.as_slice.ensures ∙ c.drain-waiting.ensures.waiting) h c.append_groups.new.self.history (c.is_usable.ensures.settled known c.requires.takes.usable.unfailed) (c.is_usable.ensures.groups known c.requires.takes.usable.unfailed)
+    ps (c.as_slice.ensures ∙ c.drain-waiting.ensures.waiting) h c.append_groups.new.self.history (c.is_usable.ensures.settled known c.requires.takes.usable.unfailed) (c.is_usable.ensures.groups known c.requires.takes.usable.unfailed) (c.is_usable.ensures.commits known c.requires.takes.usable.unfailed c.requires.takes.usable.unheld)
     (c.append_groups.ensures.any_moment known)
 
 pub returns-clause-still : goal.returns-clause-still
