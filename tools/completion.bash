@@ -2,6 +2,8 @@
 _xtc() {
   if [ "$COMP_CWORD" = 1 ]; then
     mapfile -t COMPREPLY < <(compgen -W "run workers put get query gen" -- "$2")
+  elif [[ $2 = -* ]]; then
+    mapfile -t COMPREPLY < <(compgen -W "--frames" -- "$2")
   fi
 }
 complete -F _xtc xtc

@@ -1,10 +1,15 @@
 -- Worked words: what they ask for, and the parts of words with two options.
-use Rattle.std.proofs.Common.{◌≡◌, refl, List, [], ◌∷◌, Option, Some, None, codes}
+use Rattle.std.proofs.Common.{◌≡◌, ℕ, refl, List, [], ◌∷◌, Option, Some, None, codes}
+use Rattle.std.specs.Prelude.{option_map}
 use Rattle.command_words.specs.Arguments.{Word, Parts, parts_from, parts_of}
-use Rattle.command_words.specs.Commands.{Command, command_of_texts, run, workers, put, get, query, gen}
+use Rattle.command_words.specs.Commands.{Command, words_of_texts, run, workers, put, get, query, gen}
 
 abbrev asks : List Word → Option Command → Type 0
-asks ws c = command_of_texts ws ≡ c
+asks ws c = option_map (λ w. w.command) (words_of_texts ws) ≡ c
+
+-- a command with its frames
+abbrev asks_over : List Word → Command → ℕ → Type 0
+asks_over ws c frames = words_of_texts ws ≡ Some (record { command = c; frames = frames })
 
 -- with options `frames` and `checkpoint`
 abbrev has : List Word → Option Parts → Type 0
@@ -30,9 +35,33 @@ module _ where
   unfolding parts_from
   workers_with_a_word = refl
 
-  no_such_option : asks (codes "run" ∷ codes "--frames" ∷ codes "1" ∷ []) None
+  no_such_option : asks (codes "run" ∷ codes "--checkpoint" ∷ codes "1" ∷ []) None
   unfolding parts_from
   no_such_option = refl
+
+  frames_unsaid : asks_over (codes "get" ∷ codes "x" ∷ []) (get (codes "x")) 256
+  unfolding parts_from
+  frames_unsaid = refl
+
+  one_frame : asks_over (codes "run" ∷ codes "--frames" ∷ codes "1" ∷ []) run 1
+  unfolding parts_from
+  one_frame = refl
+
+  the_most_frames : asks_over (codes "gen" ∷ codes "7" ∷ codes "--frames=65536" ∷ codes "1" ∷ []) (gen 7 1) 65536
+  unfolding parts_from
+  the_most_frames = refl
+
+  no_frames : asks (codes "run" ∷ codes "--frames" ∷ codes "0" ∷ []) None
+  unfolding parts_from
+  no_frames = refl
+
+  too_many_frames : asks (codes "run" ∷ codes "--frames=65537" ∷ []) None
+  unfolding parts_from
+  too_many_frames = refl
+
+  the_option_as_a_name : asks_over (codes "put" ∷ codes "--" ∷ codes "--frames" ∷ []) (put (codes "--frames")) 256
+  unfolding parts_from
+  the_option_as_a_name = refl
 
   the_end_of_options_first : asks (codes "--" ∷ codes "run" ∷ []) None
   unfolding parts_from

@@ -3,10 +3,11 @@ use Rattle.std.specs.Prelude.{ℕ, ◌≤◌, List, [], ◌∷◌, map, codes, O
 use Rattle.std.specs.List.{find}
 use Rattle.std.specs.Str.{bytes_eq}
 use Rattle.std.specs.declared.alloc.Global.{Global}
-use Rattle.command_words.specs.Arguments.{Word, Parts, parts_of}
+use Rattle.command_words.specs.Arguments.{Word, Parts, parts_of, text_of}
 use Rattle.command_words.specs.Numbers.{number_in}
 use Rattle.command_words.specs.declared.command.Command.{Command as Asked}
 use Rattle.command_words.specs.declared.command.Command.TheVariants as asked
+use Rattle.command_words.specs.declared.words.Words.{Words as Read}
 
 -- a script is run, line by line or by workers; the document with a name is made from the input, or it is written, or what a path finds from it; the script of the generator with a seed and a count is run
 pub data Command : Type 0 where
@@ -65,24 +66,52 @@ commands =
     ∷ (codes "gen", seed_and_count)
     ∷ []
 
--- the names of the options, which every command takes
-abbrev pub option_names : List Word
-option_names = []
-
 -- the command with this word and these plain words
 abbrev pub command_by : Word → List Word → Option Command
 command_by w plain = option_and_then (λ row. row.1 plain) (find (λ row. bytes_eq row.0 w) commands)
 
-abbrev pub of_parts : Word → Parts → Option Command
-of_parts w parts = command_by w parts.plain
+-- ---- the option, which every command takes
 
--- the command that words ask for: the first is its own; None where they aren't of the grammar
-abbrev pub command_of_texts : List Word → Option Command
-command_of_texts [] = None
-command_of_texts (w ∷ ws) = option_and_then (of_parts w) (parts_of option_names ws)
+-- `--frames N`
+abbrev pub frames_name : Word
+frames_name = codes "frames"
 
+abbrev pub option_names : List Word
+option_names = frames_name ∷ []
+
+-- the frames that the option's text tells, from 1 to 65,536; 256 where the option isn't given
+abbrev pub frames_in : Option Word → Option ℕ
+frames_in (Some text) = number_in 1 65536 text
+frames_in None = Some 256
+
+-- ---- the words
+
+-- a command, and the most pages of the page file that are kept in memory meanwhile
+pub record Words : Type 0 where
+  pub command : Command
+  pub frames : ℕ
+
+abbrev pub with_frames : Command → Option ℕ → Option Words
+with_frames c frames = option_map (λ n. record { command = c; frames = n }) frames
+
+abbrev pub of_parts : Word → Parts → Option Words
+of_parts w parts = option_and_then (λ c. with_frames c (frames_in (text_of frames_name parts))) (command_by w parts.plain)
+
+-- what words ask for: the first is the command's; None where they aren't of the grammar
+abbrev pub words_of_texts : List Word → Option Words
+words_of_texts [] = None
+words_of_texts (w ∷ ws) = option_and_then (of_parts w) (parts_of option_names ws)
+
+abbrev pub words_of : List (String Global) → Option Words
+words_of words = words_of_texts (map string_bytes words)
+
+-- the command that words ask for
 abbrev pub command_of : List (String Global) → Option Command
-command_of words = command_of_texts (map string_bytes words)
+command_of words = option_map (λ w. w.command) (words_of words)
+
+-- the frames that words ask for
+abbrev pub frames_of : List (String Global) → Option ℕ
+frames_of words = option_map (λ w. w.frames) (words_of words)
 
 -- ---- what was read
 
@@ -94,3 +123,7 @@ meant (asked.Put name) = put name.now
 meant (asked.Get name) = get name.now
 meant (asked.Query name path) = query name.now path.now
 meant (asked.Gen seed count) = gen seed count
+
+-- words that were read
+abbrev pub told : Read → Words
+told words = record { command = meant words.command; frames = words.frames }

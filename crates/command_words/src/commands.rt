@@ -1,37 +1,69 @@
-//! The words of a command: its own word, then what it takes.
-ghost use Rattle.std.specs.Prelude.{◌≡◌, map, None, Some, Err, IfOk, IfSome, option_map};
-ghost use Rattle.command_words.specs.Arguments.{Parts};
-ghost use Rattle.command_words.specs.Commands.{IsInRange, both, command_by, command_of, meant, no_words, of_parts, only, seed_and_count};
+//! The words of a command: its own word, then what it takes, with the option anywhere behind its own.
+ghost use Rattle.std.specs.Prelude.{◌≡◌, ◌≤◌, map, None, Some, Err, IfOk, IfSome, option_map};
+ghost use Rattle.command_words.specs.Arguments.{Parts, text_of};
+ghost use Rattle.command_words.specs.Commands.{IsInRange, both, command_by, command_of, frames_in, frames_name, frames_of, meant, no_words, of_parts, only, seed_and_count, told};
 ghost use Rattle.command_words.specs.Found.{TellsParts};
 
 use crate::arguments::{Arguments, read_arguments};
 use crate::command::Command;
 use crate::numbers::number_in;
+use crate::words::Words;
 use crate::words_error::WordsError;
 use std::alloc::Global;
 
-/// The names of the options, which every command takes. There are none yet.
-const OPTIONS: [&str; 0] = [];
+/// The option's name.
+const FRAMES: &str = "frames";
 
-/// The command that the words after the program's name ask for.
-pub fn read_words<'a>(alloc: Global, words: &'a Vec<String>) -> Result<Command<'a>, WordsError>
-    ensures ok { IfOk result (λ command. command_of words.entry.now.items ≡ Some (meant command)) }
+const OPTIONS: [&str; 1] = [FRAMES];
+
+const MOST_FRAMES: u32 = 65_536;
+
+/// As many frames are meant where the words tell no number.
+const USUAL_FRAMES: u32 = 256;
+
+/// What the words after the program's name ask for.
+pub fn read_words<'a>(alloc: Global, words: &'a Vec<String>) -> Result<Words<'a>, WordsError>
+    ensures command { IfOk result (λ read. command_of words.entry.now.items ≡ Some (meant read.command)) }
+    ensures frames { IfOk result (λ read. frames_of words.entry.now.items ≡ Some read.frames) }
     ensures usage { result ≡ Err WordsError.Usage → command_of words.entry.now.items ≡ None }
-    ensures ranges { IfOk result (λ command. IsInRange (meant command)) }
+    ensures ranges { IfOk result (λ read. IsInRange (meant read.command)) }
+    ensures frames_range { IfOk result (λ read. (1 ≤ read.frames) × (read.frames ≤ 65536)) }
 {
     let [word, rest @ ..] = words.as_slice() else {
         return Err(WordsError::Usage);
     };
     let arguments = read_arguments(alloc, &OPTIONS, rest)?;
-    match command_in(word.as_str(), &arguments) {
-        Some(command) => Ok(command),
+    match words_in(word.as_str(), &arguments) {
+        Some(read) => Ok(read),
         None => Err(WordsError::Usage),
     }
 }
 
-/// The command with this word and what was read behind it.
+/// The command with this word and what was read behind it, and its frames.
+fn words_in<'a>(word: &'a str, arguments: &Arguments<'a>) -> Option<Words<'a>>
+    ensures words { (parts : Parts) → TellsParts arguments.now parts → option_map told result ≡ of_parts word.entry.now parts }
+    ensures ranges { IfSome result (λ read. IsInRange (meant read.command)) }
+    ensures frames_range { IfSome result (λ read. (1 ≤ read.frames) × (read.frames ≤ 65536)) }
+{
+    let command = command_in(word, arguments)?;
+    let frames = frames_in(arguments)?;
+    Some(Words { command, frames })
+}
+
+/// The frames of the option, where it was given.
+fn frames_in(arguments: &Arguments<'_>) -> Option<u32>
+    ensures frames { (parts : Parts) → TellsParts arguments.now parts → result ≡ frames_in (text_of frames_name parts) }
+    ensures range { IfSome result (λ frames. (1 ≤ frames) × (frames ≤ 65536)) }
+{
+    match arguments.text(FRAMES) {
+        Some(text) => number_in(text, 1, MOST_FRAMES),
+        None => Some(USUAL_FRAMES),
+    }
+}
+
+/// The command with this word and the plain words behind it.
 fn command_in<'a>(word: &'a str, arguments: &Arguments<'a>) -> Option<Command<'a>>
-    ensures command { (parts : Parts) → TellsParts arguments.now parts → option_map meant result ≡ of_parts word.entry.now parts }
+    ensures command { (parts : Parts) → TellsParts arguments.now parts → option_map meant result ≡ command_by word.entry.now parts.plain }
     ensures ranges { IfSome result (λ command. IsInRange (meant command)) }
 {
     match arguments.plain() {

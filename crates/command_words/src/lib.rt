@@ -1,5 +1,5 @@
-//! The words after the program's name: `read_words` tells which command they ask for.
-//! They are read exactly by their grammar (`command_of`), both ways: the command is the grammar's, and they are refused only where the grammar has none.
+//! The words after the program's name: `read_words` tells which command they ask for, and how many pages it may keep in memory.
+//! They are read exactly by their grammar (`words_of`), both ways: command and frames are the grammar's, and they are refused only where the grammar has none.
 //! `clap` tells options from plain words, which `read_arguments` says for any list of options; words that aren't UTF-8 don't come here.
 #![tactic(auto)]
 
@@ -7,9 +7,11 @@ mod arguments;
 mod command;
 mod commands;
 mod numbers;
+mod words;
 mod words_error;
 
 pub use arguments::{Arguments, read_arguments};
 pub use command::Command;
 pub use commands::read_words;
+pub use words::Words;
 pub use words_error::WordsError;

@@ -1,5 +1,5 @@
 //! Words, as the manual has them ("Words"), and their options by hand.
-use command_words::{Arguments, WordsError, read_arguments, read_words};
+use command_words::{Arguments, Words, WordsError, read_arguments, read_words};
 use std::alloc::{AllocError, Global};
 use std::test::Fail;
 
@@ -16,17 +16,26 @@ fn all_words(alloc: Global, words: &str) -> Result<Vec<String>, AllocError> {
     Ok(all)
 }
 
-/// What the words ask for.
-fn asked(alloc: Global, words: &str) -> Result<String, Fail> {
+/// The command that the words ask for.
+fn command(alloc: Global, words: &str) -> Result<String, Fail> {
     let words = all_words(alloc, words)?;
     match read_words(alloc, &words) {
-        Ok(command) => Ok(format!(in alloc; "{command:?}")?),
+        Ok(Words { command, .. }) => Ok(format!(in alloc; "{command:?}")?),
         Err(why) => Ok(format!(in alloc; "{why:?}")?),
     }
 }
 
-/// Words, and what they ask for.
-const COMMANDS: [(&str, &str); 59] = [
+/// The command with the frames that the words ask for.
+fn command_over(alloc: Global, words: &str) -> Result<String, Fail> {
+    let words = all_words(alloc, words)?;
+    match read_words(alloc, &words) {
+        Ok(Words { command, frames }) => Ok(format!(in alloc; "{command:?} {frames}")?),
+        Err(why) => Ok(format!(in alloc; "{why:?}")?),
+    }
+}
+
+/// Words, and the command that they ask for.
+const COMMANDS: [(&str, &str); 58] = [
     ("", "Usage"),
     ("''", "Usage"),
     ("run", "Run"),
@@ -37,7 +46,6 @@ const COMMANDS: [(&str, &str); 59] = [
     ("run --", "Run"),
     ("run -- --", "Usage"),
     ("-- run", "Usage"),
-    ("run --frames 1", "Usage"),
     ("workers", "Workers"),
     ("workers --", "Workers"),
     ("workers 2", "Usage"),
@@ -94,7 +102,46 @@ const COMMANDS: [(&str, &str); 59] = [
 #[test]
 fn words_ask_for_a_command_or_are_refused(rt: HostRuntime) -> Result<(), Fail> {
     for (words, want) in COMMANDS {
-        let text = asked(rt.alloc(), words)?;
+        let text = command(rt.alloc(), words)?;
+        assert_eq!(rt; text.as_str(), want, "at {words:?}");
+    }
+    Ok(())
+}
+
+/// Words, and the command and the frames that they ask for.
+const FRAMES: [(&str, &str); 26] = [
+    ("run", "Run 256"),
+    ("gen 7 1", "Gen { seed: 7, count: 1 } 256"),
+    ("run --frames 1", "Run 1"),
+    ("run --frames=7", "Run 7"),
+    ("workers --frames 65536", "Workers 65536"),
+    ("put --frames 64 x", "Put(\"x\") 64"),
+    ("get x --frames=64", "Get(\"x\") 64"),
+    ("query x --frames 2 //a", "Query(\"x\", \"//a\") 2"),
+    ("gen 7 --frames=3 1", "Gen { seed: 7, count: 1 } 3"),
+    ("run --frames 0000000009", "Run 9"),
+    ("run --frames 9 --", "Run 9"),
+    ("get -- --frames", "Get(\"--frames\") 256"),
+    ("get --frames 5 -- --frames", "Get(\"--frames\") 5"),
+    ("run --frames 0", "Usage"),
+    ("run --frames 65537", "Usage"),
+    ("run --frames 4294967297", "Usage"),
+    ("run --frames 00000000009", "Usage"),
+    ("run --frames", "Usage"),
+    ("run --frames=", "Usage"),
+    ("run --frames ''", "Usage"),
+    ("run --frames -- 1", "Usage"),
+    ("run --frames=8=8", "Usage"),
+    ("run --frames=-8", "Usage"),
+    ("run --frames 8 --frames=8", "Usage"),
+    ("run --frames --frames 8", "Usage"),
+    ("run -- --frames 8", "Usage"),
+];
+
+#[test]
+fn every_command_takes_a_number_of_frames(rt: HostRuntime) -> Result<(), Fail> {
+    for (words, want) in FRAMES {
+        let text = command_over(rt.alloc(), words)?;
         assert_eq!(rt; text.as_str(), want, "at {words:?}");
     }
     Ok(())
