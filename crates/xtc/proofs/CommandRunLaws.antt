@@ -1,15 +1,12 @@
 -- What a command that ran over a store that was opened leaves, by what its parts leave.
-use Rattle.std.proofs.Common.{List, ◌≡◌, ◌≤◌, ◌+◌, ◌-◌, ℕ, Bool, [], refl, sym, ap, subst, ◌∙◌, inl, add-zero, arith, length}
-use Rattle.std.specs.Prelude.{Some, Result, Ok, Err, IfOk, IfErr, IfSome, OnOk, IsTrue}
+use Rattle.std.proofs.Common.{List, ◌≡◌, ◌≤◌, ◌+◌, ◌-◌, ℕ, Bool, [], refl, sym, ap, subst, ◌∙◌, add-zero, arith, length}
+use Rattle.std.specs.Prelude.{Option, Some, Result, Ok, Err, IfOk, IfErr, IfSome, OnOk, IsTrue}
 use Rattle.outside_kinds.specs.Bounds.{input_limit}
 use Rattle.outside_traits.specs.DiskPairs.{Pair}
-use Rattle.outside_traits.specs.Disks.{all_synced}
-use Rattle.outside_traits.specs.Moments.{IsAllSynced}
 use Rattle.outside_traits.proofs.Laws.{gave_none}
 use Rattle.tree_model.specs.Entries.{Entries}
 use Rattle.tree_model.specs.Tree.{Tree}
 use Rattle.node_seq.specs.Trees.{StandsFor}
-use Rattle.recovery.specs.Opened.{contents_of_files}
 use Rattle.script_runs.specs.Counts as counts
 use Rattle.script_runs.specs.Counts.{CountedWhere, DisksCountedWhere, ReadCountedWhere, counted}
 use Rattle.script_runs.specs.Whole.{piece}
@@ -23,8 +20,7 @@ use Rattle.xtc.specs.TopCall.{IsOfOpened, IsSilent, ScriptRan, tx_limit, whole_l
 use Rattle.xtc.specs.declared.status.Status.{Status}
 use Rattle.xtc.specs.declared.status.Status.TheVariants.{Done, Usage, LineTooLong, Damaged, ReadFault, WriteFault, DiskFault, NoMemory, NotJsonMl, DocumentRefused}
 use Rattle.xtc.specs.inside.Asking.{IsUnwritten, IsWriteEnd}
-use Rattle.xtc.specs.inside.CommandRuns.{Input, Output, Disks, RanOver, RunsCommand}
-use Rattle.xtc.specs.inside.Stores.{Counts}
+use Rattle.xtc.specs.inside.CommandRuns.{Input, Output, Disks, RanOver, RunsCommand, StandSettled}
 use Rattle.xtc.proofs.StatusLaws.{of_workers, script_not_silent, script_opened}
 
 -- ---- the counts of faults
@@ -42,13 +38,6 @@ read_counted_as there back most before now given given_now c = record { cause = 
 -- no read failed, and none was made
 pub read_never : {P : Type 0} (most faults given : ℕ) → (P → ⊥) → ReadCountedWhere P most faults faults given given
 read_never most faults given never = record { cause = λ p. absurd (never p); exact = λ no. refl }
-
--- no fault is counted where no call was made
-pub still_counts : (this : Type 0) (before now : ℕ) → now ≡ before → (this → ⊥) → Counts this before now
-still_counts this before now same never = record {
-  cause = record { counted = λ is. absurd (never is); exact = λ _. same };
-  later = omega (arith, same);
-}
 
 -- the counts are told by other values
 pub disks_moved : {P : Type 0} (before before_now now now_now : counts.Counts) → before_now ≡ before → now_now ≡ now → DisksCountedWhere P before_now now → DisksCountedWhere P before now_now
@@ -89,15 +78,15 @@ disk_end (end.Halted halt.DiskFault) it = refl
 disk_end (end.Halted halt.NoMemory) it = absurd cc
 
 -- the script's end is the status
-pub script_runs : (journal_known pages_known : Bool) (base : Entries) (number : ℕ) (e : End) (input input_now : Input) (output output_now : Output) (disks disks_now : Disks)
-    → RanOver journal_known pages_known base number run (status_of_end e) input input_now output output_now disks.files disks_now.files
+pub script_runs : (journal_known pages_known : Bool) (map : Option Entries) (number : ℕ) (e : End) (input input_now : Input) (output output_now : Output) (disks disks_now : Disks)
+    → RanOver journal_known pages_known map number run (status_of_end e) input input_now output output_now disks.files disks_now.files
     → (e ≡ end.Done → IfSome input_now.left (λ rest. rest ≡ []))
     → input_now.given ≤ input.given + input_limit
     → ReadCountedWhere (e ≡ end.ReadFault) input_limit input.faults input_now.faults input.given input_now.given
     → CountedWhere (e ≡ end.WriteFault) output.faults output_now.faults
     → DisksCountedWhere (e ≡ end.Halted halt.DiskFault) disks.faults disks_now.faults
-    → RunsCommand journal_known pages_known base number run (status_of_end e) input input_now output output_now disks disks_now
-script_runs journal_known pages_known base number e input input_now output output_now disks disks_now ran whole bound read write disk = record {
+    → RunsCommand journal_known pages_known map number run (status_of_end e) input input_now output output_now disks disks_now
+script_runs journal_known pages_known map number e input input_now output output_now disks disks_now ran whole bound read write disk = record {
   ran = ran;
   whole = λ reads is. whole (done_end e is);
   bound = bound;
@@ -109,13 +98,12 @@ script_runs journal_known pages_known base number e input input_now output outpu
 }
 
 -- there was no memory to begin, and nothing was read or written
-pub nothing_runs : (journal_known pages_known : Bool) (base : Entries) (number : ℕ) (input : Input) (output : Output) (disks disks_now : Disks)
-    → (IsTrue journal_known → IsTrue pages_known → IsAllSynced disks.files.journal → disks.files.pages.now ≡ all_synced []
-    → contents_of_files disks.files.journal.now.reads [] ≡ Ok (record { entries = base; number = number }) → (t : Tree) → StandsFor (Some base) t → (old : Pair)
+pub nothing_runs : (journal_known pages_known : Bool) (map : Option Entries) (number : ℕ) (input : Input) (output : Output) (disks disks_now : Disks)
+    → (IsTrue journal_known → IsTrue pages_known → (t : Tree) → StandsFor map t → StandSettled disks.files t number → (old : Pair)
     → ScriptRan t number tx_limit NoMemory disks.files (record { read = []; asked = input.asked - input.given; left = input.left; before = output.held; now = output.held; old = old; new = disks_now.files }))
     → disks_now.faults ≡ disks.faults
-    → RunsCommand journal_known pages_known base number run NoMemory input input output output disks disks_now
-nothing_runs journal_known pages_known base number input output disks disks_now ran same = record {
+    → RunsCommand journal_known pages_known map number run NoMemory input input output output disks disks_now
+nothing_runs journal_known pages_known map number input output disks disks_now ran same = record {
   ran = ([], gave_none input.left, sym (add-zero input.given), ran);
   whole = λ reads is. absurd cc;
   bound = omega arith;
@@ -223,18 +211,17 @@ put_within given given_now read sum within = omega (arith, sum, within)
 pub by_count : {P : Type 0} (most before now given given_now : ℕ) → CountedWhere P before now → ReadCountedWhere P most before now given given_now
 by_count most before now given given_now c = record { cause = λ p. counted (c.counted p); exact = c.exact }
 
-pub document_runs : {T : Type 0} (journal_known pages_known : Bool) (base : Entries) (number : ℕ) (c : Command) (r : Result T Status) (status : Status)
+pub document_runs : {T : Type 0} (journal_known pages_known : Bool) (map : Option Entries) (number : ℕ) (c : Command) (r : Result T Status) (status : Status)
     (input input_now : Input) (output output_now : Output) (disks disks_now : Disks)
     → EndsBy r status (output_now.held ≡ output.held)
-    → RanOver journal_known pages_known base number c status input input_now output output_now disks.files disks_now.files
+    → RanOver journal_known pages_known map number c status input input_now output output_now disks.files disks_now.files
     → (IsTrue (reads_input (Some c)) → OnOk r (IfSome input_now.left (λ rest. rest ≡ [])))
     → input_now.given ≤ input.given + input_limit
     → ReadCountedWhere (r ≡ Err ReadFault) input_limit input.faults input_now.faults input.given input_now.given
     → CountedWhere (status ≡ WriteFault) output.faults output_now.faults
-    → Counts (r ≡ Err DiskFault) disks.faults.journal disks_now.faults.journal
-    → disks_now.faults.pages ≡ disks.faults.pages
-    → RunsCommand journal_known pages_known base number c status input input_now output output_now disks disks_now
-document_runs journal_known pages_known base number c r status input input_now output output_now disks disks_now ends ran whole bound read write journal pages =
+    → DisksCountedWhere (r ≡ Err DiskFault) disks.faults disks_now.faults
+    → RunsCommand journal_known pages_known map number c status input input_now output output_now disks disks_now
+document_runs journal_known pages_known map number c r status input input_now output output_now disks disks_now ends ran whole bound read write counts =
     let P : Type 0 = output_now.held ≡ output.held in
     record {
       ran = ran;
@@ -244,8 +231,5 @@ document_runs journal_known pages_known base number c r status input input_now o
       opened = ends_opened c r status P ends;
       read = read_counted_as (ends_there r status ReadFault P (λ no. no) ends) (ends_back r status ReadFault P ends) _ _ _ _ _ read;
       write = write;
-      disk = record {
-        counted = λ is. record { one = inl (journal.cause.counted (ends_there r status DiskFault P (λ no. no) ends is)); journal = journal.later; pages = omega (arith, pages) };
-        exact = λ no. let same = journal.cause.exact (λ it. no (ends_back r status DiskFault P ends it)) in λ i. record { journal = same i; pages = pages i };
-      };
+      disk = disks_counted_as (ends_there r status DiskFault P (λ no. no) ends) (ends_back r status DiskFault P ends) _ _ counts;
     }

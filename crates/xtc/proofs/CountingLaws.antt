@@ -1,20 +1,28 @@
 -- Lines of the generator's script, one behind another: what they ask, what is counted of them, and what they leave of a store.
-use Rattle.std.proofs.Common.{◌≡◌, ◌≢◌, ◌==◌, ℕ, Bool, true, false, List, [], ◌∷◌, ◌++◌, length, inl, refl, sym, ap, subst, ◌∙◌, append-nil, arith}
-use Rattle.std.specs.Prelude.{Option, None, Some, Result, Ok, Err, OnOk, not}
+use Rattle.std.proofs.Common.{◌≡◌, ◌≢◌, ◌==◌, ℕ, Bool, true, false, List, [], ◌∷◌, ◌++◌, length, Less, is_lt, nat_cmp, inl, refl, sym, ap, subst, ◌∙◌, append-nil, arith}
+use Rattle.std.specs.Prelude.{Option, None, Some, Result, Ok, Err, OnOk, cond, is_some, not, option_map}
 use Rattle.std.specs.Result.{IsErrAnd}
+use Rattle.std.proofs.lemmas.Bool.{ne_eqb}
 use Rattle.std.proofs.lemmas.List.{append_assoc}
-use Rattle.std.proofs.lemmas.Option.{same_Some}
+use Rattle.std.specs.Cmp.Lexicographic.{slice_cmp}
+use Rattle.std.specs.List.{AllByRecursion}
+use Rattle.std.specs.declared.cmp.Ordering.{Ordering}
+use Rattle.dewey_labels.specs.Labels.{root}
 use Rattle.outside_traits.specs.Moments.{History}
-use Rattle.tree_model.specs.Entries.{Entries}
-use Rattle.tree_model.specs.Tree.{Tree, map_of}
+use Rattle.tree_model.specs.declared.key.Key.{Key}
+use Rattle.tree_model.specs.Entries.{Above, Entries, first_above}
+use Rattle.tree_model.specs.Keys.{node_key}
+use Rattle.tree_model.specs.Names.{Name}
+use Rattle.tree_model.specs.Tree.{Catalogue, Tree, entries_of, map_of}
+use Rattle.tree_model.specs.ValidTrees.{IsValidTree, NamesRise}
 use Rattle.tree_model.specs.declared.refusal.Refusal.TheVariants.{DocumentExists}
-use Rattle.node_seq.specs.Trees.{StandsFor}
-use Rattle.journal.specs.Views.{JournalView}
+use Rattle.tree_model.proofs.Lists.{all_append}
+use Rattle.tree_model.proofs.WholeTree.{catalogue_entries, documents_above}
+use Rattle.node_seq.specs.Reads.{key_above}
 use Rattle.call_contract.specs.States.{State, start}
 use Rattle.command_lines.specs.declared.command.StoreCall.{StoreCall}
 use Rattle.command_lines.specs.declared.line_reply.LineReply.{LineReply}
 use Rattle.session_driver.specs.Lines.{Asked, IsValidDoing, after_line as after_asked_line}
-use Rattle.session_driver.specs.declared.doing.Doing.{Doing}
 use Rattle.session_driver.specs.declared.doing.Doing.TheVariants.{Commit}
 use Rattle.store_calls.specs.StoreCalls.{IsValidStoreCall, store_meaning}
 use Rattle.tx_core.specs.Cores.{CoreView}
@@ -24,7 +32,7 @@ use Rattle.workload_gen.specs.Summaries.{after_line}
 use Rattle.workload_gen.specs.declared.line.Line.{Line}
 use Rattle.workload_gen.specs.declared.summary.Summary.{Summary}
 use Rattle.command_words.specs.Commands.{gen}
-use Rattle.durable_sessions.specs.Asked.{LeadsTo, LeavesEither, asked_from}
+use Rattle.durable_sessions.specs.Asked.{LeadsTo, LeavesEither}
 use Rattle.durable_sessions.specs.InTurn.{AllAnswered, stop_of}
 use Rattle.durable_sessions.specs.Reasons.{first_reason, limit_of}
 use Rattle.durable_sessions.specs.Standing.{Stands}
@@ -38,7 +46,6 @@ use Rattle.xtc.specs.Generated.{asked_in, counted, generated, generated_line}
 use Rattle.xtc.specs.ScriptLine.{Line as Read, line_of}
 use Rattle.durable_sessions.specs.declared.reasons.Reason.{Reason}
 use Rattle.durable_sessions.specs.declared.reasons.Reason.TheVariants as reason
-use Rattle.xtc.specs.declared.status.Status.{Status}
 use Rattle.xtc.specs.declared.status.Status.TheVariants.{DocumentRefused}
 use Rattle.xtc.specs.inside.Asking.{AreValidAsks, DocumentWent, LeavesFirst, Stopped, after, said}
 use Rattle.xtc.specs.inside.Counting.{AllCounted, AskedLine, HasRun, Made, RanLines}
@@ -126,7 +133,7 @@ module _ {B : Type 0} (contents : B → Option Entries) where
         one = omega arith;
         valid = subst AreValidAsks (sym whole) made.valid;
         moments = subst (λ (l : List (Asked StoreCall)). LeavesFirst is_known s l old new) (sym whole) made.moments;
-        left = λ known holds image is. inl (image_holds (after s all) new (made.leads.settled known holds) image is);
+        left = λ known pages holds image is. inl (image_holds (after s all) pages new (made.leads.settled known pages holds) image is);
         still = made.still;
         stops = record { front = []; last = all; parts = sym whole; one = made.few; unrefused = refl };
         cause = (ap (first_reason limit_of) (sym made.replies) ∙ refused, refl);
@@ -204,14 +211,27 @@ module _ {B : Type 0} (contents : B → Option Entries) where
 
 -- ---- a store with documents
 
-documents_of : (base : Entries) (t : Tree) (b : Bool) → StandsFor (Some base) t → (length base == 0) ≡ b → (length (map_of t) == 0) ≡ b
-documents_of base t b stands is = ap (λ (es : Entries). length es == 0) (sym (same_Some base (map_of t) stands.map)) ∙ is
+-- all entries of a valid tree's map lie above the root's own key, so the least one above it is the first
+name_above : (lo n : Name) → slice_cmp nat_cmp lo n ≡ Less → slice_cmp nat_cmp [] n ≡ Less
+name_above [] [] h = h
+name_above (y ∷ ys) [] h = cc
+name_above lo (x ∷ xs) h = refl
 
-pub some_document : (base : Entries) (t : Tree) → StandsFor (Some base) t → (length base == 0) ≡ false → has_documents t ≡ true
-some_document base t stands is = ap not (documents_of base t false stands is)
+catalogue_above : (lo : Name) (cat : Catalogue) → NamesRise lo cat → AllByRecursion (Above (node_key root)) (catalogue_entries cat)
+catalogue_above lo [] w = tt
+catalogue_above lo (c ∷ cat) w = (name_above lo c.0 w.0, catalogue_above c.0 cat w.2)
 
-pub no_document : (base : Entries) (t : Tree) → StandsFor (Some base) t → (length base == 0) ≡ true → has_documents t ≡ false
-no_document base t stands is = ap not (documents_of base t true stands is)
+all_above : (t : Tree) → IsValidTree t → AllByRecursion (Above (node_key root)) (map_of t)
+all_above t w = all_append (Above (node_key root)) (catalogue_entries t.catalogue) (entries_of t.documents) (catalogue_above [] t.catalogue w.catalogue.names) (documents_above [] t w)
+
+-- there is a key exactly where there is an entry
+first_is : (k : Key) (es : Entries) → AllByRecursion (Above k) es → is_some (key_above k es) ≡ not (length es == 0)
+first_is k [] all = refl
+first_is k (e ∷ es) all = ap (λ (o : Ordering). is_some (option_map (λ x. x.0) (cond (is_lt o) (Some e) (first_above k es)))) all.0 ∙ sym (ap not (ne_eqb (length (e ∷ es)) 0 (λ is. omega (arith, is))))
+
+-- so a store has documents exactly where it has a key above the root's
+pub documents_seen : (t : Tree) → IsValidTree t → is_some (key_above (node_key root) (map_of t)) ≡ has_documents t
+documents_seen t valid = first_is (node_key root) (map_of t) (all_above t valid)
 
 -- then nothing is asked
 pub documents_refused : (is_known : Bool) (t : Tree) (n limit seed count : ℕ) (journal : History) → has_documents t ≡ true
@@ -220,5 +240,5 @@ documents_refused is_known t n limit seed count journal some =
     nothing_asked is_known (start t n limit) (gen seed count) [] journal (DocumentRefused (reason.Call DocumentExists))
     (ap (λ (b : Bool). end_of (gen seed count) (start t n limit) (gen_asks_of b seed count)) some) (omega arith)
 
-pub script_asked : (t : Tree) (n limit seed count : ℕ) → has_documents t ≡ false → asks_of (gen seed count) (start t n limit) [] ≡ Ok (generated (script seed count))
-script_asked t n limit seed count none = ap (λ (b : Bool). gen_asks_of b seed count) none
+pub script_asked : (s : State StoreCall) (seed count : ℕ) → has_documents s.tree ≡ false → asks_of (gen seed count) s [] ≡ Ok (generated (script seed count))
+script_asked s seed count none = ap (λ (b : Bool). gen_asks_of b seed count) none

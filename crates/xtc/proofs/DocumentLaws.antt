@@ -1,43 +1,33 @@
 -- A command of one document: what it leaves of the journal by its status, and of the whole store.
-use Rattle.std.proofs.Common.{◌≡◌, ◌≤◌, ℕ, ◌+◌, Bool, false, IsTrue, List, [], ◌++◌, length, take, inl, inr, ⊎_elim, refl, sym, ap, subst, ◌∙◌, append-nil, add-zero, arith}
+use Rattle.std.proofs.Common.{◌≡◌, ◌≤◌, ℕ, ◌+◌, Bool, false, IsTrue, List, [], ◌++◌, length, take, inl, inr, ⊎_elim, refl, sym, ap, subst, ◌∙◌, append-nil, arith}
 use Rattle.std.specs.Prelude.{Option, None, Some, Result, Ok, Err, IfOk, IfErr, IfSome}
 use Rattle.std.specs.Result.{IsErrAnd}
 use Rattle.std.proofs.lemmas.List.{append_assoc, length-append}
-use Rattle.std.proofs.lemmas.Option.{same_Some}
 use Rattle.std.proofs.Math.Seq.{take-append_seam}
 use Rattle.outside_traits.specs.Bytes.{Took, TookPrefix}
 use Rattle.outside_traits.specs.CrashImages.{IsImage}
 use Rattle.outside_traits.specs.DiskPairs.{PairsHave, pair_of}
-use Rattle.outside_traits.specs.Disks.{DiskState, all_synced}
 use Rattle.outside_traits.specs.Moments.{History, IsAllSynced}
-use Rattle.outside_traits.proofs.ImageLaws.{image-all_synced}
 use Rattle.outside_traits.proofs.MomentLaws.{started, weaker}
 use Rattle.outside_traits.proofs.PairLaws.{journal_phase}
 use Rattle.dewey_labels.specs.Labels.{Label}
 use Rattle.tree_model.specs.Entries.{Entries}
 use Rattle.tree_model.specs.Names.{Name}
-use Rattle.tree_model.specs.StoredTree.{IsStoredTree}
 use Rattle.tree_model.specs.Tree.{Tree, map_of}
 use Rattle.tree_model.specs.ValidTrees.{IsValidTree}
 use Rattle.tree_model.specs.declared.fragment.Fragment.{Fragment}
-use Rattle.node_seq.specs.Trees.{StandsFor}
 use Rattle.path_model.specs.declared.path.XPath.{XPath}
 use Rattle.xpath_parser.specs.Parse.{parsed}
 use Rattle.xpath_parser.specs.declared.path_error.PathError.{PathError}
-use Rattle.journal.specs.Groups.{is_next}
-use Rattle.journal.specs.Views.{JournalView}
-use Rattle.recovery.specs.Opened.{contents_of_files}
-use Rattle.recovery.specs.Openings.{TakesBehind}
 use Rattle.script_runs.specs.Whole.{piece}
 use Rattle.call_contract.specs.States.{State, start}
 use Rattle.command_lines.specs.declared.command.StoreCall.{StoreCall}
 use Rattle.command_lines.specs.declared.line_reply.LineReply.{LineReply}
 use Rattle.session_driver.specs.Lines.{Asked}
-use Rattle.tx_core.specs.Cores.{CoreView, next_number, opened_over}
+use Rattle.tx_core.specs.Cores.{CoreView}
 use Rattle.xtc.specs.Book.{after_asked}
 use Rattle.command_words.specs.Commands.{Command, run, workers, put, get, query, gen}
 use Rattle.xtc.specs.Commands.{may_commit, reads_input}
-use Rattle.durable_sessions.specs.Asked.{TakesNext}
 use Rattle.durable_sessions.specs.Durable.{HoldState, HoldsAll, HoldsEither}
 use Rattle.durable_sessions.specs.InTurn.{AllAnswered, AskNoCommit, StopsBy}
 use Rattle.durable_sessions.specs.Reasons.{first_reason}
@@ -51,12 +41,12 @@ use Rattle.xtc.specs.Documents.{asks_of, put_asks_of, query_asks_of, question_as
 use Rattle.xtc.specs.Statuses.{status_of_stop}
 use Rattle.xtc.specs.declared.question.Question.{Question}
 use Rattle.xtc.specs.declared.question.Question.TheVariants.{Whole, FoundBy}
-use Rattle.xtc.specs.StoreMachine.{Stands}
 use Rattle.xtc.specs.TopCall.{AreFirst, DocumentRan, IsDocumentEnd, IsWhole, IsWithin, NeedsWhole, OpenAfterAsked, OpenAfter, Outcome, WroteWhole, slack, whole_limit}
 use Rattle.xtc.specs.declared.status.Status.{Status}
 use Rattle.xtc.specs.declared.status.Status.TheVariants.{Done, Usage, LineTooLong, Damaged, ReadFault, WriteFault, DiskFault, NoMemory, NotJsonMl, DocumentRefused}
 use Rattle.xtc.specs.inside.Asking.{AreValidAsks, after, said, HoldsFirst, LeavesFirst, Stopped, DocumentWent, DocumentDone, HasText, IfJudged, InputDone, IsReadElement, IsStop, IsUnwritten, IsWriteEnd, WentAndJudged}
 use Rattle.xtc.proofs.AskedLaws.{asked_sound, opens_after_asked}
+use Rattle.xtc.proofs.StoreMachineLaws.{image_same}
 
 -- ---- by the status
 
@@ -105,8 +95,8 @@ module _ (is_known : Bool) (s : State StoreCall) (c : Command) (read : List ℕ)
     stops = record { front = []; last = []; parts = refl; one = omega arith; unrefused = refl };
     end = end;
     short = short;
-    moments = λ known holds. started (HoldsFirst s []) journal;
-    left = λ known holds image is. inl (image_holds s journal holds image is);
+    moments = λ known pages holds. started (HoldsFirst s [] pages) journal;
+    left = λ known pages holds image is. inl (image_holds s pages journal holds image is);
     still = λ commits_none. refl;
   }
 
@@ -167,7 +157,7 @@ module _ (is_known : Bool) (s : State StoreCall) (c : Command) (read : List ℕ)
             end = (is ∙ ap Ok (sym whole), ap (λ (l : List (Asked StoreCall)). end_by (first_reason (stops_at c) (said s l))) whole ∙ ap end_by h.unrefused);
             short = short;
             moments = subst (λ (l : List (Asked StoreCall)). LeavesFirst is_known s l old new) (sym whole) h.moments;
-            left = λ known holds image is_image. inl (image_holds (after s all) new (h.leads.settled known holds) image is_image);
+            left = λ known pages holds image is_image. inl (image_holds (after s all) pages new (h.leads.settled known pages holds) image is_image);
             still = λ commits_none. h.still (asks_no_commit c s read all is commits_none);
           };
           shown = shown ∙ ap (text_of c s) (sym whole);
@@ -188,8 +178,8 @@ module _ (is_known : Bool) (s : State StoreCall) (c : Command) (read : List ℕ)
           stops = record { front = all; last = []; parts = refl; one = omega arith; unrefused = unrefused };
           end = (is ∙ ap Ok (sym whole), ap (λ (l : List (Asked StoreCall)). end_by (first_reason (stops_at c) (said s l))) whole ∙ ap end_by unrefused);
           short = short;
-          moments = λ known holds. started (HoldsFirst s (all ++ [])) journal;
-          left = λ known holds image is_image. inl (image_holds (after s all) journal (record {
+          moments = λ known pages holds. started (HoldsFirst s (all ++ []) pages) journal;
+          left = λ known pages holds image is_image. inl (image_holds (after s all) pages journal (record {
             synced = holds.synced;
             holds = holds.holds
                 ∙ ap (λ (u : Tree). Ok (record { entries = map_of u; number = s.number })) (sym same_tree)
@@ -228,9 +218,9 @@ module _ (t : Tree) (n limit : ℕ) (formed : IsValidTree t) where
   abbrev s : State StoreCall
   s = start t n limit
 
-  opens_first : (least : ℕ) (asked first rest : List (Asked StoreCall)) (journal pages : List ℕ) → AreValidAsks asked → first ++ rest ≡ asked → least ≤ length first → pages ≡ [] → HoldState (after s first) journal []
+  opens_first : (least : ℕ) (asked first rest : List (Asked StoreCall)) (journal pages bytes : List ℕ) → AreValidAsks asked → first ++ rest ≡ asked → least ≤ length first → pages ≡ bytes → HoldState (after s first) journal bytes
       → OpenAfterAsked t n limit least asked journal pages
-  opens_first least asked first rest journal pages valid parts enough none holds =
+  opens_first least asked first rest journal pages bytes valid parts enough same holds =
       let taken : take (length first) asked ≡ first = ap (take (length first)) (sym parts) ∙ take-append_seam first rest in
       let front : AreValidAsks first = valid_first IsValidStoreCall first rest (subst AreValidAsks (sym parts) valid) in
       record {
@@ -238,26 +228,24 @@ module _ (t : Tree) (n limit : ℕ) (formed : IsValidTree t) where
         enough = enough;
         within = let sum : length asked ≡ length first + length rest = ap length (sym parts) ∙ length-append first rest in omega (arith, sum);
         opens = subst (λ (l : List (Asked StoreCall)). OpenAfter t n (after_asked s l).book journal pages) (sym taken)
-            (opens_after_asked t n limit formed first front journal pages (subst (HoldState (after s first) journal) (sym none) holds));
+            (opens_after_asked t n limit formed first front journal pages (subst (HoldState (after s first) journal) (sym same) holds));
       }
 
-  no_pages : (pages : History) → pages.now ≡ all_synced [] → (image : List ℕ) → IsImage pages.now image → image ≡ []
-  no_pages pages empty image is = image-all_synced [] image (subst (λ (d : DiskState). IsImage d image) empty is)
-
   -- a command over a store that was opened so, which wrote its text or nothing
-  pub document_ran : (is_known : Bool) (c : Command) (o : Outcome) (journal pages : History) (status : Status) → IsTrue is_known → HoldsAll s journal → pages.now ≡ all_synced []
+  pub document_ran : (is_known : Bool) (c : Command) (o : Outcome) (journal pages : History) (status : Status) → IsTrue is_known → HoldsAll s pages.now.reads journal → IsAllSynced pages
       → (went : DocumentWent is_known s c o.read journal o.new.journal status) → o.new.pages ≡ pages → IsImage o.new.journal.now o.new.journal.now.reads → IsImage o.new.pages.now o.new.pages.now.reads
       → (reads_input (Some c) ≡ false → o.read ≡ []) → (IsTrue (reads_input (Some c)) → NeedsWhole status (went.answered ++ went.more) (IsWhole o.left o.read))
       → WroteWhole status o.before o.now (text_of c s (went.answered ++ went.more)) → DocumentRan t n limit c status (pair_of journal pages) o
-  document_ran is_known c o journal pages status known settled empty went still of_journal of_pages unread judged wrote =
+  document_ran is_known c o journal pages status known settled synced went still of_journal of_pages unread judged wrote =
       let asked : List (Asked StoreCall) = went.answered ++ went.more in
-      let empty_now : o.new.pages.now ≡ all_synced [] = ap (λ (h : History). h.now) still ∙ empty in
+      let bytes : List ℕ = pages.now.reads in
+      let same_now : (p : List ℕ) → IsImage o.new.pages.now p → p ≡ bytes = λ p is. image_same o.new.pages (subst IsAllSynced (sym still) synced) p is ∙ ap (λ (h : History). h.now.reads) still in
       let Left : List ℕ → List ℕ → Type 0 = OpenAfterAsked t n limit (length went.answered) asked in
-      let either : (j p : List ℕ) → p ≡ [] → HoldsEither (after s went.answered) (after s asked) j → Left j p = λ j p none. ⊎_elim
-      (λ holds. opens_first (length went.answered) asked went.answered went.more j p went.valid refl (omega arith) none holds)
-      (λ holds. opens_first (length went.answered) asked asked [] j p went.valid (append-nil asked)
-      (let sum : length asked ≡ length went.answered + length went.more = length-append went.answered went.more in omega (arith, sum)) none holds) in
-      let left : PairsHave Left o.new = λ j p is_j is_p. either j p (no_pages o.new.pages empty_now p is_p) (went.left known settled j is_j) in
+      let either : (j p : List ℕ) → p ≡ bytes → HoldsEither (after s went.answered) (after s asked) bytes j → Left j p = λ j p same. ⊎_elim
+      (λ holds. opens_first (length went.answered) asked went.answered went.more j p bytes went.valid refl (omega arith) same holds)
+      (λ holds. opens_first (length went.answered) asked asked [] j p bytes went.valid (append-nil asked)
+      (let sum : length asked ≡ length went.answered + length went.more = length-append went.answered went.more in omega (arith, sum)) same holds) in
+      let left : PairsHave Left o.new = λ j p is_j is_p. either j p (same_now p is_p) (went.left known bytes settled j is_j) in
       record {
         asked = asked;
         first = went.first;
@@ -272,21 +260,14 @@ module _ (t : Tree) (n limit : ℕ) (formed : IsValidTree t) where
         unwritten = went.still;
         wrote = wrote;
         any_moment = journal_phase (OpenAfterAsked t n limit 0 asked) (pair_of journal pages) o.new (record {
-          leaves = weaker (HoldsFirst s asked) (λ j. (p : List ℕ) → IsImage pages.now p → OpenAfterAsked t n limit 0 asked j p) journal o.new.journal
-              (λ j h p is_p. opens_first 0 asked h.first h.rest j p went.valid h.parts (omega arith) (no_pages pages empty p is_p) h.holds) (went.moments known settled);
+          leaves = weaker (HoldsFirst s asked bytes) (λ j. (p : List ℕ) → IsImage pages.now p → OpenAfterAsked t n limit 0 asked j p) journal o.new.journal
+              (λ j h p is_p. opens_first 0 asked h.first h.rest j p bytes went.valid h.parts (omega arith) (image_same pages synced p is_p) h.holds) (went.moments known bytes settled);
           still = still;
         });
         left = left;
         reads = left o.new.journal.now.reads o.new.pages.now.reads of_journal of_pages;
         pages = still;
       }
-
-  -- the journal of a store that was opened holds what is committed at the start
-  pub opening_holds : (journal : History) (base : Entries) → StandsFor (Some base) t → IsAllSynced journal → contents_of_files journal.now.reads [] ≡ Ok (record { entries = base; number = n }) → HoldsAll s journal
-  opening_holds journal base is synced opens = record {
-    synced = synced;
-    holds = opens ∙ ap (λ (es : Entries). Ok (record { entries = es; number = n })) (same_Some base (map_of t) is.map);
-  }
 
 -- ---- results
 
@@ -423,17 +404,7 @@ module _ {T : Type 0} (is_known : Bool) (s : State StoreCall) (c : Command) (rea
   document_written (Err e) status done unwritten written none = subst (λ (x : Status). WentAndWrote is_known s c read W old new x before now) (sym none.0)
       (record { went = done.went; judged = done.judged; wrote = unwritten_is e before now (text_of c s (done.went.answered ++ done.went.more)) unwritten none.1 })
 
--- ---- a core that was opened
-
-pub core_stands : (base : Entries) (n limit : ℕ) (core : CoreView StoreCall Entries) (t : Tree) → core ≡ opened_over base (Some base) n limit → StandsFor (Some base) t
-    → Stands core (start t n limit)
-core_stands base n limit core t is stands = subst (λ (v : CoreView StoreCall Entries). Stands v (start t n limit)) (sym is) (record { tree = t; opened = stands; state = refl })
-
-pub takes_begin : (base : Entries) (n limit : ℕ) (core : CoreView StoreCall Entries) (journal : JournalView) → core ≡ opened_over base (Some base) n limit → TakesBehind journal n → TakesNext core journal
-takes_begin base n limit core journal is takes = record {
-  usable = takes.usable;
-  next = ap (λ (v : CoreView StoreCall Entries). is_next journal.last (next_number v)) is ∙ ap (λ (k : ℕ). is_next journal.last (k + 1)) (add-zero n) ∙ takes.next;
-}
+-- ---- a command that didn't begin
 
 -- memory was wanting for it
 pub not_opened : {T : Type 0} (r : Result T Status) (status : Status) (is_known : Bool) (s : State StoreCall) (c : Command) (read : List ℕ) (journal : History) (bytes : T → List ℕ) → length read ≤ whole_limit → status ≡ NoMemory → IsErrAnd r (λ e. e ≡ status)
@@ -461,12 +432,12 @@ stops_unwritten (Err e) is = stop_unwritten e is
 
 -- ---- the whole command
 
-pub document_finished : (t : Tree) (n limit : ℕ) (formed : IsValidTree t) (is_known : Bool) (c : Command) (o : Outcome) (W : Type 0) (journal pages mid : History) (status : Status) → IsTrue is_known → HoldsAll {C = StoreCall} (start t n limit) journal
-    → pages.now ≡ all_synced [] → WentAndWrote is_known (start t n limit) c o.read W journal mid status o.before o.now → o.new.journal ≡ mid → o.new.pages ≡ pages
+pub document_finished : (t : Tree) (n limit : ℕ) (formed : IsValidTree t) (is_known : Bool) (c : Command) (o : Outcome) (W : Type 0) (journal pages mid : History) (status : Status) → IsTrue is_known → HoldsAll {C = StoreCall} (start t n limit) pages.now.reads journal
+    → IsAllSynced pages → WentAndWrote is_known (start t n limit) c o.read W journal mid status o.before o.now → o.new.journal ≡ mid → o.new.pages ≡ pages
     → IsImage o.new.journal.now o.new.journal.now.reads → IsImage o.new.pages.now o.new.pages.now.reads → (reads_input (Some c) ≡ false → o.read ≡ []) → (IsTrue (reads_input (Some c)) → W → IsWhole o.left o.read)
     → DocumentRan t n limit c status (pair_of journal pages) o
-document_finished t n limit formed is_known c o W journal pages mid status known settled empty wrote same still of_journal of_pages unread whole =
+document_finished t n limit formed is_known c o W journal pages mid status known settled synced wrote same still of_journal of_pages unread whole =
     let all : WentAndWrote is_known (start t n limit) c o.read W journal o.new.journal status o.before o.now
     = subst (λ (h : History). WentAndWrote is_known (start t n limit) c o.read W journal h status o.before o.now) (sym same) wrote in
-    document_ran t n limit formed is_known c o journal pages status known settled empty all.went still of_journal of_pages unread
+    document_ran t n limit formed is_known c o journal pages status known settled synced all.went still of_journal of_pages unread
     (λ reads. judged_as status (all.went.answered ++ all.went.more) W (IsWhole o.left o.read) (whole reads) all.judged) all.wrote

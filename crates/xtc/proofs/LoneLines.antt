@@ -1,7 +1,8 @@
 -- What `get` and `query` show: the lines of a session that would be alone, each answered by the tree that a map stands for.
-use Rattle.std.proofs.Common.{◌≡◌, ◌∙◌, ℕ, Bool, List, [], ◌∷◌, ◌++◌, refl, sym, ap, subst, arith}
+use Rattle.std.proofs.Common.{◌≡◌, ◌≤◌, ◌∙◌, ℕ, Bool, List, [], ◌∷◌, ◌++◌, inl, inr, refl, sym, ap, subst, arith}
 use Rattle.std.specs.Prelude.{◌≢◌, Option, Some, None, Result, Ok, Err}
-use Rattle.outside_traits.specs.Faults.{FaultCounted}
+use Rattle.std.proofs.lemmas.Bool.{cases_eq}
+use Rattle.outside_traits.specs.Faults.{FaultCounted, HasCause}
 use Rattle.outside_traits.specs.Moments.{History}
 use Rattle.dewey_labels.specs.Labels.{Label}
 use Rattle.tree_model.specs.Entries.{Entries}
@@ -32,6 +33,7 @@ use Rattle.xtc.specs.declared.question.Question.TheVariants.{FoundBy}
 use Rattle.xtc.specs.declared.status.Status.TheVariants.{DiskFault, DocumentRefused, NoMemory}
 use Rattle.xtc.specs.inside.Asking.{DocumentWent, HasText, said}
 use Rattle.xtc.specs.inside.Showing.{AddsAnswer, AreLinesOf, IsHalt, said_line, Shows}
+use Rattle.xtc.specs.inside.Stores.{Counts}
 use Rattle.xtc.proofs.DocumentLaws.{document_alone, document_refused, nothing_asked}
 use Rattle.xtc.proofs.OnTreeLaws.{kept, lines_with, lines_without, same_numbers, spent_limit}
 
@@ -45,9 +47,33 @@ pub never_some : {A : Type 0} (o : Option A) → ((x : A) → o ≡ Some x → �
 never_some None never = refl
 never_some (Some x) never = absurd (never x refl)
 
--- a map in memory counts no fault
-pub none_counted : FaultCounted 0 0 → ⊥
-none_counted counted = omega (arith, counted)
+-- a count that is another one than before rose
+pub rose : (before now : ℕ) → before ≤ now → (now ≡ before → ⊥) → FaultCounted before now
+rose before now later other = omega (arith, later, other)
+
+-- where a fault comes first that was counted, what is so of the answer and of that fault is so of what is answered
+pub first_has : {T : Type 0} (P : Result T Stop → Type 0) (answer given : Result T Stop) (before now : ℕ) → (now ≡ before → given ≡ answer) → (now ≢ before → given ≡ Err stop.DiskFault) → P answer → P (Err stop.DiskFault) → P given
+first_has P answer given before now same fault there failed = elim (cases_eq now before) [
+  | inl stays ↦ subst P (sym (same stays)) there
+  | inr other ↦ subst P (sym (fault other)) failed
+]
+
+-- and it is answered exactly where it was counted
+pub counted_first : {T : Type 0} (answer given : Result T Stop) (before now : ℕ) → HasCause stop.DiskFault before now answer → (now ≡ before → given ≡ answer) → (now ≢ before → given ≡ Err stop.DiskFault)
+    → Counts (given ≡ Err stop.DiskFault) before now
+counted_first answer given before now cause same fault = record {
+  cause = record {
+    counted = λ is. elim (cases_eq now before) [
+      | inl stays ↦ cause.failed (sym (same stays) ∙ is)
+      | inr other ↦ rose before now cause.later other
+    ];
+    exact = λ never. elim (cases_eq now before) [
+      | inl stays ↦ stays
+      | inr other ↦ absurd (never (fault other))
+    ];
+  };
+  later = cause.later;
+}
 
 -- a path that was read is asked for
 pub query_shows : (s : State StoreCall) (name : Name) (text : List ℕ) (path : XPath) → parsed text ≡ Ok path → Shows (query name text) s name (FoundBy path)

@@ -1,60 +1,68 @@
 -- A store that was opened may be asked, and its files hold what is committed.
-use Rattle.std.proofs.Common.{◌≡◌, ℕ, ◌+◌, List, [], Bool, ◌&&◌, IsTrue, refl, ap, subst, sym, ◌∙◌, add-zero}
-use Rattle.std.specs.Prelude.{Some, Ok}
-use Rattle.std.proofs.lemmas.Option.{same_Some}
-use Rattle.outside_traits.specs.CrashImages.{IsImage}
-use Rattle.outside_traits.specs.Disks.{DiskState, all_synced}
-use Rattle.outside_traits.specs.Moments.{History, IsAllSynced}
-use Rattle.outside_traits.proofs.ImageLaws.{image-all_synced}
+use Rattle.std.proofs.Common.{◌≡◌, ℕ, ◌+◌, Bool, ◌&&◌, IsTrue, refl, sym, ap, subst, ◌∙◌, add-zero}
+use Rattle.std.specs.Prelude.{Option}
+use Rattle.outside_traits.specs.DiskPairs.{pair_of}
+use Rattle.outside_traits.specs.Moments.{History}
 use Rattle.tree_model.specs.Entries.{Entries}
 use Rattle.tree_model.specs.Tree.{Tree}
 use Rattle.node_seq.specs.Trees.{StandsFor}
 use Rattle.journal.specs.Groups.{is_next}
-use Rattle.journal.specs.Views.{JournalView, TakesGroups}
-use Rattle.recovery.specs.Opened.{contents_of_files}
+use Rattle.journal.specs.Views.{JournalView}
+use Rattle.recovery.specs.Openings.{TakesBehind}
+use Rattle.script_runs.specs.Counts.{DisksCountedWhere}
 use Rattle.script_runs.specs.Machine.{IsSettled}
 use Rattle.durable_sessions.specs.Asked.{TakesNext}
-use Rattle.call_contract.specs.States.{State, start}
+use Rattle.durable_sessions.specs.Durable.{HoldsAll}
+use Rattle.durable_sessions.specs.Standing as standing
+use Rattle.call_contract.specs.States.{start}
 use Rattle.command_lines.specs.declared.command.StoreCall.{StoreCall}
-use Rattle.tx_core.specs.Cores.{CoreView, opened_over}
-use Rattle.durable_sessions.specs.Durable.{HoldState}
-use Rattle.xtc.specs.StoreMachine.{KeptStore, Stands, store_machine}
+use Rattle.store_calls.specs.StoreCalls.{store_meaning}
+use Rattle.tx_core.specs.Cores.{CoreView, next_number, opened_over}
+use Rattle.xtc.specs.StoreMachine.{Held, KeptStore, pages_of, store_machine, told}
+use Rattle.xtc.specs.inside.CommandRuns.{StandSettled}
+use Rattle.xtc.proofs.StoreMachineLaws.{settled_out}
 
--- the core of a store that was opened over this map, with this number
-abbrev pub opened_core : Entries → ℕ → ℕ → CoreView StoreCall Entries
-opened_core base n limit = opened_over base (Some base) n limit
+-- the files of a store that was opened hold what is committed at the start
+pub opening_holds : (t : Tree) (n limit : ℕ) (journal pages : History) → StandSettled (pair_of journal pages) t n → HoldsAll {C = StoreCall} (start t n limit) pages.now.reads journal
+opening_holds t n limit journal pages stand = record { synced = stand.journal; holds = stand.stand.opens }
 
--- both disks are known
-pub both_known : (a b : Bool) → IsTrue a → IsTrue b → IsTrue (a && b)
-both_known a b p q = ap (λ (x : Bool). x && b) p ∙ q
+module _ {B : Type 0} (contents : B → Option Entries) (base : B) (n limit : ℕ) (core : CoreView StoreCall B) (is : core ≡ opened_over base (contents base) n limit) where
+  -- a core that was opened over a base stands for its tree
+  pub core_stands : (t : Tree) → StandsFor (contents base) t → standing.Stands store_meaning contents core (start t n limit)
+  core_stands t stands = subst (λ (v : CoreView StoreCall B). standing.Stands store_meaning contents v (start t n limit)) (sym is) (record { tree = t; opened = stands; state = refl })
 
-module _ {P : Type 0} (is_known : Bool) (history : P → History) (faults : P → ℕ) (base : Entries) (n limit : ℕ) (journal : JournalView) (pages : P) where
-  abbrev opened : KeptStore P
-  opened = record { core = opened_core base n limit; journal = journal; pages = pages }
-
-  pub opened_stands : (t : Tree) → StandsFor (Some base) t → Stands (opened_core base n limit) (start t n limit)
-  opened_stands t stands = record { tree = t; opened = stands; state = refl }
-
-  pub opened_takes : TakesGroups journal → IsTrue (is_next journal.last (n + 1)) → TakesNext (opened_core base n limit) journal
-  opened_takes usable next = record { usable = usable; next = ap (λ (k : ℕ). is_next journal.last (k + 1)) (add-zero n) ∙ next }
-
-  -- the journal stands for what is committed in whichever state the core stands
-  journal_holds : contents_of_files journal.history.now.reads [] ≡ Ok (record { entries = base; number = n }) → (s : State StoreCall) → Stands (opened_core base n limit) s → HoldState s journal.history.now.reads []
-  journal_holds opens s stands =
-      subst (λ (u : State StoreCall). HoldState u journal.history.now.reads []) stands.state
-      (opens ∙ ap (λ (es : Entries). Ok (record { entries = es; number = n })) (same_Some _ _ stands.opened.map))
-
-  images_hold : IsAllSynced journal.history → (history pages).now ≡ all_synced [] → (s : State StoreCall) → HoldState s journal.history.now.reads []
-      → (image beside : List ℕ) → IsImage journal.history.now image → IsImage (history pages).now beside → HoldState s image beside
-  images_hold synced empty s holds image beside of_journal of_pages =
-      subst (λ (x : List ℕ × List ℕ). HoldState s x.0 x.1)
-      (λ i. (sym (image-all_synced journal.history.now.reads image (subst (λ (d : DiskState). IsImage d image) synced of_journal)) i, sym (image-all_synced [] beside (subst (λ (d : DiskState). IsImage d beside) empty of_pages)) i))
-      holds
-
-  pub opened_settled : (t : Tree) → StandsFor (Some base) t → IsTrue is_known → IsAllSynced journal.history → (history pages).now ≡ all_synced []
-      → contents_of_files journal.history.now.reads [] ≡ Ok (record { entries = base; number = n }) → IsSettled (store_machine is_known history faults) opened (start t n limit)
-  opened_settled t is known synced empty opens = record {
-    is_known = known;
-    kept = record { journal = synced; holds = journal_holds opens; pages = empty };
-    holds = images_hold synced empty (start t n limit) (journal_holds opens (start t n limit) (opened_stands t is));
+  -- and the journal takes its next commit
+  pub takes_begin : (journal : JournalView) → TakesBehind journal n → TakesNext core journal
+  takes_begin journal takes = record {
+    usable = takes.usable;
+    next = ap (λ (v : CoreView StoreCall B). is_next journal.last (next_number v)) is ∙ ap (λ (k : ℕ). is_next journal.last (k + 1)) (add-zero n) ∙ takes.next;
   }
+
+  base_is : core.base ≡ base
+  base_is = ap (λ (v : CoreView StoreCall B). v.base) is
+
+  -- what stays of the core's base stays of the one that it was opened over
+  pub base_stays : (stays : B → B → Type 0) (new out : B) → out ≡ new → stays core.base new → stays base out
+  base_stays stays new out same holds = subst (λ (x : B × B). stays x.0 x.1) (λ i. (base_is i, sym same i)) holds
+
+  -- and so it is with what was counted
+  pub counts_from : {Q : Type 0} (count : B → ℕ) (new out : B) → out ≡ new → (journal journal_now : ℕ)
+      → DisksCountedWhere Q (record { journal = journal; pages = count core.base }) (record { journal = journal_now; pages = count new })
+      → DisksCountedWhere Q (record { journal = journal; pages = count base }) (record { journal = journal_now; pages = count out })
+  counts_from {Q} count new out same journal journal_now counts =
+      subst (λ (x : B × B). DisksCountedWhere Q (record { journal = journal; pages = count x.0 }) (record { journal = journal_now; pages = count x.1 })) (λ i. (base_is i, sym same i)) counts
+
+module _ {P : Type 0} (journal_known pages_known : Bool) (history : P → History) (faults : P → ℕ) (base : Held P) (n limit : ℕ) (core : CoreView StoreCall (Held P)) (journal : JournalView)
+    (is : core ≡ opened_over base (told pages_known history base) n limit) where
+  abbrev opened : KeptStore P
+  opened = record { core = core; journal = journal }
+
+  held_is : core.base ≡ base
+  held_is = ap (λ (v : CoreView StoreCall (Held P)). v.base) is
+
+  pub opened_settled : (t : Tree) → StandsFor (told pages_known history base) t → IsTrue (journal_known && pages_known) → StandSettled (pair_of journal.history (pages_of history base)) t n
+      → IsSettled (store_machine journal_known pages_known history faults) opened (start t n limit)
+  opened_settled t stands known files =
+      let here : StandSettled (pair_of journal.history (pages_of history core.base)) t n = subst (λ (b : Held P). StandSettled (pair_of journal.history (pages_of history b)) t n) (sym held_is) files in
+      settled_out journal_known pages_known history faults opened (start t n limit) known (core_stands (told pages_known history) base n limit core is t stands)
+      (opening_holds t n limit journal.history (pages_of history core.base) here) here.pages

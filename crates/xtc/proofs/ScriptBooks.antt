@@ -37,25 +37,25 @@ state_alone st n k nothing = refl
 state_alone st n k (bad why) = refl
 state_alone st n k (asked a) = refl
 
-module _ {P : Type 0} (is_known : Bool) (history : P → History) (faults : P → ℕ) where
-  state_from : (st : State StoreCall) (n : ℕ) (lines : List (List ℕ)) → state_after (store_machine is_known history faults) st lines ≡ (done_from st n lines).state
+module _ {P : Type 0} (journal_known pages_known : Bool) (history : P → History) (faults : P → ℕ) where
+  state_from : (st : State StoreCall) (n : ℕ) (lines : List (List ℕ)) → state_after (store_machine journal_known pages_known history faults) st lines ≡ (done_from st n lines).state
   state_from st n [] = refl
   state_from st n (line ∷ lines) =
-      ap (λ (u : State StoreCall). state_after (store_machine is_known history faults) u lines) (state_alone st 0 (n + 1) (line_of line))
+      ap (λ (u : State StoreCall). state_after (store_machine journal_known pages_known history faults) u lines) (state_alone st 0 (n + 1) (line_of line))
       ∙ state_from (done_by st (n + 1) (line_of line)).state (n + 1) lines
 
-  pub state_is : (st : State StoreCall) (lines : List (List ℕ)) → state_after (store_machine is_known history faults) st lines ≡ (script_of st lines).state
+  pub state_is : (st : State StoreCall) (lines : List (List ℕ)) → state_after (store_machine journal_known pages_known history faults) st lines ≡ (script_of st lines).state
   state_is st lines = state_from st 0 lines
 
-  answers_are : (st : State StoreCall) (n : ℕ) (lines : List (List ℕ)) → answers (store_machine is_known history faults) st n lines ≡ replies_text (done_from st n lines).lines
+  answers_are : (st : State StoreCall) (n : ℕ) (lines : List (List ℕ)) → answers (store_machine journal_known pages_known history faults) st n lines ≡ replies_text (done_from st n lines).lines
   answers_are st n [] = refl
   answers_are st n (line ∷ lines) =
       let first : Progress StoreCall = done_by st (n + 1) (line_of line) in
-      ap (λ (u : State StoreCall). replies_text first.lines ++ answers (store_machine is_known history faults) u (n + 1) lines) (state_alone st 0 (n + 1) (line_of line))
+      ap (λ (u : State StoreCall). replies_text first.lines ++ answers (store_machine journal_known pages_known history faults) u (n + 1) lines) (state_alone st 0 (n + 1) (line_of line))
       ∙ ap (λ (text : List ℕ). replies_text first.lines ++ text) (answers_are first.state (n + 1) lines)
       ∙ sym (flat_map-append reply_text first.lines (done_from first.state (n + 1) lines).lines)
 
-  pub text_is : (st : State StoreCall) (lines : List (List ℕ)) → answers (store_machine is_known history faults) st 0 lines ≡ replies_text (script_of st lines).lines
+  pub text_is : (st : State StoreCall) (lines : List (List ℕ)) → answers (store_machine journal_known pages_known history faults) st 0 lines ≡ replies_text (script_of st lines).lines
   text_is st lines = answers_are st 0 lines
 
 -- ---- the lines that ask a session something

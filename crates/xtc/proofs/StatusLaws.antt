@@ -1,16 +1,20 @@
 -- What a run of the program leaves, by the status that it ends with.
-use Rattle.std.proofs.Common.{◌≡◌, ◌∙◌, Bool, true, false, true≢false, refl, sym, inl, inr, List, ℕ, [], Ok, ap, subst}
+use Rattle.std.proofs.Common.{◌≡◌, ◌∙◌, Bool, true, false, true≢false, IsTrue, refl, sym, inl, inr, List, ℕ, [], ap, subst}
 use Rattle.std.specs.Prelude.{◌⊎◌, Option, None, Some}
 use Rattle.outside_traits.specs.DiskPairs.{PairsHave}
-use Rattle.recovery.specs.Trees.{StoodFor}
+use Rattle.outside_traits.specs.Disks.{DiskState, Synced, all_synced}
+use Rattle.outside_traits.specs.Moments.{History, IsAllSynced}
+use Rattle.tree_model.specs.declared.change.Change.{Change}
+use Rattle.tree_model.specs.Entries.{Entries, changed}
+use Rattle.overlays.specs.Views.{contents_after}
+use Rattle.paged_seq.specs.PagedMaps.{file_entries, map_of_file, valid_entries}
+use Rattle.store_contents.specs.StoredTrees.{StoodFor}
 use Rattle.command_words.specs.declared.words_error.WordsError.{WordsError}
 use Rattle.command_words.specs.declared.words_error.WordsError.TheVariants as words
 use Rattle.node_records.specs.declared.open_error.OpenError.{OpenError}
 use Rattle.node_records.specs.declared.open_error.OpenError.TheVariants as error
 use Rattle.node_records.specs.declared.open_error.Place.{Place}
 use Rattle.journal.specs.Refusals.{HasReason, UnlessFault}
-use Rattle.recovery.specs.Opened.{Contents, contents_of_files}
-use Rattle.recovery.proofs.CommitLaws.{pages_empty}
 use Rattle.script_runs.specs.declared.halt.Halt.TheVariants as halt
 use Rattle.script_runs.specs.declared.running.End.{End}
 use Rattle.script_runs.specs.declared.running.End.TheVariants as end
@@ -157,9 +161,14 @@ opened_not_damaged status place is e = subst IsOfOpened e is
 pub opened_not_usage : (status : Status) → IsOfOpened status → status ≡ Usage → ⊥
 opened_not_usage status is e = subst IsOfOpened e is
 
--- beside an empty page file the same is opened
-pub beside_none : (journal pages : List ℕ) (contents : Contents) → contents_of_files journal pages ≡ Ok contents → contents_of_files journal [] ≡ Ok contents
-beside_none journal pages contents opens = subst (λ p. contents_of_files journal p ≡ Ok contents) (pages_empty journal pages contents opens) opens
+-- where the page file is known, the map that is seen over it is known
+pub known_map : (is_known : Bool) → IsTrue is_known → (changes : List Change) (file : List ℕ) → (es : Entries) × (contents_after changes (map_of_file is_known file) ≡ Some es)
+known_map true known changes file = (changed changes (valid_entries (file_entries file)), refl)
+known_map false known changes file = absurd cc
+
+-- a file that was synced is all synced
+pub pages_synced : (old new : History) → Synced old.now new.now → IsAllSynced new
+pages_synced old new synced = synced ∙ ap all_synced (sym (ap (λ (d : DiskState). d.reads) synced))
 
 -- ---- the counts of faults
 

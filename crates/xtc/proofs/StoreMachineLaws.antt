@@ -1,102 +1,87 @@
 -- What a store's own clauses say of it as a machine.
-use Rattle.std.proofs.Common.{◌≡◌, ◌≤◌, ℕ, List, [], Bool, true, false, ◌&&◌, IsTrue, inl, inr, refl, ap, subst, sym, ◌∙◌, arith}
+use Rattle.std.proofs.Common.{◌≡◌, ℕ, List, Bool, true, false, ◌&&◌, IsTrue, inl, inr, refl, ap, subst, sym}
 use Rattle.std.specs.Prelude.{Some}
+use Rattle.std.proofs.lemmas.Option.{same_Some}
 use Rattle.outside_traits.specs.CrashImages.{IsImage}
-use Rattle.outside_traits.specs.Disks.{DiskState, all_synced}
+use Rattle.outside_traits.specs.Disks.{DiskState}
 use Rattle.outside_traits.specs.DiskPairs.{PairsLeave}
-use Rattle.outside_traits.specs.Faults.{FaultCounted}
-use Rattle.outside_traits.specs.Moments.{History, LeavesOnly}
+use Rattle.outside_traits.specs.Moments.{History, IsAllSynced, LeavesOnly}
 use Rattle.outside_traits.proofs.ImageLaws.{image-all_synced}
 use Rattle.outside_traits.proofs.MomentLaws.{weaker}
 use Rattle.outside_traits.proofs.PairLaws.{journal_phase}
-use Rattle.recovery.specs.Opened.{contents_of_files}
-use Rattle.script_runs.specs.Counts.{Counts, DiskFaultCounted, DisksCountedWhere}
-use Rattle.script_runs.specs.Machine.{IsSettled, HoldsEither as EitherHolds}
+use Rattle.script_runs.specs.Counts.{Counts, DisksCountedWhere}
+use Rattle.script_runs.specs.Machine.{IsSettled, Machine, HoldsEither as EitherHolds}
 use Rattle.call_contract.specs.States.{State}
 use Rattle.command_lines.specs.declared.command.StoreCall.{StoreCall}
-use Rattle.xtc.specs.StoreMachine.{KeptStore, Stands, store_machine}
-use Rattle.std.proofs.lemmas.Bool.{cases_lt}
-use Rattle.xtc.specs.inside.Stores.{Counts as JournalCounts}
+use Rattle.xtc.specs.StoreMachine.{KeptStore, Stands, if_known, pages_of, store_machine, told}
 use Rattle.durable_sessions.specs.Durable.{HoldState, HoldsAll, HoldsEither}
+use Rattle.durable_sessions.proofs.InTurnLaws.{image_holds}
 use Rattle.durable_sessions.proofs.StandingLaws.{stands_once}
 use Rattle.store_calls.specs.StoreCalls.{IsValidStoreCall, store_meaning}
 use Rattle.store_calls.proofs.StoreCallLaws.{store_laws}
 
--- both disks are known, or the first of both
+-- both disks are known, or each of both
 pub both_known : (a b : Bool) → IsTrue a → IsTrue b → IsTrue (a && b)
-both_known a b p q = ap (λ (x : Bool). x && b) p ∙ q
+both_known true b p q = q
+both_known false b p q = p
 
 pub first_known : (a b : Bool) → IsTrue (a && b) → IsTrue a
 first_known true b h = refl
 first_known false b h = h
 
--- a crash of a settled journal leaves what is committed
-settled_image : (s : State StoreCall) (journal : History) → HoldsAll s journal → (image : List ℕ) → IsImage journal.now image → HoldState s image []
-settled_image s journal settled image is =
-    ap (λ b. contents_of_files b []) (image-all_synced journal.now.reads image (subst (λ (d : DiskState). IsImage d image) settled.synced is)) ∙ settled.holds
+pub second_known : (a b : Bool) → IsTrue (a && b) → IsTrue b
+second_known true b h = h
+second_known false b h = absurd cc
 
--- empty pages leave none
-none_left : (pages : History) → pages.now ≡ all_synced [] → (image : List ℕ) → IsImage pages.now image → image ≡ []
-none_left pages empty image is = image-all_synced [] image (subst (λ (d : DiskState). IsImage d image) empty is)
+-- what is the same where it is known
+pub known_same : {A : Type 0} (is_known : Bool) (x y : A) → (IsTrue is_known → x ≡ y) → if_known is_known x ≡ if_known is_known y
+known_same true x y same = ap Some (same refl)
+known_same false x y same = refl
 
--- beside them a journal stands for what it stands for alone
-beside : (s : State StoreCall) (journal pages : List ℕ) → pages ≡ [] → HoldState s journal [] → HoldState s journal pages
-beside s journal pages none holds = subst (HoldState s journal) (sym none) holds
+pub same_known : {A : Type 0} (is_known : Bool) (x y : A) → IsTrue is_known → if_known is_known x ≡ if_known is_known y → x ≡ y
+same_known true x y known same = same_Some x y same
+same_known false x y known same = absurd cc
 
--- no fault is counted of a map in memory: it was the journal's disk
-pub beside_none : (before now : ℕ) → DiskFaultCounted (record { journal = before; pages = 0 }) (record { journal = now; pages = 0 }) → FaultCounted before now × (before ≤ now)
-beside_none before now k = elim k.one [
-  | inl counted ↦ (counted, k.journal)
-  | inr none ↦ let never : ⊥ = omega (arith, none) in absurd never
-]
+-- a crash leaves of a file that is all synced what a read gives
+pub image_same : (h : History) → IsAllSynced h → (image : List ℕ) → IsImage h.now image → image ≡ h.now.reads
+image_same h synced image is = image-all_synced h.now.reads image (subst (λ (d : DiskState). IsImage d image) synced is)
 
--- so it is counted, and the count never falls
-pub memory_counts : {P : Type 0} (before now : ℕ) → DisksCountedWhere P (record { journal = before; pages = 0 }) (record { journal = now; pages = 0 }) → JournalCounts P before now
-memory_counts {P} before now c = record {
-  cause = record { counted = λ p. (beside_none before now (c.counted p)).0; exact = λ no. ap (λ (x : Counts). x.journal) (c.exact no) };
-  later = elim (cases_lt now before) [
-    | inl fell ↦
-        let no : P → ⊥ = λ p. let k = (beside_none before now (c.counted p)).1 in omega (arith, fell, k) in
-        let same : now ≡ before = ap (λ (x : Counts). x.journal) (c.exact no) in
-        omega (arith, same)
-    | inr later ↦ later
-  ];
-}
+-- two such files stand for what is committed, and so do their images
+pub images_hold : (s : State StoreCall) (journal pages : History) → HoldsAll s pages.now.reads journal → IsAllSynced pages → (image beside : List ℕ) → IsImage journal.now image → IsImage pages.now beside → HoldState s image beside
+images_hold s journal pages settled synced image beside of_journal of_pages =
+    subst (HoldState s image) (sym (image_same pages synced beside of_pages)) (image_holds s pages.now.reads journal settled image of_journal)
 
-module _ {P : Type 0} (is_known : Bool) (history : P → History) (faults : P → ℕ) where
-  -- a journal that is settled stands for what is committed
-  pub settled_in : (k : KeptStore P) (s : State StoreCall) → Stands k.core s → IsSettled (store_machine is_known history faults) k s → HoldsAll s k.journal.history
-  settled_in k s stands settled = record { synced = settled.kept.journal; holds = settled.kept.holds s stands }
+-- a fault is counted for one thing as for another
+pub counted_out : {There Here : Type 0} (before now : Counts) → DisksCountedWhere There before now → (Here → There) → ((Here → ⊥) → There → ⊥) → DisksCountedWhere Here before now
+counted_out before now c leads apart = record { counted = λ is. c.counted (leads is); exact = λ never. c.exact (apart never) }
 
-  pub settled_out : (k : KeptStore P) (s : State StoreCall) → IsTrue is_known → Stands k.core s → HoldsAll s k.journal.history → (history k.pages).now ≡ all_synced [] → IsSettled (store_machine is_known history faults) k s
-  settled_out k s known stands settled empty = record {
+module _ {P : Type 0} (journal_known pages_known : Bool) (history : P → History) (faults : P → ℕ) where
+  abbrev machine : Machine (KeptStore P)
+  machine = store_machine journal_known pages_known history faults
+
+  -- beside its pages the journal of a settled store stands for what is committed
+  pub settled_in : (k : KeptStore P) (s : State StoreCall) → Stands pages_known history k.core s → IsSettled machine k s → HoldsAll s (pages_of history k.core.base).now.reads k.journal.history
+  settled_in k s stands settled = settled.kept.holds s stands
+
+  pub settled_out : (k : KeptStore P) (s : State StoreCall) → IsTrue (journal_known && pages_known) → Stands pages_known history k.core s → HoldsAll s (pages_of history k.core.base).now.reads k.journal.history
+      → IsAllSynced (pages_of history k.core.base) → IsSettled machine k s
+  settled_out k s known stands settled synced = record {
     is_known = known;
     kept = record {
-      journal = settled.synced;
-      holds = λ u other. subst (λ (x : State StoreCall). HoldState x k.journal.history.now.reads []) (stands_once IsValidStoreCall store_meaning store_laws Some k.core s u stands other) settled.holds;
-      pages = empty;
+      pages = synced;
+      holds = λ u other. subst (λ (x : State StoreCall). HoldsAll x (pages_of history k.core.base).now.reads k.journal.history)
+          (stands_once IsValidStoreCall store_meaning store_laws (told pages_known history) k.core s u stands other) settled;
     };
-    holds = λ journal pages of_journal of_pages. beside s journal pages (none_left (history k.pages) empty pages of_pages) (settled_image s k.journal.history settled journal of_journal);
+    holds = images_hold s k.journal.history (pages_of history k.core.base) settled synced;
   }
 
-  pub moments_out : (s t : State StoreCall) (old new : KeptStore P) → new.pages ≡ old.pages → (history old.pages).now ≡ all_synced [] → LeavesOnly (HoldsEither s t) old.journal.history new.journal.history
-      → PairsLeave (EitherHolds (store_machine is_known history faults) s t) ((store_machine is_known history faults).disks old) ((store_machine is_known history faults).disks new)
-  moments_out s t old new still empty run = journal_phase _ _ _ (record {
-    leaves = weaker _ _ old.journal.history new.journal.history (λ journal either pages is. both journal pages (none_left (history old.pages) empty pages is) either) run;
-    still = ap history still;
+  pub moments_out : (s t : State StoreCall) (old new : KeptStore P) → pages_of history new.core.base ≡ pages_of history old.core.base → IsAllSynced (pages_of history old.core.base)
+      → LeavesOnly (HoldsEither s t (pages_of history old.core.base).now.reads) old.journal.history new.journal.history → PairsLeave (EitherHolds machine s t) (machine.disks old) (machine.disks new)
+  moments_out s t old new still synced run = journal_phase _ _ _ (record {
+    leaves = weaker _ _ old.journal.history new.journal.history (λ journal either pages is. both journal pages (image_same (pages_of history old.core.base) synced pages is) either) run;
+    still = still;
   })
     where
-      both : (journal pages : List ℕ) → pages ≡ [] → HoldsEither s t journal → EitherHolds (store_machine is_known history faults) s t journal pages
-      both journal pages none (inl holds) = inl (beside s journal pages none holds)
-      both journal pages none (inr holds) = inr (beside t journal pages none holds)
-
-  -- the journal's count is the store's, and the pages' stays, whatever it is
-  pub counts_out : (there here : Type 0) (old new : KeptStore P) (before : ℕ) → before ≡ old.journal.faults → new.pages ≡ old.pages
-      → DisksCountedWhere there (record { journal = before; pages = 0 }) (record { journal = new.journal.faults; pages = 0 }) → (here → there) → ((here → ⊥) → there → ⊥)
-      → DisksCountedWhere here ((store_machine is_known history faults).faults old) ((store_machine is_known history faults).faults new)
-  counts_out there here old new before same pages counts leads apart =
-      let still : faults new.pages ≡ faults old.pages = ap faults pages in
-      record {
-        counted = λ is. let k = beside_none before new.journal.faults (counts.counted (leads is)) in record { one = inl (subst (λ (n : ℕ). FaultCounted n new.journal.faults) same k.0); journal = omega (arith, same, k.1); pages = omega (arith, still) };
-        exact = λ never. λ i. record { journal = (ap (λ (x : Counts). x.journal) (counts.exact (apart never)) ∙ same) i; pages = still i };
-      }
+      both : (journal pages : List ℕ) → pages ≡ (pages_of history old.core.base).now.reads → HoldsEither s t (pages_of history old.core.base).now.reads journal → EitherHolds machine s t journal pages
+      both journal pages same (inl holds) = inl (subst (HoldState s journal) (sym same) holds)
+      both journal pages same (inr holds) = inr (subst (HoldState t journal) (sym same) holds)

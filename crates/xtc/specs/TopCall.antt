@@ -4,7 +4,7 @@ use Rattle.outside_kinds.specs.Bounds.{input_limit}
 use Rattle.outside_traits.specs.Bytes.{Took, TookPrefix}
 use Rattle.outside_traits.specs.DiskPairs.{Pair, PairsHave, PairsLeave}
 use Rattle.tree_model.specs.Tree.{Tree}
-use Rattle.recovery.specs.Trees.{StandFor, StoodFor, LeaveWhatStood}
+use Rattle.store_contents.specs.StoredTrees.{StandFor, StoodFor, LeaveWhatStood}
 use Rattle.script_runs.specs.Lines.{ended, lines_of, first_long, AllShort, line_limit}
 use Rattle.script_runs.specs.Runs.{AskedLines, TookAtLeast}
 use Rattle.script_runs.specs.Whole.{IsPast, piece}
@@ -224,13 +224,17 @@ pub record WroteShown (t : Tree) (n limit : ℕ) (status : Status) (book : Book 
   pub shows : IsShownBy store_meaning t n limit book (lines_in (entries_of read)) text
   pub wrote : WroteWhole status before now (replies_text text)
 
--- The workers did all lines, and the book shows a text of them, of which nothing is written where a disk failed.
--- At any other status nothing of what lines may have done is written or found: the book is empty.
+-- nothing of what lines may have done is written or found: the book is empty
+abbrev pub IsUndone : Book StoreCall → Option (List ℕ) → Option (List ℕ) → Type 0
+IsUndone book before now = (book ≡ []) × (now ≡ before)
+
+-- The workers did all lines, and the book shows a text of them, of which nothing is written where the journal's disk failed.
+-- Where that of the pages did, in one of the lines, and at any other status, all is undone.
 abbrev pub IsWorkersOutput : Tree → ℕ → ℕ → Status → Book StoreCall → List ℕ → Option (List ℕ) → Option (List ℕ) → Type 0
 IsWorkersOutput t n limit Done book read before now = WroteShown t n limit Done book read before now
 IsWorkersOutput t n limit WriteFault book read before now = WroteShown t n limit WriteFault book read before now
-IsWorkersOutput t n limit DiskFault book read before now = WroteShown t n limit DiskFault book read before now
-IsWorkersOutput t n limit status book read before now = (book ≡ []) × (now ≡ before)
+IsWorkersOutput t n limit DiskFault book read before now = WroteShown t n limit DiskFault book read before now ⊎ IsUndone book before now
+IsWorkersOutput t n limit status book read before now = IsUndone book before now
 
 -- what a status says of the input
 abbrev pub IsWorkersEnd : Status → List ℕ → Type 0

@@ -1,9 +1,8 @@
 // The command that makes a document, over a store that was opened.
-ghost use Rattle.std.specs.Prelude.{◌≡◌, ◌≢◌, ◌+◌, ◌≤◌, ℕ, List, [], length, None, Some, Ok, Err, IfOk, IfErr, OnOk, IfSome};
+ghost use Rattle.std.specs.Prelude.{◌≡◌, ◌≢◌, ◌+◌, ◌≤◌, ℕ, List, [], length, None, Ok, Err, IfOk, IfErr, OnOk, IfSome};
 ghost use Rattle.outside_traits.specs.Bytes.{Gave};
 ghost use Rattle.outside_traits.specs.DiskPairs.{pair_of};
 ghost use Rattle.tree_model.specs.Fragments.{IsValid, plain, is_text_fragment};
-ghost use Rattle.tree_model.specs.StoredTree.{IsStoredTree};
 ghost use Rattle.tree_model.specs.Tree.{Tree};
 ghost use Rattle.node_seq.specs.Trees.{StandsFor};
 ghost use Rattle.recovery.specs.Openings.{TakesBehind};
@@ -21,29 +20,27 @@ ghost use Rattle.durable_sessions.specs.Standing.{Stands};
 ghost use Rattle.jsonml_io.specs.declared.fragment_error.FragmentError.TheVariants as fragment_error;
 ghost use Rattle.command_words.specs.Commands.{put as put_command};
 ghost use Rattle.xtc.specs.Documents.{element_in, put_asks};
-ghost use Rattle.tx_core.specs.Cores.{opened_over};
 ghost use Rattle.xtc.specs.TopCall.{IsWhole, WroteWhole, tx_limit, whole_limit};
 ghost use Rattle.xtc.specs.inside.Asking.{all_asks, AreValidAsks, DocumentDone, IfJudged, InputDone, IsReadElement, IsStop, IsUnwritten, IsWriteEnd};
-ghost use Rattle.xtc.specs.inside.CommandRuns.{Input, RunsCommand};
-ghost use Rattle.xtc.specs.inside.Stores.{Counts};
+ghost use Rattle.xtc.specs.StoreMachine.{pages_of, told};
+ghost use Rattle.xtc.specs.inside.CommandRuns.{RunsCommand};
 
 use crate::answers::label_line;
 use crate::status::Status;
-use crate::top_call::{Finish, TX_LIMIT, with_disks};
+use crate::store::OpenStore;
+use crate::top_call::{Finish, Over, TX_LIMIT, with_disks};
 use command_lines::StoreCall;
 use dewey_labels::{NoMemory, Text};
 use durable_sessions::{Base, ask_in_turn};
 use journal::Journal;
 use jsonml_io::{FragmentError, read_fragment};
-use node_seq::SortedSeq;
 use outside_traits::{Disk, Sink, Source};
-use recovery::Opened;
 use script_runs::{gather, say};
 use session_driver::Doing;
 use std::alloc::Global;
 use store_calls::StoreOp;
 use tree_model::{DomCall, Fragment};
-use tx_core::Core;
+use tx_core::{Core, NoCore};
 
 /// The session that a command of one document asks.
 pub const SESSION: u32 = 1;
@@ -52,36 +49,34 @@ pub const SESSION: u32 = 1;
 const WHOLE_LIMIT: usize = 16_777_216;
 
 /// Makes a document of the input, and writes its label.
-pub fn run_put<S: Source, K: Sink, J: Disk, P: Disk>(
+pub fn run_put<S: Source, K: Sink, J: Disk, P: Disk + Drop>(
     alloc: Global,
     name: &str,
     source: &mut S,
     sink: &mut K,
-    store: Opened<J, P>,
+    store: OpenStore<J, P>,
 ) -> Finish<J, P>
-    requires tree { IsStoredTree store.base }
     requires next { TakesBehind store.journal store.number }
-    ensures { RunsCommand J.is_known P.is_known store.base store.number (put_command name.now) result.status
+    ensures { RunsCommand J.is_known P.is_known (told P.is_known P.history store.base) store.number (put_command name.now) result.status
         (record { left = S.left source.old; given = S.given source.old; asked = S.asked source.old; faults = S.faults source.old })
         (record { left = S.left source.new; given = S.given source.new; asked = S.asked source.new; faults = S.faults source.new })
         (record { held = K.held sink.old; faults = K.faults sink.old }) (record { held = K.held sink.new; faults = K.faults sink.new })
         (record {
-          files = pair_of store.journal.history (P.history store.pages);
-          faults = record { journal = store.journal.faults; pages = P.faults store.pages };
+          files = pair_of store.journal.history (pages_of P.history store.base);
+          faults = record { journal = store.journal.faults; pages = P.faults store.base.base.disk };
         })
         (record {
           files = pair_of (J.history result.journal) (P.history result.pages);
           faults = record { journal = J.faults result.journal; pages = P.faults result.pages };
         }) }
 {
-    let Opened {
-        mut journal,
-        pages,
+    let OpenStore {
         base,
+        mut journal,
         number,
     } = store;
-    let text = put_input(alloc, name, source, base, number, &mut journal);
-    with_disks(written(sink, text), journal.into_disk(), pages)
+    let Over { text, base } = put_over(alloc, name, source, base, number, &mut journal);
+    with_disks(written(sink, text), journal, base)
 }
 
 /// Writes the text that there is, and answers how the command ended.
@@ -97,63 +92,63 @@ pub fn written<K: Sink>(sink: &mut K, text: Result<Vec<u8>, Status>) -> Status
     }
 }
 
-/// Makes a document of the whole input, and answers the line to write.
-fn put_input<S: Source, J: Disk>(
+/// Makes a document of the whole input over a base, and answers the line to write.
+fn put_over<S: Source, B: Base, J: Disk>(
     alloc: Global,
     name: &str,
     source: &mut S,
-    base: SortedSeq,
+    base: B,
     number: u32,
     journal: &mut Journal<J>,
-) -> Result<Vec<u8>, Status>
-    requires tree { IsStoredTree base }
+) -> Over<B>
     requires next { TakesBehind journal.old number }
     ensures done { (read : List ℕ) × Gave (S.left source.old) (S.left source.new) read × (S.given source.new ≡ S.given source.old + length read)
-        × (length read ≤ whole_limit + piece) × ((t : Tree) → StandsFor (Some base) t
+        × (length read ≤ whole_limit + piece) × ((t : Tree) → StandsFor (B.contents base) t
         → InputDone J.is_known (start t number tx_limit) (put_command name.now) read (IsWhole (S.left source.new) read)
+        journal.old.history journal.new.history (λ text. text.items) result.text) }
+    ensures whole { OnOk result.text (IfSome (S.left source.new) (λ rest. rest ≡ [])) }
+    ensures unwritten { IfErr result.text IsUnwritten }
+    ensures base { B.stays base result.base }
+    ensures read { CountedWhere (result.text ≡ Err Status.ReadFault) (S.faults source.old) (S.faults source.new) }
+    ensures counts { DisksCountedWhere (result.text ≡ Err Status.DiskFault)
+        (record { journal = journal.old.faults; pages = B.count base }) (record { journal = journal.new.faults; pages = B.count result.base }) }
+{
+    match Core::new(alloc, base, number, TX_LIMIT) {
+        Ok(mut core) => {
+            let text = put_input(alloc, name, source, &mut core, journal);
+            Over {
+                text,
+                base: core.into_base(),
+            }
+        }
+        Err(NoCore { base }) => Over {
+            text: Err(Status::NoMemory),
+            base,
+        },
+    }
+}
+
+/// Makes a document of the whole input, and answers the line to write.
+fn put_input<S: Source, B: Base, J: Disk>(
+    alloc: Global,
+    name: &str,
+    source: &mut S,
+    core: &mut Core<StoreOp, B>,
+    journal: &mut Journal<J>,
+) -> Result<Vec<u8>, Status>
+    requires takes { TakesNext core.old journal.old }
+    ensures done { (read : List ℕ) × Gave (S.left source.old) (S.left source.new) read × (S.given source.new ≡ S.given source.old + length read)
+        × (length read ≤ whole_limit + piece) × ((s : State StoreCall) → Stands store_meaning B.contents core.old s
+        → InputDone J.is_known s (put_command name.now) read (IsWhole (S.left source.new) read)
         journal.old.history journal.new.history (λ text. text.items) result) }
     ensures whole { OnOk result (IfSome (S.left source.new) (λ rest. rest ≡ [])) }
     ensures unwritten { IfErr result IsUnwritten }
+    ensures base { B.stays core.old.base core.new.base }
     ensures read { CountedWhere (result ≡ Err Status.ReadFault) (S.faults source.old) (S.faults source.new) }
-    ensures counts { Counts (result ≡ Err Status.DiskFault) journal.old.faults journal.new.faults }
+    ensures counts { DisksCountedWhere (result ≡ Err Status.DiskFault) (counts_of B.count core.old journal.old) (counts_of B.count core.new journal.new) }
 {
     let element = read_element(alloc, source)?;
-    put_element(alloc, name, element, base, number, journal)
-}
-
-/// Makes a document of an element, and answers the line to write.
-fn put_element<J: Disk>(
-    alloc: Global,
-    name: &str,
-    element: Fragment,
-    base: SortedSeq,
-    number: u32,
-    journal: &mut Journal<J>,
-) -> Result<Vec<u8>, Status>
-    requires tree { IsStoredTree base }
-    requires next { TakesBehind journal.old number }
-    requires valid { IsValid (plain element) }
-    ensures done { (read : List ℕ) → element_in read ≡ Ok element → length read ≤ whole_limit → (t : Tree) → StandsFor (Some base) t
-        → DocumentDone J.is_known (start t number tx_limit) (put_command name.now) read journal.old.history journal.new.history (λ text. text.items) result }
-    ensures stops { IfErr result IsStop }
-    ensures counts { Counts (result ≡ Err Status.DiskFault) journal.old.faults journal.new.faults }
-{
-    let mut core = open_core(alloc, base, number)?;
-    put(alloc, &mut core, journal, name, element)
-}
-
-pub fn open_core(
-    alloc: Global,
-    base: SortedSeq,
-    number: u32,
-) -> Result<Core<StoreOp, SortedSeq>, Status>
-    ensures ok { IfOk result (λ core. core ≡ opened_over base (Some base) number tx_limit) }
-    ensures err { IfErr result (λ status. status ≡ Status.NoMemory) }
-{
-    match Core::new(alloc, base, number, TX_LIMIT) {
-        Ok(core) => Ok(core),
-        Err(_) => Err(Status::NoMemory),
-    }
+    put(alloc, core, journal, name, element)
 }
 
 /// The element that the whole input is.
@@ -205,6 +200,7 @@ fn put<B: Base, J: Disk>(
     ensures done { (s : State StoreCall) → Stands store_meaning B.contents core.old s → (read : List ℕ) → element_in read ≡ Ok element → length read ≤ whole_limit
         → DocumentDone J.is_known s (put_command name.now) read journal.old.history journal.new.history (λ text. text.items) result }
     ensures stops { IfErr result IsStop }
+    ensures base { B.stays core.old.base core.new.base }
     ensures counts { DisksCountedWhere (result ≡ Err Status.DiskFault) (counts_of B.count core.old journal.old) (counts_of B.count core.new journal.new) }
 {
     let doings = put_doings(alloc, name, element)?;

@@ -1,9 +1,8 @@
 // The commands that write something of the document with a name: `get` the whole of it, `query` what a path finds from it.
-ghost use Rattle.std.specs.Prelude.{◌≡◌, ◌≢◌, ◌++◌, ◌∷◌, ℕ, Bool, [], IfOk, IfErr, OnOk};
+ghost use Rattle.std.specs.Prelude.{◌≡◌, ◌≢◌, ◌++◌, ◌∷◌, ℕ, Bool, [], Err, IfOk, IfErr, OnOk};
 ghost use Rattle.outside_traits.specs.DiskPairs.{pair_of};
 ghost use Rattle.outside_traits.specs.Faults.{HasCause};
 ghost use Rattle.outside_traits.specs.Moments.{History};
-ghost use Rattle.tree_model.specs.StoredTree.{IsStoredTree};
 ghost use Rattle.tree_model.specs.Tree.{Tree};
 ghost use Rattle.node_seq.specs.Trees.{OnTree, StandsFor};
 ghost use Rattle.recovery.specs.Openings.{TakesBehind};
@@ -16,15 +15,18 @@ ghost use Rattle.tree_model.specs.declared.reply.Reply.TheVariants as reply;
 ghost use Rattle.command_words.specs.Commands.{Command, get as get_command, query as query_command};
 ghost use Rattle.store_calls.specs.StoreCalls.{IsValidStoreCall, store_meaning};
 ghost use Rattle.xtc.specs.Documents.{call_of};
+ghost use Rattle.xtc.specs.StoreMachine.{pages_of, told};
 ghost use Rattle.xtc.specs.TopCall.{tx_limit};
 ghost use Rattle.xtc.specs.inside.Asking.{DocumentDone, IsStop};
 ghost use Rattle.xtc.specs.inside.CommandRuns.{Input, RunsCommand};
 ghost use Rattle.xtc.specs.inside.Showing.{AddsAnswer, AreLinesOf, IsHalt, IsLawful, said_line, Shows};
+ghost use Rattle.xtc.specs.inside.Stores.{Counts};
 
 use crate::answers::{answer_line, label_in};
 use crate::document::{SESSION, written};
 use crate::question::Question;
 use crate::status::Status;
+use crate::store::OpenStore;
 use crate::top_call::{Finish, TX_LIMIT, with_disks};
 use call_contract::TreeCall;
 use command_lines::{LineAnswer, LineReply, StoreCall};
@@ -32,71 +34,68 @@ use dewey_labels::{Label, List, NoMemory, Text};
 use durable_sessions::{Reason, Stop, reason_in};
 use node_seq::{NodeRead, SeqError};
 use outside_traits::{Disk, Sink};
-use recovery::Opened;
 use std::alloc::Global;
 use store_calls::StoreOp;
 use tree_model::{DomCall, Reply};
 use xpath_parser::parse;
 
 /// Writes the document with a name.
-pub fn run_get<K: Sink, J: Disk, P: Disk>(
+pub fn run_get<K: Sink, J: Disk, P: Disk + Drop>(
     alloc: Global,
     name: &str,
     sink: &mut K,
-    store: Opened<J, P>,
+    store: OpenStore<J, P>,
 ) -> Finish<J, P>
-    requires tree { IsStoredTree store.base }
     requires next { TakesBehind store.journal store.number }
-    ensures { (input : Input) → RunsCommand J.is_known P.is_known store.base store.number (get_command name.now) result.status input input
+    ensures { (input : Input) → RunsCommand J.is_known P.is_known (told P.is_known P.history store.base) store.number (get_command name.now) result.status
+        input input
         (record { held = K.held sink.old; faults = K.faults sink.old }) (record { held = K.held sink.new; faults = K.faults sink.new })
         (record {
-          files = pair_of store.journal.history (P.history store.pages);
-          faults = record { journal = store.journal.faults; pages = P.faults store.pages };
+          files = pair_of store.journal.history (pages_of P.history store.base);
+          faults = record { journal = store.journal.faults; pages = P.faults store.base.base.disk };
         })
         (record {
           files = pair_of (J.history result.journal) (P.history result.pages);
           faults = record { journal = J.faults result.journal; pages = P.faults result.pages };
         }) }
 {
-    let Opened {
-        journal,
-        pages,
+    let OpenStore {
         mut base,
+        journal,
         number,
     } = store;
     let text = show_document(alloc, name, &Question::Whole, &mut base, number);
-    with_disks(written(sink, text), journal.into_disk(), pages)
+    with_disks(written(sink, text), journal, base)
 }
 
 /// Writes what a path finds from the document with a name. The path is tested before the store is asked.
-pub fn run_query<K: Sink, J: Disk, P: Disk>(
+pub fn run_query<K: Sink, J: Disk, P: Disk + Drop>(
     alloc: Global,
     name: &str,
     path: &str,
     sink: &mut K,
-    store: Opened<J, P>,
+    store: OpenStore<J, P>,
 ) -> Finish<J, P>
-    requires tree { IsStoredTree store.base }
     requires next { TakesBehind store.journal store.number }
-    ensures { (input : Input) → RunsCommand J.is_known P.is_known store.base store.number (query_command name.now path.now) result.status input input
+    ensures { (input : Input) → RunsCommand J.is_known P.is_known (told P.is_known P.history store.base) store.number (query_command name.now path.now) result.status
+        input input
         (record { held = K.held sink.old; faults = K.faults sink.old }) (record { held = K.held sink.new; faults = K.faults sink.new })
         (record {
-          files = pair_of store.journal.history (P.history store.pages);
-          faults = record { journal = store.journal.faults; pages = P.faults store.pages };
+          files = pair_of store.journal.history (pages_of P.history store.base);
+          faults = record { journal = store.journal.faults; pages = P.faults store.base.base.disk };
         })
         (record {
           files = pair_of (J.history result.journal) (P.history result.pages);
           faults = record { journal = J.faults result.journal; pages = P.faults result.pages };
         }) }
 {
-    let Opened {
-        journal,
-        pages,
+    let OpenStore {
         mut base,
+        journal,
         number,
     } = store;
     let text = query_document(alloc, name, path, &mut base, number);
-    with_disks(written(sink, text), journal.into_disk(), pages)
+    with_disks(written(sink, text), journal, base)
 }
 
 /// Answers the line of what a path finds from the document with a name.
@@ -110,7 +109,8 @@ fn query_document<S: NodeRead>(
     ensures done { (is_known : Bool) (journal : History) (t : Tree) → StandsFor (S.contents seq.old) t
         → DocumentDone is_known (start t number tx_limit) (query_command name.now path.now) [] journal journal (λ text. text.items) result }
     ensures stops { IfErr result IsStop }
-    ensures cause { HasCause Status.DiskFault (S.count seq.old) (S.count seq.new) result }
+    ensures unchanged { S.unchanged seq.old seq.new }
+    ensures counts { Counts (result ≡ Err Status.DiskFault) (S.count seq.old) (S.count seq.new) }
 {
     let path = parse(alloc, path)?;
     show_document(alloc, name, &Question::FoundBy(path), seq, number)
@@ -129,16 +129,47 @@ fn show_document<S: NodeRead>(
     ensures done { (is_known : Bool) (journal : History) (c : Command) (t : Tree) → StandsFor (S.contents seq.old) t → Shows c (start t number tx_limit) name.now question.now
         → DocumentDone is_known (start t number tx_limit) c [] journal journal (λ text. text.items) result }
     ensures stops { IfErr result IsStop }
-    ensures cause { HasCause Status.DiskFault (S.count seq.old) (S.count seq.new) result }
+    ensures unchanged { S.unchanged seq.old seq.new }
+    ensures counts { Counts (result ≡ Err Status.DiskFault) (S.count seq.old) (S.count seq.new) }
 {
     if number == TX_LIMIT {
         return Err(Status::DocumentRefused(Reason::Limit));
     }
-    let lines = lines_alone(alloc, name, question, seq)?;
+    let lines = lines_counted(alloc, name, question, seq)?;
     if let Some(why) = reason_in(lines.as_slice()) {
         return Err(Status::DocumentRefused(why));
     }
     Ok(answer_line(alloc, question, lines.as_slice())?)
+}
+
+/// What session 1 is answered. Where a fault was counted, it is the answer, wanting memory or not.
+fn lines_counted<S: NodeRead>(
+    alloc: Global,
+    name: &str,
+    question: &Question,
+    seq: &mut S,
+) -> Result<Vec<LineReply>, Stop>
+    requires lawful { IsLawful question.now }
+    ensures lines { OnTree (S.contents seq.old) result (λ t lines. (n : ℕ) → n ≢ tx_limit → AreLinesOf (start t n tx_limit) name.now question.now lines.items) }
+    ensures unrefused { IfErr result IsHalt }
+    ensures unchanged { S.unchanged seq.old seq.new }
+    ensures counts { Counts (result ≡ Err Stop.DiskFault) (S.count seq.old) (S.count seq.new) }
+{
+    let before = seq.faults();
+    let lines = lines_alone(alloc, name, question, seq);
+    fault_first(lines, before, seq.faults())
+}
+
+/// An answer, or a fault that was counted on the way.
+pub fn fault_first<T: Drop>(answer: Result<T, Stop>, before: u64, now: u64) -> Result<T, Stop>
+    ensures same { now ≡ before → result ≡ answer }
+    ensures fault { now ≢ before → result ≡ Err Stop.DiskFault }
+{
+    if now == before {
+        answer
+    } else {
+        Err(Stop::DiskFault)
+    }
 }
 
 /// What session 1 is answered, where nobody else is live: it begins, finds the document with a name, asks it this, and aborts.
@@ -151,6 +182,7 @@ fn lines_alone<S: NodeRead>(
     requires lawful { IsLawful question.now }
     ensures lines { OnTree (S.contents seq.old) result (λ t lines. (n : ℕ) → n ≢ tx_limit → AreLinesOf (start t n tx_limit) name.now question.now lines.items) }
     ensures unrefused { IfErr result IsHalt }
+    ensures unchanged { S.unchanged seq.old seq.new }
     ensures cause { HasCause Stop.DiskFault (S.count seq.old) (S.count seq.new) result }
 {
     let doc = doc_of(alloc, name)?;
@@ -181,6 +213,7 @@ fn with_answer<S: NodeRead>(
     requires lawful { IsLawful question.now }
     ensures lines { OnTree (S.contents seq.old) result (λ t now. AddsAnswer question.now at t lines.items now.items) }
     ensures unrefused { IfErr result IsHalt }
+    ensures unchanged { S.unchanged seq.old seq.new }
     ensures cause { HasCause Stop.DiskFault (S.count seq.old) (S.count seq.new) result }
 {
     let call = call_of(alloc, question, at)?;

@@ -16,8 +16,9 @@ use command_lines::{LineReply, write_reply};
 use dewey_labels::{List, NoMemory, Text};
 use durable_sessions::{Base, Halt, answer};
 use journal::Journal;
-use node_seq::SortedSeq;
 use outside_traits::Disk;
+use overlays::Stacked;
+use paged_seq::PagedSeq;
 use script_runs::LineMachine;
 use session_driver::Doing;
 use std::alloc::Global;
@@ -26,17 +27,33 @@ use std::mem;
 use store_calls::StoreOp;
 use tx_core::Core;
 
-/// The sessions of a store, the journal that their commits go to, and the disk of the pages, which no line touches.
+/// A store that was opened: what its pages and the commits of its journal make together, the journal, and the number of the last commit.
 #[derive(Drop)]
-pub struct Store<J: Disk, P> {
-    core: Core<StoreOp, SortedSeq>,
+pub struct OpenStore<J: Disk, P: Disk + Drop> {
+    pub base: Stacked<PagedSeq<P>>,
+    pub journal: Journal<J>,
+    pub number: u32,
+}
+
+/// The disk of the pages.
+pub fn disk_of<P: Disk + Drop>(base: Stacked<PagedSeq<P>>) -> P
+    ensures { result ≡ base.base.disk }
+{
+    let (pages, _layers) = base.into_parts();
+    let (disk, _pool) = pages.into_parts();
+    disk
+}
+
+/// The sessions of a store, and the journal that their commits go to.
+#[derive(Drop)]
+pub struct Store<J: Disk, P: Disk + Drop> {
+    core: Core<StoreOp, Stacked<PagedSeq<P>>>,
     journal: Journal<J>,
-    pages: P,
     /// The replies to the last line, whose room the next one uses.
     replies: Vec<LineReply>,
 }
 
-impl<J: Disk, P> Model for Store<J, P> {
+impl<J: Disk, P: Disk + Drop> Model for Store<J, P> {
     ghost use Rattle.std.specs.Coded.{codes};
     ghost use Rattle.path_model.specs.contracts.path.XPath as path;
     ghost use Rattle.tree_model.specs.contracts.fragment.Fragment as fragment;
@@ -46,36 +63,31 @@ impl<J: Disk, P> Model for Store<J, P> {
 
     ghost coded = { Prim.hlevel (codes, fragment.the_row.coded, path.the_row.coded) };
 
-    ghost view = { λ s. record { core = s.core; journal = s.journal; pages = s.pages } };
+    ghost view = { λ s. record { core = s.core; journal = s.journal } };
 }
 
-impl<J: Disk, P> Store<J, P> {
+impl<J: Disk, P: Disk + Drop> Store<J, P> {
     pub fn new(
         alloc: Global,
-        core: Core<StoreOp, SortedSeq>,
+        core: Core<StoreOp, Stacked<PagedSeq<P>>>,
         journal: Journal<J>,
-        pages: P,
     ) -> Store<J, P>
-        ensures { result ≡ record { core = core; journal = journal; pages = pages } }
+        ensures { result ≡ record { core = core; journal = journal } }
     {
         Store {
             core,
             journal,
-            pages,
             replies: Vec::new(alloc),
         }
     }
-}
 
-impl<J: Disk, P: Disk> Store<J, P> {
-    /// Hands the disks out.
-    pub fn into_disks(self) -> (J, P)
-        ensures journal { J.history result.0 ≡ self.journal.history }
-        ensures faults { J.faults result.0 ≡ self.journal.faults }
-        ensures pages { result.1 ≡ self.pages }
+    /// Hands the journal and the base out.
+    pub fn into_parts(self) -> (Journal<J>, Stacked<PagedSeq<P>>)
+        ensures journal { result.0 ≡ self.journal }
+        ensures base { result.1 ≡ self.core.base }
     {
-        let Store { journal, pages, .. } = self;
-        (journal.into_disk(), pages)
+        let Store { core, journal, .. } = self;
+        (journal, core.into_base())
     }
 }
 
@@ -97,6 +109,7 @@ fn do_line<B: Base, J: Disk>(
     ensures takes { OnOk result (TakesNext core.new journal.new) }
     ensures any_moment { (s : State StoreCall) → Stands store_meaning B.contents core.old s
         → LeavesEither J.is_known journal.old.history journal.new.history s (done_by s 0 (line_in line)).state }
+    ensures base { B.stays core.old.base core.new.base }
     ensures counts { DisksCountedWhere (result ≡ Err Halt.DiskFault) (counts_of B.count core.old journal.old) (counts_of B.count core.new journal.new) }
 {
     match line {
@@ -126,6 +139,7 @@ fn ask<B: Base, J: Disk>(
     ensures takes { OnOk result (TakesNext core.new journal.new) }
     ensures any_moment { (s : State StoreCall) → Stands store_meaning B.contents core.old s
         → LeavesEither J.is_known journal.old.history journal.new.history s (asked_from store_meaning s session doing).state }
+    ensures base { B.stays core.old.base core.new.base }
     ensures counts { DisksCountedWhere (result ≡ Err Halt.DiskFault) (counts_of B.count core.old journal.old) (counts_of B.count core.new journal.new) }
 {
     replies.clear();
@@ -161,11 +175,10 @@ fn write_replies(alloc: Global, replies: &[LineReply], out: &mut Vec<u8>) -> Res
     Ok(())
 }
 
-impl<J: Disk, P: Disk> LineMachine for Store<J, P> {
-    ghost use Rattle.std.specs.Prelude.{◌&&◌};
+impl<J: Disk, P: Disk + Drop> LineMachine for Store<J, P> {
     ghost use Rattle.xtc.specs.StoreMachine.{store_machine};
 
-    ghost machine = { store_machine (J.is_known && P.is_known) P.history P.faults };
+    ghost machine = { store_machine J.is_known P.is_known P.history P.faults };
 
     fn line(
         &mut self,

@@ -3,12 +3,13 @@ ghost use Rattle.std.specs.Prelude.{◌≡◌, ◌⊎◌, ◌+◌, ℕ, List, �
 ghost use Rattle.outside_traits.specs.Bytes.{Gave};
 ghost use Rattle.outside_traits.specs.CrashImages.{IsImage};
 ghost use Rattle.outside_traits.specs.DiskPairs.{pair_of};
-ghost use Rattle.tree_model.specs.StoredTree.{IsStoredTree};
 ghost use Rattle.node_records.specs.declared.open_error.Place.{Place};
-ghost use Rattle.recovery.specs.Openings.{FoundDamaged, TakesBehind};
+ghost use Rattle.recovery.specs.Openings.{TakesBehind};
+ghost use Rattle.paged_recovery.specs.Openings.{RefusesPages};
 ghost use Rattle.script_runs.specs.Counts.{CountedWhere, DisksCountedWhere, ReadCountedWhere};
 ghost use Rattle.outside_kinds.specs.Bounds.{input_limit};
 ghost use Rattle.command_words.specs.Commands.{IsInRange, command_of, meant, run};
+ghost use Rattle.xtc.specs.StoreMachine.{pages_of, told};
 ghost use Rattle.xtc.specs.TopCall.{Leaves, IsSilent, TookInput, tx_limit};
 ghost use Rattle.xtc.specs.inside.CommandRuns.{RunsCommand};
 
@@ -16,15 +17,19 @@ use crate::document::run_put;
 use crate::generator::run_gen;
 use crate::showing::{run_get, run_query};
 use crate::status::Status;
-use crate::store::Store;
+use crate::store::{OpenStore, Store, disk_of};
 use crate::workers::run_workers;
-use command_words::{Command, read_words};
+use command_words::{Command, Words, read_words};
+use journal::Journal;
 use outside_traits::{Disk, Gate, Sink, Source};
-use recovery::{Opened, StoreFault, open_store};
+use overlays::Stacked;
+use paged_recovery::{Opened, open_store};
+use paged_seq::PagedSeq;
+use recovery::StoreFault;
 use std::alloc::Global;
 use std::sync::Wait;
 use std::thread::Threads;
-use tx_core::Core;
+use tx_core::{Core, NoCore};
 
 /// The greatest number that a commit may have.
 pub const TX_LIMIT: u32 = 4_294_967_295;
@@ -35,6 +40,13 @@ pub struct Finish<J, P> {
     pub status: Status,
     pub journal: J,
     pub pages: P,
+}
+
+/// What a command has to write, or why there is nothing to be written, and the base that it was done over.
+#[derive(Drop)]
+pub struct Over<B> {
+    pub text: Result<Vec<u8>, Status>,
+    pub base: B,
 }
 
 /// Does what the words after the program's name say, over the store on two disks: `run` takes a script from the source and gives its replies to the sink,
@@ -48,7 +60,7 @@ pub fn xtc<
     S: Source,
     K: Sink,
     J: Disk + Send,
-    P: Disk + Send,
+    P: Disk + Drop + Send,
     G: Gate + Sync,
 >(
     rt: &R,
@@ -78,7 +90,7 @@ pub fn xtc<
 
     // Damaged files are synced, and as they were.
     ensures damaged { (place : Place) → result.status ≡ Status.Damaged place → IsTrue J.is_known → IsTrue P.is_known
-        → FoundDamaged (pair_of (J.history journal) (P.history pages)) (pair_of (J.history result.journal) (P.history result.pages)) place }
+        → RefusesPages (pair_of (J.history journal) (P.history pages)) (pair_of (J.history result.journal) (P.history result.pages)) place }
 
     // The cause of each status, and no fault that was counted at any other.
     ensures usage { (result.status ≡ Status.Usage → command_of words.now.items ≡ None)
@@ -90,8 +102,8 @@ pub fn xtc<
         (record { journal = J.faults journal; pages = P.faults pages })
         (record { journal = J.faults result.journal; pages = P.faults result.pages }) }
 {
-    let command = match read_words(alloc, words) {
-        Ok(command) => command,
+    let Words { command, frames } = match read_words(alloc, words) {
+        Ok(read) => read,
         Err(error) => {
             return Finish {
                 status: Status::from(error),
@@ -100,8 +112,23 @@ pub fn xtc<
             };
         }
     };
-    match open_store(alloc, journal, pages) {
-        Ok(store) => run_command(rt, alloc, command, source, sink, store, gate),
+    match open_store(alloc, journal, pages, frames) {
+        Ok(
+            Opened {
+                journal,
+                base,
+                layers,
+                number,
+            },
+        ) => {
+            let base = Stacked::new(base, layers);
+            let store = OpenStore {
+                base,
+                journal,
+                number,
+            };
+            run_command(rt, alloc, command, source, sink, store, gate)
+        }
         Err(
             StoreFault {
                 fault,
@@ -117,25 +144,31 @@ pub fn xtc<
 }
 
 /// Runs a command over a store that was opened.
-fn run_command<R: Threads + Wait + Sync, S: Source, K: Sink, J: Disk, P: Disk, G: Gate + Sync>(
+fn run_command<
+    R: Threads + Wait + Sync,
+    S: Source,
+    K: Sink,
+    J: Disk,
+    P: Disk + Drop + Send,
+    G: Gate + Sync,
+>(
     rt: &R,
     alloc: Global,
     command: Command<'_>,
     source: &mut S,
     sink: &mut K,
-    store: Opened<J, P>,
+    store: OpenStore<J, P>,
     gate: &G,
 ) -> Finish<J, P>
     requires ranges { IsInRange (meant command) }
-    requires tree { IsStoredTree store.base }
     requires next { TakesBehind store.journal store.number }
-    ensures { RunsCommand J.is_known P.is_known store.base store.number (meant command.entry) result.status
+    ensures { RunsCommand J.is_known P.is_known (told P.is_known P.history store.base) store.number (meant command.entry) result.status
         (record { left = S.left source.old; given = S.given source.old; asked = S.asked source.old; faults = S.faults source.old })
         (record { left = S.left source.new; given = S.given source.new; asked = S.asked source.new; faults = S.faults source.new })
         (record { held = K.held sink.old; faults = K.faults sink.old }) (record { held = K.held sink.new; faults = K.faults sink.new })
         (record {
-          files = pair_of store.journal.history (P.history store.pages);
-          faults = record { journal = store.journal.faults; pages = P.faults store.pages };
+          files = pair_of store.journal.history (pages_of P.history store.base);
+          faults = record { journal = store.journal.faults; pages = P.faults store.base.base.disk };
         })
         (record {
           files = pair_of (J.history result.journal) (P.history result.pages);
@@ -153,47 +186,56 @@ fn run_command<R: Threads + Wait + Sync, S: Source, K: Sink, J: Disk, P: Disk, G
 }
 
 /// Runs the script of the source over a store that was opened.
-fn run_store<S: Source, K: Sink, J: Disk, P: Disk>(
+fn run_store<S: Source, K: Sink, J: Disk, P: Disk + Drop>(
     alloc: Global,
     source: &mut S,
     sink: &mut K,
-    store: Opened<J, P>,
+    store: OpenStore<J, P>,
 ) -> Finish<J, P>
-    requires tree { IsStoredTree store.base }
     requires next { TakesBehind store.journal store.number }
-    ensures { RunsCommand J.is_known P.is_known store.base store.number run result.status
+    ensures { RunsCommand J.is_known P.is_known (told P.is_known P.history store.base) store.number run result.status
         (record { left = S.left source.old; given = S.given source.old; asked = S.asked source.old; faults = S.faults source.old })
         (record { left = S.left source.new; given = S.given source.new; asked = S.asked source.new; faults = S.faults source.new })
         (record { held = K.held sink.old; faults = K.faults sink.old }) (record { held = K.held sink.new; faults = K.faults sink.new })
         (record {
-          files = pair_of store.journal.history (P.history store.pages);
-          faults = record { journal = store.journal.faults; pages = P.faults store.pages };
+          files = pair_of store.journal.history (pages_of P.history store.base);
+          faults = record { journal = store.journal.faults; pages = P.faults store.base.base.disk };
         })
         (record {
           files = pair_of (J.history result.journal) (P.history result.pages);
           faults = record { journal = J.faults result.journal; pages = P.faults result.pages };
         }) }
 {
-    let Opened {
-        journal,
-        pages,
+    let OpenStore {
         base,
+        journal,
         number,
     } = store;
-    let Ok(core) = Core::new(alloc, base, number, TX_LIMIT) else {
-        return with_disks(Status::NoMemory, journal.into_disk(), pages);
-    };
-    let run = script_runs::run(alloc, Store::new(alloc, core, journal, pages), source, sink);
-    let (journal, pages) = run.machine.into_disks();
-    with_disks(Status::from(run.end), journal, pages)
+    match Core::new(alloc, base, number, TX_LIMIT) {
+        Ok(core) => {
+            let run = script_runs::run(alloc, Store::new(alloc, core, journal), source, sink);
+            let (journal, base) = run.machine.into_parts();
+            with_disks(Status::from(run.end), journal, base)
+        }
+        Err(NoCore { base }) => with_disks(Status::NoMemory, journal, base),
+    }
 }
 
-/// The end of a run with its disks, of each of which what a read gives is among what a crash may leave.
-pub fn with_disks<J: Disk, P: Disk>(status: Status, journal: J, pages: P) -> Finish<J, P>
-    ensures same { result ≡ record { status = status; journal = journal; pages = pages } }
-    ensures journal { IsTrue J.is_known → IsImage (J.history journal).now (J.history journal).now.reads }
-    ensures pages { IsTrue P.is_known → IsImage (P.history pages).now (P.history pages).now.reads }
+/// The end of a run with the disks of its store, of each of which what a read gives is among what a crash may leave.
+pub fn with_disks<J: Disk, P: Disk + Drop>(
+    status: Status,
+    journal: Journal<J>,
+    base: Stacked<PagedSeq<P>>,
+) -> Finish<J, P>
+    ensures status { result.status ≡ status }
+    ensures journal { (J.history result.journal ≡ journal.history) × (J.faults result.journal ≡ journal.faults) }
+    ensures pages { result.pages ≡ base.base.disk }
+    ensures images { (IsTrue J.is_known → IsImage (J.history result.journal).now (J.history result.journal).now.reads)
+        × (IsTrue P.is_known → IsImage (P.history result.pages).now (P.history result.pages).now.reads) }
 {
+    let journal = journal.into_disk();
+    let pages = disk_of(base);
+    // Each disk says that what a read gives is among what a crash may leave.
     let _faults = (journal.faults(), pages.faults());
     Finish {
         status,

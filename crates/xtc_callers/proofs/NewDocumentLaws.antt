@@ -16,7 +16,7 @@ use Rattle.tree_model.specs.declared.fragment.Fragment.{Fragment}
 use Rattle.tree_model.specs.declared.reply.Reply.TheVariants as reply
 use Rattle.node_records.specs.declared.open_error.Place.{Place}
 use Rattle.jsonml_io.specs.declared.fragment_error.FragmentError.{FragmentError}
-use Rattle.recovery.specs.Trees.{StandFor}
+use Rattle.store_contents.specs.StoredTrees.{StandFor}
 use Rattle.call_contract.specs.Books.{Book, commits}
 use Rattle.call_contract.specs.SerialRuns.{serial}
 use Rattle.call_contract.specs.States.{State, start}

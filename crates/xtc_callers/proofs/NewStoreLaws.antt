@@ -1,6 +1,6 @@
 -- What the clauses of `xtc` say of a whole script over two empty files.
-use Rattle.std.proofs.Common.{◌≡◌, ◌⊎◌, inl, inr, ℕ, ◌+◌, ◌≤◌, List, [], ◌++◌, length, take, drop, Option, Some, None, Result, Ok, Err, refl, sym, ap, subst, ◌∙◌, arith}
-use Rattle.std.specs.Prelude.{IfSome}
+use Rattle.std.proofs.Common.{◌≡◌, ◌⊎◌, true≢false, inl, inr, ℕ, ◌+◌, ◌≤◌, List, [], ◌++◌, length, take, drop, Option, Some, None, Result, Ok, Err, refl, sym, ap, subst, ◌∙◌, arith}
+use Rattle.std.specs.Prelude.{IfSome, is_some, true}
 use Rattle.std.specs.Option.{option_map}
 use Rattle.std.proofs.lemmas.List.{append-nil, append_assoc, take_all, take-take, take-append-drop, length-take}
 use Rattle.std.proofs.lemmas.Option.{same_Some}
@@ -13,9 +13,12 @@ use Rattle.tree_model.specs.Entries.{Entries}
 use Rattle.tree_model.specs.Tree.{Tree, empty_tree, map_of}
 use Rattle.tree_model.proofs.SameMaps.{same_tree}
 use Rattle.node_records.specs.declared.open_error.Place.{Place}
-use Rattle.recovery.specs.Opened.{Contents, contents_of_files}
-use Rattle.recovery.specs.Openings.{FoundDamaged}
-use Rattle.recovery.specs.Trees.{StandFor, StoodFor}
+use Rattle.journal.specs.Appends.{groups_read}
+use Rattle.journal.specs.Journals.{read}
+use Rattle.journal.specs.declared.group.Groups.{Groups}
+use Rattle.store_contents.specs.Contents.{Contents, contents_of_files}
+use Rattle.paged_recovery.specs.Openings.{RefusesPages}
+use Rattle.store_contents.specs.StoredTrees.{StandFor, StoodFor}
 use Rattle.script_runs.specs.Lines.{ended, unended, last_line, lines_of}
 use Rattle.script_runs.specs.Runs.{AskedLines}
 use Rattle.script_runs.proofs.FeedingLaws.{ended_on}
@@ -107,12 +110,20 @@ script_done empty o command status script text left_before named done leaves_so 
 abbrev nothing : List ℕ
 nothing = []
 
+-- no images are open in an empty journal
+no_images : (groups : Groups) → read nothing ≡ Ok groups → is_some groups.images ≡ true → ⊥
+unfolding read
+no_images groups is has = true≢false (sym has ∙ ap (λ (r : Result Groups ℕ). is_some (groups_read r).images) (sym is))
+
 -- no place of a new store is damaged
-pub not_damaged : StandFor [] [] empty_tree 0 → (old new : Pair) (place : Place) → old.journal.now ≡ all_synced [] → old.pages.now ≡ all_synced [] → FoundDamaged old new place → ⊥
-not_damaged empty old new place journal pages found =
-    let opened : Result Contents Place = Ok (record { entries = map_of empty_tree; number = 0 }) in
-    let no : opened ≡ Err place = sym empty.opens ∙ (λ i. contents_of_files (sym journal i).reads (sym pages i).reads) ∙ found.broken in
-    cc
+pub not_damaged : StandFor [] [] empty_tree 0 → (old new : Pair) (place : Place) → old.journal.now ≡ all_synced [] → old.pages.now ≡ all_synced [] → RefusesPages old new place → ⊥
+not_damaged empty old new place journal pages found = elim found.refused [
+  | inl broken ↦
+      let opened : Result Contents Place = Ok (record { entries = map_of empty_tree; number = 0 }) in
+      let no : opened ≡ Err place = sym empty.opens ∙ (λ i. contents_of_files (sym journal i).reads (sym pages i).reads) ∙ broken in
+      cc
+  | inr images ↦ no_images images.0.groups (subst (λ (s : DiskState). read s.reads ≡ Ok images.0.groups) journal images.0.reads) images.0.has
+]
 
 -- at Usage what holds of a silent run holds
 pub silent_at_usage : (command : Option Command) (status : Status) (P : Type 0) → status ≡ Usage → IsSilent command status P → P

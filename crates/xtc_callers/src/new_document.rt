@@ -17,10 +17,10 @@ use crate::new_store::MemRun;
 use dewey_labels::List;
 use outside_kinds::{MemDisk, MemSink, MemSource, NoGate};
 use outside_traits::Disk;
-use recovery::empty_files_stand_for_the_empty_tree;
 use std::alloc::Global;
 use std::sync::Wait;
 use std::thread::Threads;
+use store_contents::empty_files_stand_for_the_empty_tree;
 use xtc::{Finish, Status, get_is_dump, put_is_create, xtc};
 
 /// Puts the input as a document into a new store, where the words are `put NAME`.

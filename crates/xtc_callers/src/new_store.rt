@@ -8,10 +8,10 @@ ghost use Rattle.xtc_callers.specs.NewStores.{ScriptDone, ScriptBegun};
 use dewey_labels::List;
 use outside_kinds::{MemDisk, MemSink, MemSource, NoGate};
 use outside_traits::Disk;
-use recovery::empty_files_stand_for_the_empty_tree;
 use std::alloc::Global;
 use std::sync::Wait;
 use std::thread::Threads;
+use store_contents::empty_files_stand_for_the_empty_tree;
 use xtc::{Finish, Status, xtc};
 
 /// How a run in memory ended: its status, what it wrote, and the files of its store.

@@ -35,9 +35,9 @@ after s asked = turn.after store_meaning s asked
 abbrev pub said : State StoreCall → List (Asked StoreCall) → List LineReply
 said s asked = turn.said store_meaning s asked
 
--- the journal stands beside empty pages for what is committed after the first of these, and so on the way
-abbrev pub HoldsFirst : State StoreCall → List (Asked StoreCall) → List ℕ → Type 0
-HoldsFirst s asked journal = turn.HoldsFirst store_meaning s asked journal
+-- beside these pages the journal stands for what is committed after the first of these, and so on the way
+abbrev pub HoldsFirst : State StoreCall → List (Asked StoreCall) → List ℕ → List ℕ → Type 0
+HoldsFirst s asked pages journal = turn.HoldsFirst store_meaning s asked pages journal
 
 abbrev pub LeavesFirst : Bool → State StoreCall → List (Asked StoreCall) → History → History → Type 0
 LeavesFirst is_known s asked old new = turn.LeavesFirst store_meaning is_known s asked old new

@@ -1,14 +1,13 @@
 -- What running a command over a store that was opened leaves.
-use Rattle.std.specs.Prelude.{◌≡◌, ◌≤◌, ℕ, ◌+◌, ◌-◌, Bool, IsTrue, List, [], length, Option, Some, Ok, IfSome}
+use Rattle.std.specs.Prelude.{◌≡◌, ◌≤◌, ℕ, ◌+◌, ◌-◌, Bool, IsTrue, List, [], length, Option, Some, IfSome}
 use Rattle.outside_kinds.specs.Bounds.{input_limit}
 use Rattle.outside_traits.specs.Bytes.{Gave}
 use Rattle.outside_traits.specs.DiskPairs.{Pair}
-use Rattle.outside_traits.specs.Disks.{all_synced}
 use Rattle.outside_traits.specs.Moments.{IsAllSynced}
 use Rattle.tree_model.specs.Entries.{Entries}
 use Rattle.tree_model.specs.Tree.{Tree}
 use Rattle.node_seq.specs.Trees.{StandsFor}
-use Rattle.recovery.specs.Opened.{contents_of_files}
+use Rattle.store_contents.specs.StoredTrees.{StandFor}
 use Rattle.script_runs.specs.Counts.{Counts, CountedWhere, DisksCountedWhere, ReadCountedWhere}
 use Rattle.command_words.specs.Commands.{Command}
 use Rattle.xtc.specs.Commands.{reads_input}
@@ -33,13 +32,17 @@ pub record Disks : Type 0 where
   pub files : Pair
   pub faults : Counts
 
--- the command ran, where both disks are known and the files stand for the map and the number
-abbrev pub RanOver : Bool → Bool → Entries → ℕ → Command → Status → Input → Input → Output → Output → Pair → Pair → Type 0
-RanOver journal_known pages_known base number c status input input_now output output_now files files_now =
+-- two files of which a crash leaves what a read gives stand for this tree and number
+pub record StandSettled (files : Pair) (t : Tree) (number : ℕ) : Type 0 where
+  pub journal : IsAllSynced files.journal
+  pub pages : IsAllSynced files.pages
+  pub stand : StandFor files.journal.now.reads files.pages.now.reads t number
+
+-- the command ran, where both disks are known, and the files stand for the tree of the map that was told, and the number
+abbrev pub RanOver : Bool → Bool → Option Entries → ℕ → Command → Status → Input → Input → Output → Output → Pair → Pair → Type 0
+RanOver journal_known pages_known map number c status input input_now output output_now files files_now =
     (read : List ℕ) × Gave input.left input_now.left read × (input_now.given ≡ input.given + length read)
-    × (IsTrue journal_known → IsTrue pages_known → IsAllSynced files.journal → files.pages.now ≡ all_synced []
-    → contents_of_files files.journal.now.reads [] ≡ Ok (record { entries = base; number = number })
-    → (t : Tree) → StandsFor (Some base) t → (old : Pair)
+    × (IsTrue journal_known → IsTrue pages_known → (t : Tree) → StandsFor map t → StandSettled files t number → (old : Pair)
     → CommandRan t number tx_limit (Some c) status files (record {
       read = read;
       asked = input_now.asked - input.given;
@@ -51,9 +54,9 @@ RanOver journal_known pages_known base number c status input input_now output ou
     }))
 
 -- what it leaves, by its status
-pub record RunsCommand (journal_known pages_known : Bool) (base : Entries) (number : ℕ) (c : Command) (status : Status)
+pub record RunsCommand (journal_known pages_known : Bool) (map : Option Entries) (number : ℕ) (c : Command) (status : Status)
     (input input_now : Input) (output output_now : Output) (disks disks_now : Disks) : Type 0 where
-  pub ran : RanOver journal_known pages_known base number c status input input_now output output_now disks.files disks_now.files
+  pub ran : RanOver journal_known pages_known map number c status input input_now output output_now disks.files disks_now.files
   pub whole : IsTrue (reads_input (Some c)) → status ≡ Done → IfSome input_now.left (λ rest. rest ≡ [])
   pub bound : input_now.given ≤ input.given + input_limit
   pub silent : IsSilent (Some c) status (output_now.held ≡ output.held)

@@ -1,4 +1,4 @@
--- What a command over a store leaves of the journal's count of faults.
+-- What a read leaves of a disk's count of faults.
 use Rattle.std.specs.Prelude.{◌≤◌, ℕ}
 use Rattle.script_runs.specs.Counts.{CountedWhere}
 

@@ -1,30 +1,32 @@
-use Rattle.std.proofs.Common.{◌≡◌, ℕ, refl, sym, subst}
+use Rattle.std.proofs.Common.{◌≡◌, refl, sym, ap, subst, ◌∙◌}
 use Rattle.std.specs.Prelude.{Err}
 use Rattle.outside_traits.specs.DiskPairs.{pair_of}
-use Rattle.xtc.specs.declared.status.Status.TheVariants.{DiskFault}
-use Rattle.xtc.specs.declared.top_call.Finish.{Finish}
-use Rattle.xtc.specs.inside.CommandRuns.{Output, Disks, RunsCommand}
-use Rattle.xtc.specs.inside.Stores.{Counts}
+use Rattle.script_runs.specs.Counts.{Counts, DisksCountedWhere}
 use Rattle.command_words.specs.Commands.{gen}
+use Rattle.xtc.specs.StoreMachine.{pages_of, told}
+use Rattle.xtc.specs.declared.status.Status.{Status}
+use Rattle.xtc.specs.declared.status.Status.TheVariants.{DiskFault}
+use Rattle.xtc.specs.inside.CommandRuns.{Output, Disks, RunsCommand}
 use Rattle.xtc.proofs.ShownLaws.{shown_runs}
 use Rattle.xtc.proofs.generator.run_gen.Goals as goal
 
 pub returns : goal.returns
 returns g c = λ input.
+    let run = c.generate_over-text in
     let store = c.args.store in
     let history = g.P.Disk.history in
-    let shown = c.run_script-text in
-    let disk = c.into_disk.result in
+    let map = told g.P.Disk.is_known history store.base in
+    let command = gen c.args.seed c.args.count in
+    let text = run.result.text in
+    let fin = c.with_disks.result in
+    let out = c.with_disks.ensures in
     let output : Output = record { held = g.K.Sink.held c.args.sink.now; faults = g.K.Sink.faults c.args.sink.now } in
     let output_now : Output = record { held = g.K.Sink.held c.written.new.sink; faults = g.K.Sink.faults c.written.new.sink } in
-    let before : Disks = record { files = pair_of store.journal.history (history store.pages); faults = record { journal = store.journal.faults; pages = g.P.Disk.faults store.pages } } in
-    subst (λ (f : Finish g.row.J.Denot g.row.P.Denot). RunsCommand g.J.Disk.is_known g.P.Disk.is_known store.base store.number (gen c.args.seed c.args.count) f.status input input output output_now before (record {
-      files = pair_of (g.J.Disk.history f.journal) (history f.pages);
-      faults = record { journal = g.J.Disk.faults f.journal; pages = g.P.Disk.faults f.pages };
-    })) (sym c.with_disks.ensures.same)
-    (shown_runs g.J.Disk.is_known g.P.Disk.is_known store.base store.number (gen c.args.seed c.args.count) (record { unread = refl; ran = λ t n limit status opening o r. r }) shown.result (λ t. t.items) c.written.result
-    input output output_now store.journal.history (history store.pages) shown.new.journal.history before.faults (record { journal = g.J.Disk.faults disk; pages = g.P.Disk.faults store.pages })
-    (pair_of (g.J.Disk.history disk) (history store.pages)) shown.ensures.stops
-    (λ t is. shown.ensures.done t is)
-    c.written.ensures.text c.written.ensures.none c.into_disk.ensures.history refl c.with_disks.ensures.journal c.with_disks.ensures.pages c.written.ensures.write
-    (subst (λ (n : ℕ). Counts (shown.result ≡ Err DiskFault) store.journal.faults n) (sym c.into_disk.ensures.faults) shown.ensures.counts) refl)
+    let before : Disks = record { files = pair_of store.journal.history (pages_of history store.base); faults = record { journal = store.journal.faults; pages = g.P.Disk.faults store.base.base.disk } } in
+    let left : Disks = record { files = pair_of (g.J.Disk.history fin.journal) (history fin.pages); faults = record { journal = g.J.Disk.faults fin.journal; pages = g.P.Disk.faults fin.pages } } in
+    subst (λ (s : Status). RunsCommand g.J.Disk.is_known g.P.Disk.is_known map store.number command s input input output output_now before left) (sym out.status)
+    (shown_runs g.J.Disk.is_known g.P.Disk.is_known map store.number command (record { unread = refl; ran = λ t n limit status opening o r. r }) text (λ t. t.items) c.written.result
+    input output output_now store.journal.history (pages_of history store.base) run.new.journal.history before.faults left.faults left.files run.ensures.stops
+    (λ t is. run.ensures.done t is)
+    c.written.ensures.text c.written.ensures.none out.journal.0 (λ kp. ap history out.pages ∙ run.ensures.base.0.0 kp) out.images c.written.ensures.write
+    (subst (λ (k : Counts). DisksCountedWhere (text ≡ Err DiskFault) before.faults k) (λ i. record { journal = sym out.journal.1 i; pages = g.P.Disk.faults (sym out.pages i) }) run.ensures.counts))

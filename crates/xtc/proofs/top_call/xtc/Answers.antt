@@ -1,16 +1,19 @@
 use Rattle.std.proofs.Common.{◌≡◌, ◌-◌, ◌∙◌, arith, [], Option, refl, sym, ap, subst, add-zero, Some, Ok, Err}
 use Rattle.outside_traits.specs.DiskPairs.{Pair, pair_of}
-use Rattle.outside_traits.specs.Disks.{all_synced}
 use Rattle.outside_traits.proofs.Laws.{gave_none}
 use Rattle.node_seq.specs.Trees.{StandsFor}
-use Rattle.recovery.specs.Trees.{StandFor}
-use Rattle.recovery.proofs.CommitLaws.{pages_empty}
+use Rattle.overlays.specs.Views.{contents_after}
+use Rattle.paged_seq.specs.PagedFiles.{PagedView}
+use Rattle.paged_seq.specs.PagedMaps.{map_of_file}
+use Rattle.store_contents.specs.StoredTrees.{LeaveWhatStood, StandFor}
 use Rattle.script_runs.specs.Counts.{Counts, DisksCountedWhere}
 use Rattle.xtc.specs.declared.status.Status.TheVariants.{Done, Damaged, DiskFault}
 use Rattle.command_words.specs.Commands.{Command, command_of, meant}
 use Rattle.xtc.specs.Commands.{reads_input}
+use Rattle.xtc.specs.StoreMachine.{Held, pages_of, told}
+use Rattle.xtc.specs.inside.CommandRuns.{StandSettled}
 use Rattle.xtc.specs.TopCall.{Outcome, Leaves, OpenedStoreLeaves, IsSilent, tx_limit}
-use Rattle.xtc.proofs.StatusLaws.{beside_none, refused_leaves, refused_silent, refused_not, refused_as, words_usage, nothing_read, unopened_leaves, unopened_not_done, unopened_silent, opened_leaves, opened_unread, opened_not_damaged, damaged_of, cause_of, no_fault}
+use Rattle.xtc.proofs.StatusLaws.{known_map, pages_synced, refused_leaves, refused_silent, refused_not, refused_as, words_usage, nothing_read, unopened_leaves, unopened_not_done, unopened_silent, opened_leaves, opened_unread, opened_not_damaged, damaged_of, cause_of, no_fault}
 use Rattle.xtc.proofs.top_call.xtc.Goals as goal
 
 -- ---- the words gave no command
@@ -102,16 +105,29 @@ returns-in-Ok-open_store-clause-leaves g c =
       run.1,
       run.2,
       λ kj kp.
-          let store = c.in-Ok-open_store.store in
-          let stored = c.in-Ok-open_store.ensures.tree in
-          let t = stored.tree in
+          let store = c.in-Ok-open_store.field-0 in
+          let opened = c.in-Ok-open_store.ensures in
+          let history = g.P.Disk.history in
           let status = c.run_command.result.status in
-          let old : Pair = pair_of (g.J.Disk.history c.args.journal) (g.P.Disk.history c.args.pages) in
-          let opening : Pair = pair_of store.journal.history (g.P.Disk.history store.pages) in
-          let opens = c.in-Ok-open_store.ensures.opens kj kp in
+          let held : Held g.row.P.Denot = c.new-base.result in
+          let base : held.base ≡ store.base = c.new-base.ensures.base in
+          let told_is : told g.P.Disk.is_known history held ≡ contents_after store.layers.changes (map_of_file g.P.Disk.is_known (history store.base.disk).now.reads) =
+          λ i. contents_after (c.new-base.ensures.layers i).changes (map_of_file g.P.Disk.is_known (history (base i).disk).now.reads) in
+          let old : Pair = pair_of (g.J.Disk.history c.args.journal) (history c.args.pages) in
+          let opening : Pair = pair_of store.journal.history (pages_of history held) in
+          let opened_pair : Pair = pair_of store.journal.history (history store.base.disk) in
+          let same_pair : opening ≡ opened_pair = λ i. pair_of store.journal.history (history (base i).disk) in
+          let seen = known_map g.P.Disk.is_known kp store.layers.changes (history store.base.disk).now.reads in
+          let opens = opened.opens kj kp seen.0 seen.1 in
+          let stored = opened.tree seen.0 seen.1 in
+          let t = stored.tree in
           let stand : StandFor old.journal.now.reads old.pages.now.reads t store.number = record { is_valid_tree = stored.is_valid_tree; opens = opens.stood ∙ ap (λ es. Ok (record { entries = es; number = store.number })) (sym stored.map) } in
-          let is : StandsFor (Some store.base) t = record { valid = stored.is_valid_tree; map = ap Some (sym stored.map) } in
-          let none : opening.pages.now ≡ all_synced [] = c.in-Ok-open_store.ensures.synced.pages kp ∙ ap all_synced (pages_empty _ _ _ opens.stood) in
+          let is : StandsFor (told g.P.Disk.is_known history held) t = record { valid = stored.is_valid_tree; map = told_is ∙ seen.1 ∙ ap Some (sym stored.map) } in
+          let files : StandSettled opening t store.number = subst (λ (p : Pair). StandSettled p t store.number) (sym same_pair) (record {
+            journal = (opened.synced.journal kj).synced;
+            pages = pages_synced (history c.args.pages) (history store.base.disk) (opened.synced.pages kp);
+            stand = record { is_valid_tree = stored.is_valid_tree; opens = opens.stands ∙ ap (λ es. Ok (record { entries = es; number = store.number })) (sym stored.map) };
+          }) in
           let o : Outcome = record {
             read = run.0;
             asked = g.S.Source.asked c.run_command.new.source - g.S.Source.given c.args.source.now;
@@ -119,30 +135,30 @@ returns-in-Ok-open_store-clause-leaves g c =
             before = g.K.Sink.held c.args.sink.now;
             now = g.K.Sink.held c.run_command.new.sink;
             old = old;
-            new = pair_of (g.J.Disk.history c.run_command.result.journal) (g.P.Disk.history c.run_command.result.pages);
+            new = pair_of (g.J.Disk.history c.run_command.result.journal) (history c.run_command.result.pages);
           } in
-          let leaves : OpenedStoreLeaves tx_limit (Some (meant c.in-Ok.command)) status o = record {
+          let leaves : OpenedStoreLeaves tx_limit (Some (meant c.in-Ok.read.command)) status o = record {
             tree = t;
             number = store.number;
             stood = stand;
             opening = opening;
-            until_open = c.in-Ok-open_store.ensures.any_moment kj kp;
-            ran = run.3 kj kp (c.in-Ok-open_store.ensures.synced.journal kj).synced none (beside_none _ _ _ opens.stands) t is old;
+            until_open = subst (LeaveWhatStood old) (sym same_pair) (opened.any_moment kj kp);
+            ran = run.3 kj kp t is files old;
           } in
           opened_leaves tx_limit (command_of c.args.words.now.items) status o c.run_command.ensures.opened
-          (subst (λ (command : Option Command). OpenedStoreLeaves tx_limit command status o) (sym c.in-Ok.ensures.ok) leaves),
+          (subst (λ (command : Option Command). OpenedStoreLeaves tx_limit command status o) (sym c.in-Ok.ensures.command) leaves),
     )
 
 pub returns-in-Ok-open_store-clause-input : goal.returns-in-Ok-open_store-clause-input
 returns-in-Ok-open_store-clause-input g c = record {
-  whole = λ reads. c.run_command.ensures.whole (ap reads_input (sym c.in-Ok.ensures.ok) ∙ reads);
+  whole = λ reads. c.run_command.ensures.whole (ap reads_input (sym c.in-Ok.ensures.command) ∙ reads);
   unread = opened_unread c.run_command.result.status _ c.run_command.ensures.opened;
   bound = c.run_command.ensures.bound;
 }
 
 pub returns-in-Ok-open_store-clause-silent : goal.returns-in-Ok-open_store-clause-silent
 returns-in-Ok-open_store-clause-silent g c =
-    subst (λ (command : Option Command). IsSilent command c.run_command.result.status (g.K.Sink.held c.run_command.new.sink ≡ g.K.Sink.held c.args.sink.now)) (sym c.in-Ok.ensures.ok) c.run_command.ensures.silent
+    subst (λ (command : Option Command). IsSilent command c.run_command.result.status (g.K.Sink.held c.run_command.new.sink ≡ g.K.Sink.held c.args.sink.now)) (sym c.in-Ok.ensures.command) c.run_command.ensures.silent
 
 pub returns-in-Ok-open_store-clause-damaged : goal.returns-in-Ok-open_store-clause-damaged
 returns-in-Ok-open_store-clause-damaged g c = λ place is. absurd (opened_not_damaged c.run_command.result.status place c.run_command.ensures.opened is)
@@ -161,8 +177,10 @@ returns-in-Err-open_store-clause-disk g c =
 pub returns-in-Ok-open_store-clause-disk : goal.returns-in-Ok-open_store-clause-disk
 returns-in-Ok-open_store-clause-disk g c =
     let run = c.run_command.ensures.disk in
+    let store = c.in-Ok-open_store.field-0 in
     let opened = c.in-Ok-open_store.ensures.counts in
     let before : Counts = record { journal = g.J.Disk.faults c.args.journal; pages = g.P.Disk.faults c.args.pages } in
-    let opening : Counts = record { journal = c.in-Ok-open_store.store.journal.faults; pages = g.P.Disk.faults c.in-Ok-open_store.store.pages } in
-    let same : opening ≡ before = λ i. record { journal = opened.0 i; pages = opened.1 i } in
+    let opening : Counts = record { journal = store.journal.faults; pages = g.P.Disk.faults c.new-base.result.base.disk } in
+    let pages : g.P.Disk.faults c.new-base.result.base.disk ≡ g.P.Disk.faults c.args.pages = ap (λ (p : PagedView g.row.P.Denot). g.P.Disk.faults p.disk) c.new-base.ensures.base ∙ opened.1 in
+    let same : opening ≡ before = λ i. record { journal = opened.0 i; pages = pages i } in
     subst (λ (counts : Counts). DisksCountedWhere (c.run_command.result.status ≡ DiskFault) counts (record { journal = g.J.Disk.faults c.run_command.result.journal; pages = g.P.Disk.faults c.run_command.result.pages })) same run
