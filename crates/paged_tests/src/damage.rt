@@ -1,8 +1,11 @@
 //! Page files that break a rule, as docs/FILE_FORMAT.md tells what becomes of them.
 use crate::files::{document, file_of, key, letters, opened, padded};
+use node_seq::{NodeRead, SeqError, SortedSeq};
+use outside_kinds::MemDisk;
+use paged_seq::PagedSeq;
 use std::alloc::Global;
 use std::test::Fail;
-use tree_model::Record;
+use tree_model::{Key, Record};
 
 /// Where a file is damaged, with bytes at some places set to others.
 fn place_with(
@@ -103,5 +106,88 @@ const ROOMY: [&[u8]; 4] = [
 fn a_page_with_room_is_the_one_that_breaks_the_rule(rt: HostRuntime) -> Result<(), Fail> {
     let place = place_with(rt.alloc(), padded(rt.alloc(), &ROOMY)?, &[])?;
     assert_eq!(rt; place, Some(8_192));
+    Ok(())
+}
+
+/// The page file of 80 attributes with names of 1,000 letters: eight of their entries go on a page, and the starts of the ten on two.
+fn long_names(alloc: Global) -> Result<Vec<u8>, Fail> {
+    let mut seq = SortedSeq::new(alloc);
+    let name = letters(alloc, 1_000)?;
+    for number in 0..80 {
+        let at = key(alloc, &[1, 1001, 1001 + 2 * number], name.as_str())?;
+        seq.put(alloc, at, Record::Attr(letters(alloc, 0)?))?;
+    }
+    file_of(alloc, &mut seq)
+}
+
+#[test]
+fn too_few_directory_pages_are_damage_at_the_last(rt: HostRuntime) -> Result<(), Fail> {
+    let bytes = long_names(rt.alloc())?;
+    assert_eq!(rt; bytes.len(), 106_496);
+    let place = place_with(rt.alloc(), bytes, &[(15, 12), (23, 1)])?;
+    assert_eq!(rt; place, Some(90_112));
+    Ok(())
+}
+
+/// The page file of the document, in which its element has a blank for a name.
+fn blank_name(alloc: Global) -> Result<Vec<u8>, Fail> {
+    let mut bytes = file_of(alloc, &mut document(alloc)?)?;
+    if 8_234 < bytes.len() {
+        bytes[8_234] = b' ';
+    }
+    Ok(bytes)
+}
+
+/// Whether no record stands at a key, and none above another one.
+fn is_gone<S: NodeRead>(
+    alloc: Global,
+    seq: &mut S,
+    at: &Key,
+    last: &Key,
+) -> Result<bool, SeqError> {
+    let found = seq.get(alloc, at)?.is_some();
+    let above = seq.next_from(alloc, last)?.is_some();
+    Ok(!found && !above)
+}
+
+/// Whether the last entry before the second document's label is the one at this key.
+fn ends_at<S: NodeRead>(alloc: Global, seq: &mut S, last: &Key) -> Result<bool, Fail> {
+    let behind = key(alloc, &[1, 1003], "")?;
+    match seq.prev_from(alloc, &behind)? {
+        Some((found, _record)) => Ok(found.cmp(last).is_eq()),
+        None => Ok(false),
+    }
+}
+
+/// Whether the element is no entry of the map, which ends with the document.
+fn is_passed_over<S: NodeRead>(alloc: Global, seq: &mut S, element: &Key) -> Result<bool, Fail> {
+    let document = key(alloc, &[1, 1001], "")?;
+    let gone = is_gone(alloc, seq, element, &document)?;
+    let ends = ends_at(alloc, seq, &document)?;
+    Ok(gone && ends)
+}
+
+/// Whether the element's record is on a page, and no entry of the map.
+fn has_it_on_a_page(alloc: Global, seq: &mut PagedSeq<MemDisk>) -> Result<(bool, bool), Fail> {
+    let element = key(alloc, &[1, 1001, 1001], "")?;
+    let stands = seq.record_at(alloc, &element)?.is_some();
+    let passed = is_passed_over(alloc, seq, &element)?;
+    Ok((stands, passed))
+}
+
+/// The same of the document whose element has a blank for a name.
+fn blank_is_passed_over(alloc: Global) -> Result<(bool, bool), Fail> {
+    match opened(alloc, blank_name(alloc)?, 1)? {
+        Ok(seq) => {
+            let mut seq = seq;
+            has_it_on_a_page(alloc, &mut seq)
+        }
+        Err(_place) => Err(Fail::from("damaged")),
+    }
+}
+
+#[test]
+fn an_entry_that_no_tree_has_is_passed_over(rt: HostRuntime) -> Result<(), Fail> {
+    assert_eq!(rt; blank_is_passed_over(rt.alloc())?, (true, true));
     Ok(())
 }

@@ -1,4 +1,4 @@
-//! Maps over page files on disks in memory: opened, damaged and read with few frames.
+//! Maps over page files on disks in memory: opened, damaged, read with few frames and walked.
 #![tactic(auto)]
 
 #[cfg(test)]
@@ -7,3 +7,5 @@ mod damage;
 mod files;
 #[cfg(test)]
 mod frames;
+#[cfg(test)]
+mod walks;
