@@ -70,6 +70,15 @@ const SCRIPTS: &[Case<'static>] = &[
         ..CREATE
     },
     Case {
+        write: 2,
+        piece: 20,
+        status: "6 xtc: output failed",
+        written: 20,
+        now: Some(SIXTY),
+        then: "0 [\"a\"]\n",
+        ..CREATE
+    },
+    Case {
         write: 3,
         piece: 20,
         status: "6 xtc: output failed",
@@ -77,6 +86,32 @@ const SCRIPTS: &[Case<'static>] = &[
         now: Some(SIXTY),
         then: "0 [\"a\"]\n",
         ..CREATE
+    },
+    Case {
+        write: 4,
+        piece: 20,
+        status: "6 xtc: output failed",
+        written: 60,
+        now: Some(SIXTY),
+        then: "0 [\"a\"]\n",
+        ..CREATE
+    },
+    // A file that can't be opened.
+    Case {
+        journal: SIXTY,
+        journal_call: 1,
+        status: "7 xtc: disk failed",
+        now: Some(SIXTY),
+        then: "0 [\"a\"]\n",
+        ..UNDONE
+    },
+    Case {
+        journal: SIXTY,
+        pages_call: 1,
+        status: "7 xtc: disk failed",
+        now: Some(SIXTY),
+        then: "0 [\"a\"]\n",
+        ..UNDONE
     },
     Case {
         read: 1,
