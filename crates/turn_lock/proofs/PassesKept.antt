@@ -106,8 +106,8 @@ module _ {V E : Type 0} (entries : V → List E) (number : E → Option ℕ) whe
   closed_value x y seen has e g = subst (λ (z : V). GoesOn number has seen (entries z)) (ap (of_slot x) e) g
 
   pub opens : (x : V) (count : ℕ) (slots : List (Option V)) (has : List Bool) (seen : List E) → slots ≡ Some x ∷ [] → has ≡ replicate 65 true → seen ≡ entries x → count ≡ length (entries x)
-      → Kept entries number (opening (0 ∷ count ∷ 0 ∷ 0 ∷ []) slots (founder has seen))
-  opens x count slots has seen e f h is = subst (λ (z : List (Option V) × (List Bool × List E)). Kept entries number (opening (0 ∷ count ∷ 0 ∷ 0 ∷ []) z.0 (founder z.1.0 z.1.1))) (λ i. (sym e i, (sym f i, sym h i)))
+      → Kept entries number (opening (0 ∷ count ∷ 0 ∷ 0 ∷ 0 ∷ []) slots (founder has seen))
+  opens x count slots has seen e f h is = subst (λ (z : List (Option V) × (List Bool × List E)). Kept entries number (opening (0 ∷ count ∷ 0 ∷ 0 ∷ 0 ∷ []) z.0 (founder z.1.0 z.1.1))) (λ i. (sym e i, (sym f i, sym h i)))
       (beginning entries number (replicate 65 true) x count (length-replicate 65 true) all_there is)
 
   -- what either had seen goes on to what the one has seen at the end

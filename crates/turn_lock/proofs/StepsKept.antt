@@ -63,7 +63,7 @@ module _ {V E : Type 0} (entries : V → List E) (number : E → Option ℕ) whe
     list = r.list;
     owner = r.owner;
     holder = r.holder;
-    four = r.four;
+    five = r.five;
     counted = r.counted;
     is_bit = r.is_bit;
     home = r.home;
@@ -79,7 +79,7 @@ module _ {V E : Type 0} (entries : V → List E) (number : E → Option ℕ) whe
   }
 
   -- a step on a word of which the rule says nothing
-  idling : (slots id word : ℕ) (st : Step S) (f : ℕ → ℕ) (me : M) → 2 ≤ word → word < 4 → Allows Rule slots id me word f (idles entries number st me)
+  idling : (slots id word : ℕ) (st : Step S) (f : ℕ → ℕ) (me : M) → 2 ≤ word → word < 5 → Allows Rule slots id me word f (idles entries number st me)
   idling slots id word st f me from to s r wide at small = let n : ℕ = f (get_or s.words word 0) in
       let first : get_or (set s.words word n) 0 0 ≡ taken s = get_or-set_other s.words word 0 n 0 (λ e. omega arith) in
       let second : get_or (set s.words word n) 1 0 ≡ get_or s.words 1 0 = get_or-set_other s.words word 1 n 0 (λ e. omega arith) in (
@@ -90,7 +90,7 @@ module _ {V E : Type 0} (entries : V → List E) (number : E → Option ℕ) whe
           list = r.list;
           owner = r.owner;
           holder = r.holder;
-          four = length-set s.words word n ∙ r.four;
+          five = length-set s.words word n ∙ r.five;
           counted = second ∙ r.counted;
           is_bit = subst (λ (x : ℕ). x ≤ 1) (sym first) r.is_bit;
           home = λ z. r.home (sym first ∙ z);
@@ -101,10 +101,10 @@ module _ {V E : Type 0} (entries : V → List E) (number : E → Option ℕ) whe
         refl,
       )
 
-  pub counting_up : (slots id word k : ℕ) (me : M) → 2 ≤ word → word < 4 → Allows Rule slots id me word (λ n. (n + k) % 2 ^ 64) (idles entries number (step slots word k 0 none) me)
+  pub counting_up : (slots id word k : ℕ) (me : M) → 2 ≤ word → word < 5 → Allows Rule slots id me word (λ n. (n + k) % 2 ^ 64) (idles entries number (step slots word k 0 none) me)
   counting_up slots id word k me from to = idling slots id word (step slots word k 0 none) (λ n. (n + k) % 2 ^ 64) me from to
 
-  pub counting_down : (slots id word k : ℕ) (me : M) → 2 ≤ word → word < 4 → Allows Rule slots id me word (λ n. (n + (2 ^ 64 - k)) % 2 ^ 64) (idles entries number (step slots word k 0 none) me)
+  pub counting_down : (slots id word k : ℕ) (me : M) → 2 ≤ word → word < 5 → Allows Rule slots id me word (λ n. (n + (2 ^ 64 - k)) % 2 ^ 64) (idles entries number (step slots word k 0 none) me)
   counting_down slots id word k me from to = idling slots id word (step slots word k 0 none) (λ n. (n + (2 ^ 64 - k)) % 2 ^ 64) me from to
 
   pub picking : (slots : ℕ) (id n : ℕ) (me : M) → Allows Rule slots id me 0 (λ x. either (eqb x n) n x) (picks entries number (step slots 0 n n none) me)
@@ -144,7 +144,7 @@ module _ {V E : Type 0} (entries : V → List E) (number : E → Option ℕ) whe
 
   pub taking : (slots : ℕ) (id : ℕ) (me : M) → HasSome me.0.has → Allows Rule slots id me 0 (λ x. either (eqb x 0) 1 x) (took entries number (step slots 0 0 1 none) me)
   taking slots id me some_number s r wide at small = let v : Known E = me.0 in let x : ℕ = taken s in dite (ℕ_discrete x 0)
-      (λ free. let h = r.home free in let k = r.each id v at in let four = r.four in let w : Known E = with_turn r.list v in
+      (λ free. let h = r.home free in let k = r.each id v at in let five = r.five in let w : Known E = with_turn r.list v in
       let still : get_or (set s.words 0 1) 1 0 ≡ get_or s.words 1 0 = get_or-set_other s.words 0 1 1 0 (λ e. omega arith) in
       let now : get_or (set s.words 0 1) 0 0 ≡ 1 = get_or-set_same s.words 0 1 0 (omega arith) in
       let out_of : (j : ℕ) (u : Known E) → get_elem? s.views j ≡ some u → u.turn ≡ true → ⊥ = λ j u p q. let one = ((r.each j u p).holds q).1 in absurd (omega arith) in (
@@ -155,7 +155,7 @@ module _ {V E : Type 0} (entries : V → List E) (number : E → Option ℕ) whe
           list = r.list;
           owner = r.owner;
           holder = id;
-          four = length-set s.words 0 1 ∙ four;
+          five = length-set s.words 0 1 ∙ five;
           counted = still ∙ r.counted;
           is_bit = omega arith;
           home = λ z. absurd (omega arith);
@@ -181,7 +181,7 @@ module _ {V E : Type 0} (entries : V → List E) (number : E → Option ℕ) whe
 
   pub marking : (slots : ℕ) (id : ℕ) (me : M) (old new : ℕ) (y : V) → me.0.turn ≡ true → old ≡ length me.0.seen → GrewBy number me.0.has me.0.seen (entries y) → new ≡ length (entries y)
       → Allows Rule slots id me 1 (λ x. either (eqb x old) new x) (marked entries number (step slots 1 old new (some (Some y))) me)
-  marking slots id me old new y t was grew count s r wide at small = let v : Known E = me.0 in let k = r.each id v at in let h = k.holds t in let four = r.four in
+  marking slots id me old new y t was grew count s r wide at small = let v : Known E = me.0 in let k = r.each id v at in let h = k.holds t in let five = r.five in
       let hit : get_or s.words 1 0 ≡ old = r.counted ∙ (ap length (sym h.2) ∙ sym was) in let w : Known E = with_seen (entries y) v in
       let now : get_or (set s.words 1 new) 1 0 ≡ new = get_or-set_same s.words 1 new 0 (omega arith) in
       let still : get_or (set s.words 1 new) 0 0 ≡ taken s = get_or-set_other s.words 1 0 new 0 (λ e. omega arith) in
@@ -194,7 +194,7 @@ module _ {V E : Type 0} (entries : V → List E) (number : E → Option ℕ) whe
           list = entries y;
           owner = r.owner;
           holder = r.holder;
-          four = length-set s.words 1 new ∙ four;
+          five = length-set s.words 1 new ∙ five;
           counted = now ∙ count;
           is_bit = omega arith;
           home = λ z. absurd (omega arith);
@@ -221,7 +221,7 @@ module _ {V E : Type 0} (entries : V → List E) (number : E → Option ℕ) whe
 
   pub freeing : (slots : ℕ) → slots ≡ 1 → (id : ℕ) (v : Known E) (y : V) → v.turn ≡ true → entries y ≡ v.seen
       → Allows Rule slots id (v, (0, Some y) ∷ []) 0 (λ _. 0) (λ _. freed entries number (step slots 0 0 0 none) (v, (0, Some y) ∷ []) 0)
-  freeing slots single id v y t same s r wide at small = let k = r.each id v at in let h = k.holds t in let four = r.four in let w : Known E = without_turn v in
+  freeing slots single id v y t same s r wide at small = let k = r.each id v at in let h = k.holds t in let five = r.five in let w : Known E = without_turn v in
       let still : get_or (set s.words 0 0) 1 0 ≡ get_or s.words 1 0 = get_or-set_other s.words 0 1 0 0 (λ e. omega arith) in
       let now : get_or (set s.words 0 0) 0 0 ≡ 0 = get_or-set_same s.words 0 0 0 (omega arith) in (
         w,
@@ -231,7 +231,7 @@ module _ {V E : Type 0} (entries : V → List E) (number : E → Option ℕ) whe
           list = r.list;
           owner = r.owner;
           holder = r.holder;
-          four = length-set s.words 0 0 ∙ four;
+          five = length-set s.words 0 0 ∙ five;
           counted = still ∙ r.counted;
           is_bit = omega arith;
           home = λ _. (y, alone s.homes (Some y) (wide ∙ single), same ∙ h.2);
@@ -291,7 +291,7 @@ module _ {V E : Type 0} (entries : V → List E) (number : E → Option ℕ) whe
         list = r.list;
         owner = owner;
         holder = r.holder;
-        four = r.four;
+        five = r.five;
         counted = r.counted;
         is_bit = r.is_bit;
         home = r.home;
@@ -370,7 +370,7 @@ module _ {V E : Type 0} (entries : V → List E) (number : E → Option ℕ) whe
         list = r.list;
         owner = owner;
         holder = r.holder;
-        four = r.four;
+        five = r.five;
         counted = r.counted;
         is_bit = r.is_bit;
         home = r.home;
@@ -421,12 +421,12 @@ module _ {V E : Type 0} (entries : V → List E) (number : E → Option ℕ) whe
 
   -- the rule at the start
   pub beginning : (has : List Bool) (x : V) (count : ℕ) → length has ≡ 65 → HasAll has → count ≡ length (entries x)
-      → Rule (opening (0 ∷ count ∷ 0 ∷ 0 ∷ []) (Some x ∷ []) (founder has (entries x)))
+      → Rule (opening (0 ∷ count ∷ 0 ∷ 0 ∷ 0 ∷ []) (Some x ∷ []) (founder has (entries x)))
   beginning has x count long every is = record {
     list = entries x;
     owner = λ _. 0;
     holder = 0;
-    four = refl;
+    five = refl;
     counted = is;
     is_bit = omega arith;
     home = λ _. (x, refl, refl);

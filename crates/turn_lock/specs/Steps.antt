@@ -1,6 +1,6 @@
 -- The rule of the table, and what each step tells.
 -- Word 0 says whether the turn is taken, word 1 how long the list was when it was last marked, and the slot has the value.
--- Words 2 and 3 count the threads that sleep on words 0 and 1. The rule says nothing of them.
+-- Words 2 and 3 count the threads that sleep on words 0 and 1, and word 4 those that look for the turn. The rule says nothing of them.
 use Rattle.std.specs.Prelude.{◌≡◌, ◌≢◌, ℕ, ◌<◌, ◌≤◌, Bool, true, false, List, [], ◌∷◌, length, slice_index, slice_set, Option, Some, None}
 use mathlib.Core.Option.{some}
 use lib.ListN.{get_elem?}
@@ -20,7 +20,7 @@ pub record Kept {V E : Type 0} (entries : V → List E) (number : E → Option �
   pub list : List E
   pub owner : ℕ → ℕ
   pub holder : ℕ
-  pub four : length s.words ≡ 4
+  pub five : length s.words ≡ 5
   pub counted : slice_index s.words 1 ≡ length list
   pub is_bit : slice_index s.words 0 ≤ 1
   pub home : slice_index s.words 0 ≡ 0 → (x : V) × (s.homes ≡ some (Some x) ∷ []) × (entries x ≡ list)

@@ -15,7 +15,8 @@ use std::marker::Model;
 use std::snapshot::Snapshot;
 use std::sync::Wait;
 
-// The words of the table: whether the turn is taken, how long the list was when it was last marked, and how many threads sleep on either.
+// The words of the table: whether the turn is taken, how long the list was when it was last marked, how many threads sleep on either,
+// and how many are awake and look for the turn.
 const TAKEN: usize = 0;
 
 const LENGTH: usize = 1;
@@ -24,8 +25,13 @@ const TAKERS_ASLEEP: usize = 2;
 
 const GROWTH_ASLEEP: usize = 3;
 
-// How often a thread looks whether the turn is free before it sleeps: for about as long as a sleep and its wake-up take, where a look takes about a nanosecond.
-const LOOKS: u32 = 20_000;
+const LOOKING: usize = 4;
+
+// How often a thread looks whether the turn is free before it sleeps, and how many looks there are to a try to take it. A look takes about a nanosecond.
+// Between two tries the thread that gave the turn may have it some more times, while the value is in its processor's cache.
+const LOOKS: u32 = 100_000;
+
+const LOOKS_A_TRY: u32 = 4096;
 
 /// The value while it is out.
 #[derive(Drop)]
@@ -55,7 +61,7 @@ impl<V: Grows> Model for TurnLock<V> {
 
     ghost view = { λ t. t.table.shared.table_id };
 
-    ghost invariant = { λ t. (t.table.shared.table_id.words ≡ 4) × (t.table.shared.table_id.slots ≡ 1) };
+    ghost invariant = { λ t. (t.table.shared.table_id.words ≡ 5) × (t.table.shared.table_id.slots ≡ 1) };
 }
 
 impl<V: Grows> TurnLock<V> {
@@ -77,7 +83,7 @@ impl<V: Grows> TurnLock<V> {
             slots.destroy_empty();
             return Err(NoTurn { value });
         }
-        match Table::new(alloc, &[0, count, 0, 0], slots, &start) {
+        match Table::new(alloc, &[0, count, 0, 0, 0], slots, &start) {
             Ok((table, seat)) => Ok((
                 TurnLock { table },
                 Pass {
@@ -120,8 +126,9 @@ impl<V: Grows> TurnLock<V> {
         ensures goes_on { IfSome result (λ t. GoesOn V.number pass.old.has pass.old.seen (V.entries t.value)) }
         ensures none { IfNone result (pass.new ≡ pass.old) }
     {
-        for _ in 0..LOOKS {
-            if self.table.shared.peek(TAKEN) == 0 {
+        for look in 0..LOOKS {
+            // A look is made each time, so that time passes.
+            if self.table.shared.peek(TAKEN) == 0 && look % LOOKS_A_TRY == 0 {
                 if let Some(turn) = self.try_take(pass) {
                     return Some(turn);
                 }
@@ -131,25 +138,58 @@ impl<V: Grows> TurnLock<V> {
         None
     }
 
-    // Takes the turn, and sleeps while it is taken.
-    fn take_asleep<R: Wait>(&self, rt: &R, pass: &mut Pass<V>) -> Turn<V>
+    // Looks for the turn, and is counted among those that look meanwhile. Where it isn't found the thread is counted among those that sleep from then on.
+    fn take_looking(&self, pass: &mut Pass<V>) -> Option<Turn<V>>
+        requires { pass.old.lock ≡ self.now }
+        ensures pass { IfSome result (λ t. pass.new ≡ having_turn true (having_seen (V.entries t.value) pass.old)) }
+        ensures goes_on { IfSome result (λ t. GoesOn V.number pass.old.has pass.old.seen (V.entries t.value)) }
+        ensures none { IfNone result (pass.new ≡ pass.old) }
+    {
+        self.count_in(pass, LOOKING);
+        let found = self.take_soon(pass);
+        if found.is_none() {
+            self.count_in(pass, TAKERS_ASLEEP);
+        }
+        self.count_out(pass, LOOKING);
+        found
+    }
+
+    // Takes the turn where it is free, and sleeps once where it isn't. The thread was counted among those that sleep.
+    fn take_or_sleep<R: Wait>(&self, rt: &R, pass: &mut Pass<V>) -> Option<Turn<V>>
+        requires { pass.old.lock ≡ self.now }
+        ensures pass { IfSome result (λ t. pass.new ≡ having_turn true (having_seen (V.entries t.value) pass.old)) }
+        ensures goes_on { IfSome result (λ t. GoesOn V.number pass.old.has pass.old.seen (V.entries t.value)) }
+        ensures none { IfNone result (pass.new ≡ pass.old) }
+    {
+        let found = self.try_take(pass);
+        if found.is_none() {
+            self.table.shared.park(rt, TAKEN, 1);
+        }
+        self.count_out(pass, TAKERS_ASLEEP);
+        found
+    }
+
+    // Takes the turn. It looks some times and sleeps, in turn, until it has it.
+    fn take_slowly<R: Wait>(&self, rt: &R, pass: &mut Pass<V>) -> Turn<V>
         requires { pass.old.lock ≡ self.now }
         ensures pass { pass.new ≡ having_turn true (having_seen (V.entries result.value) pass.old) }
         ensures goes_on { GoesOn V.number pass.old.has pass.old.seen (V.entries result.value) }
     {
         for _ in rt.forever() {
-            if let Some(turn) = self.try_take(pass) {
+            if let Some(turn) = self.take_looking(pass) {
                 return turn;
             }
-            self.table.shared.park(rt, TAKEN, 1);
+            if let Some(turn) = self.take_or_sleep(rt, pass) {
+                return turn;
+            }
         }
         unreachable!()
     }
 
-    // Counts this thread among those that sleep.
-    fn lie_down(&self, pass: &mut Pass<V>, word: usize)
+    // Counts this thread in a word.
+    fn count_in(&self, pass: &mut Pass<V>, word: usize)
         requires lock { pass.old.lock ≡ self.now }
-        requires word { (2 ≤ word) × (word < 4) }
+        requires word { (2 ≤ word) × (word < 5) }
         ensures { pass.new ≡ pass.old }
     {
         self.table
@@ -157,9 +197,9 @@ impl<V: Grows> TurnLock<V> {
             .fetch_add::<Idle<V>>(&mut pass.seat, word, 1);
     }
 
-    fn get_up(&self, pass: &mut Pass<V>, word: usize)
+    fn count_out(&self, pass: &mut Pass<V>, word: usize)
         requires lock { pass.old.lock ≡ self.now }
-        requires word { (2 ≤ word) × (word < 4) }
+        requires word { (2 ≤ word) × (word < 5) }
         ensures { pass.new ≡ pass.old }
     {
         self.table
@@ -174,13 +214,12 @@ impl<V: Grows> TurnLock<V> {
         ensures pass { pass.new ≡ having_turn true (having_seen (V.entries result.value) pass.old) }
         ensures goes_on { GoesOn V.number pass.old.has pass.old.seen (V.entries result.value) }
     {
-        if let Some(turn) = self.take_soon(pass) {
-            return turn;
+        if self.table.shared.peek(TAKEN) == 0 {
+            if let Some(turn) = self.try_take(pass) {
+                return turn;
+            }
         }
-        self.lie_down(pass, TAKERS_ASLEEP);
-        let turn = self.take_asleep(rt, pass);
-        self.get_up(pass, TAKERS_ASLEEP);
-        turn
+        self.take_slowly(rt, pass)
     }
 
     /// Waits until the list is longer than what the pass has seen. It doesn't take the turn.
@@ -189,9 +228,9 @@ impl<V: Grows> TurnLock<V> {
         requires turn { pass.old.turn ≡ false }
         ensures pass { pass.new ≡ pass.old }
     {
-        self.lie_down(pass, GROWTH_ASLEEP);
+        self.count_in(pass, GROWTH_ASLEEP);
         self.sleep_until_grown(rt, pass.count);
-        self.get_up(pass, GROWTH_ASLEEP);
+        self.count_out(pass, GROWTH_ASLEEP);
     }
 
     // Sleeps while the list has `seen` entries.
@@ -207,16 +246,18 @@ impl<V: Grows> TurnLock<V> {
         unreachable!()
     }
 
-    // Wakes a thread that waits for the turn, and all that wait for the list to grow where it did.
+    // Wakes a thread that sleeps for the turn where no other one looks for it, and all that wait for the list to grow where it did.
     //
     // No wake-up is lost. A thread that is to sleep is counted first, then looks at the word that it waits on, and then the kernel looks at that
     // word again as it lays the thread down. Here the word was changed before the count is read. All these steps stand in one order, so either the
     // count is read with that thread in it, and it is woken, or it was counted later, and then its own looks find the word changed. Where it finds
     // the turn taken again, whoever took it in between comes here after it was counted.
+    // Where a thread looks for the turn it takes it, and then it comes here itself; or it gives up: then it is counted among those that sleep, no
+    // longer among those that look, and tries once more, in this order. That try finds the turn free, or one who comes here after it.
     // One that waits for growth sees 32 bits of the length as it is laid down: a list would have to grow by 2^32 entries between two looks.
     fn wake(&self, grew: bool) {
         let shared = &self.table.shared;
-        if shared.peek(TAKERS_ASLEEP) != 0 {
+        if shared.peek(LOOKING) == 0 && shared.peek(TAKERS_ASLEEP) != 0 {
             shared.wake_one(TAKEN);
         }
         if grew && shared.peek(GROWTH_ASLEEP) != 0 {
