@@ -1,7 +1,14 @@
+mod AgainLaws
 mod AnswerLaws
 mod BaseLaws
+mod FinishLaws
+mod FrontLaws
+mod GatherLaws
+mod ImagePages
 mod MergeLaws
 mod NetLaws
 mod OverLaws
 mod PagedSteps
+mod ReadyLaws
 mod SyncSteps
+mod TestLaws

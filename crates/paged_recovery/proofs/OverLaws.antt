@@ -27,9 +27,9 @@ use Rattle.store_contents.specs.Contents.{Contents, after_commits, base_of, chec
 use Rattle.store_contents.proofs.ContentsLaws.{base_is, by_damage, by_groups, of_parts, over_commits}
 use Rattle.store_contents.proofs.TreeLaws.{stand_for_one}
 use Rattle.recovery.specs.Openings.{TakesBehind}
-use Rattle.paged_recovery.specs.Openings.{IsRefusedAt, OpensPages}
+use Rattle.paged_recovery.specs.Openings.{OpensPages}
 use Rattle.paged_recovery.specs.inside.Nets.{IsMisfit, NetOf}
-use Rattle.paged_recovery.specs.inside.Over.{FollowsOver, answer_before, answer_over, groups_before, groups_over, has_none}
+use Rattle.paged_recovery.specs.inside.Over.{FollowsOver, IsRefusedAt, answer_before, answer_over, groups_before, groups_over, has_none}
 use Rattle.paged_recovery.proofs.AnswerLaws.{follows}
 
 -- ---- groups

@@ -27,7 +27,8 @@ use Rattle.store_contents.proofs.ContentsLaws.{same_beside}
 use Rattle.recovery.specs.Causes.{OneRose, RiseOnlyAtFault}
 use Rattle.recovery.specs.Opened.{KeepsJournal, journal_made}
 use Rattle.recovery.specs.Openings.{AreOpened, KeepsFiles}
-use Rattle.paged_recovery.specs.Openings.{IsRefusedAt, LeavesPagesUnopened, OpensPages, RefusesPages}
+use Rattle.paged_recovery.specs.Openings.{LeavesPagesUnopened, OpensPages}
+use Rattle.paged_recovery.specs.inside.Over.{IsRefused, IsRefusedAt}
 use Rattle.paged_recovery.specs.inside.Syncs.{CouldLeave, LeaveNoOther}
 use Rattle.paged_recovery.proofs.AnswerLaws.{rose_later, rose_sooner, unless_of}
 
@@ -185,7 +186,7 @@ module _ (old mid new : Pair) where
       subst (λ (s : DiskState). IsRefusedAt s.reads old.pages.now.reads place) journal_rests
       (subst (λ (s : DiskState). IsRefusedAt mid.journal.now.reads s.reads place) pages_rest refused)
 
-  pub refuses_before : (place : Place) → Synced old.journal.now mid.journal.now → Synced old.pages.now mid.pages.now → RefusesPages mid new place → RefusesPages old new place
+  pub refuses_before : (place : Place) → Synced old.journal.now mid.journal.now → Synced old.pages.now mid.pages.now → IsRefused mid new place → IsRefused old new place
   refuses_before place journal_rests pages_rest refuses = record {
     refused = refused_at_before place journal_rests pages_rest refuses.refused;
     journal = refuses.journal ∙ ap (λ (s : DiskState). all_synced s.reads) journal_rests;

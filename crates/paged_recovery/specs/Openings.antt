@@ -1,13 +1,14 @@
 -- What the opening of a store with pages leaves of its two disks (docs/FILE_FORMAT.md, "With pages").
-use Rattle.std.specs.Prelude.{◌≡◌, ◌⊎◌, ℕ, true, List, is_some, Ok, Err}
+use Rattle.std.specs.Prelude.{◌≡◌, ℕ, Bool, true, IsTrue, List, is_some, Ok, Err}
 use Rattle.outside_traits.specs.DiskPairs.{Pair, PairsHave}
 use Rattle.outside_traits.specs.Disks.{Synced}
+use Rattle.outside_traits.specs.Moments.{IsAllSynced}
 use Rattle.tree_model.specs.Entries.{Entries}
 use Rattle.node_records.specs.declared.open_error.Place.{Place}
-use Rattle.node_records.specs.declared.open_error.File.TheVariants.{Pages}
 use Rattle.journal.specs.Journals.{read}
 use Rattle.journal.specs.declared.group.Groups.{Groups}
-use Rattle.store_contents.specs.Contents.{contents_of_files, place_in}
+use Rattle.recovery.specs.Openings.{AreOpened}
+use Rattle.store_contents.specs.Contents.{contents_of_files}
 use Rattle.store_contents.specs.StoredTrees.{StandForOne, StoodFor, LeaveWhatStood}
 
 -- the files stood for this map and number, stand for them now, and for one tree alone
@@ -27,12 +28,18 @@ pub record HasImages (journal : List ℕ) : Type 0 where
   pub reads : read journal ≡ Ok groups
   pub has : is_some groups.images ≡ true
 
--- the place of the first rule that the files break; or page 0 where images are open, which an opening doesn't put into the pages yet
-abbrev pub IsRefusedAt : List ℕ → List ℕ → Place → Type 0
-IsRefusedAt journal pages place = (contents_of_files journal pages ≡ Err place) ⊎ (HasImages journal × (place ≡ place_in Pages 0))
-
--- the files are refused at this place; they are synced, and as they were
+-- this is the place of the first rule that the files break; they are synced, and as they were
 pub record RefusesPages (old new : Pair) (place : Place) : Type 0 where
-  pub refused : IsRefusedAt old.journal.now.reads old.pages.now.reads place
+  pub broken : contents_of_files old.journal.now.reads old.pages.now.reads ≡ Err place
   pub journal : Synced old.journal.now new.journal.now
   pub pages : Synced old.pages.now new.pages.now
+
+-- where both disks are known and no images were open in the journal
+abbrev pub UnlessImages : Bool → Bool → List ℕ → Type 0 → Type 0
+UnlessImages journal_known pages_known journal P = IsTrue journal_known → IsTrue pages_known → (HasImages journal → ⊥) → P
+
+-- all of both disks is synced; where no images were open, the pages are as they were, and the journal as it was or as it is made in a fresh file
+pub record AreReady (journal_known pages_known : Bool) (old new : Pair) : Type 0 where
+  pub journal : IsTrue journal_known → IsAllSynced new.journal
+  pub pages : IsTrue pages_known → IsAllSynced new.pages
+  pub same : UnlessImages journal_known pages_known old.journal.now.reads (AreOpened journal_known pages_known old new)

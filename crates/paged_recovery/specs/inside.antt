@@ -1,5 +1,7 @@
 -- Words that only private functions and the proofs use.
+pub mod Finishing
 pub mod Firsts
+pub mod Fronts
 pub mod Merging
 pub mod Nets
 pub mod Over

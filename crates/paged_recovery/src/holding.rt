@@ -64,7 +64,7 @@ pub fn hold<P: Disk + Drop>(alloc: Global, pages: P, pool: Pool) -> Result<Held<
 }
 
 /// Why records couldn't be read, as an opening says it.
-fn fault_of(fault: SeqError) -> OpenError
+pub fn fault_of(fault: SeqError) -> OpenError
     ensures { HasReason (λ _. ⊥) (fault ≡ seq.DiskFault) result }
 {
     match fault {

@@ -1,19 +1,27 @@
-// A store with pages is opened on its two disks: both are synced, the pages are read, the journal is opened, and its commits are followed.
-ghost use Rattle.std.specs.Prelude.{◌≡◌, ◌≤◌, Some, IsTrue, IfOk, IfErr, MatchResult};
+// A store with pages is opened on its two disks, and a checkpoint that a crash broke off is finished.
+ghost use Rattle.std.specs.Prelude.{◌≡◌, ◌≤◌, Some, true, false, IsTrue, IfOk, IfErr, MatchResult};
 ghost use Rattle.outside_traits.specs.DiskPairs.{pair_of};
 ghost use Rattle.tree_model.specs.Entries.{Entries};
 ghost use Rattle.tree_model.specs.StoredTree.{IsStoredTree};
+ghost use Rattle.node_records.specs.declared.open_error.File.TheVariants as files;
+ghost use Rattle.node_records.specs.declared.open_error.OpenError.TheVariants as errors;
+ghost use Rattle.outside_traits.specs.Moments.{IsAllSynced};
+ghost use Rattle.journal.specs.Journals.{is_fresh};
 ghost use Rattle.journal.specs.Refusals.{HasReason, UnlessFault};
 ghost use Rattle.overlays.specs.Views.{contents_after};
 ghost use Rattle.paged_seq.specs.PagedMaps.{map_of_file};
+ghost use Rattle.store_contents.specs.Contents.{place_in};
 ghost use Rattle.store_contents.specs.StoredTrees.{LeaveWhatStood};
 ghost use Rattle.recovery.specs.Causes.{OneRose, RiseOnlyAtFault};
-ghost use Rattle.recovery.specs.Openings.{AreOpened, KeepsFiles, TakesBehind};
-ghost use Rattle.paged_recovery.specs.Openings.{LeavesPagesUnopened, OpensPages, RefusesPages};
+ghost use Rattle.recovery.specs.Openings.{KeepsFiles, TakesBehind};
+ghost use Rattle.paged_recovery.specs.Openings.{AreReady, HasImages, LeavesPagesUnopened, OpensPages, RefusesPages, UnlessImages};
+ghost use Rattle.paged_recovery.specs.inside.Over.{IsRefusedAt};
 
+use crate::finishing::finish;
 use crate::look::look;
-use crate::over::open_synced;
+use crate::once::open_once;
 use journal::Journal;
+use node_records::{File, OpenError};
 use outside_traits::Disk;
 use overlays::Layers;
 use paged_seq::PagedSeq;
@@ -30,8 +38,8 @@ pub struct Opened<J: Disk, P: Disk + Drop> {
 }
 
 /// Opens a store, with so many pages kept in memory. It reads the journal once and each page at most twice, and has all records in memory while it tests them.
-/// It begins with a sync of both disks. Nothing is written behind that but a new journal, where there is none yet.
-/// Images of pages aren't put into the page file yet: where some are open in the journal, the answer is damage of the pages at 0.
+/// It begins with a sync of both disks. Nothing is written behind that but a new journal, where there is none yet, and what a checkpoint has left to be done:
+/// images of pages that are open in the journal are tested with the pages in memory, put into the page file, and let go; then all is read once more.
 pub fn open_store<J: Disk, P: Disk + Drop>(
     alloc: Global,
     journal: J,
@@ -48,8 +56,8 @@ pub fn open_store<J: Disk, P: Disk + Drop>(
         → contents_after store.layers.changes (map_of_file P.is_known (P.history store.base.disk).now.reads) ≡ Some es → IsStoredTree es) }
     ensures frames { IfOk result (λ store. store.base.pool.most ≡ frames) }
 
-    // A crash leaves what a read gives; a fresh journal has nine bytes, any other its own; the journal takes the number that follows.
-    ensures synced { IfOk result (λ store. AreOpened J.is_known P.is_known
+    // A crash leaves what a read gives; without images a fresh journal has nine bytes, any other its own; the journal takes the number that follows.
+    ensures synced { IfOk result (λ store. AreReady J.is_known P.is_known
         (pair_of (J.history journal) (P.history pages)) (pair_of store.journal.history (P.history store.base.disk))) }
     ensures next { IfOk result (λ store. TakesBehind store.journal store.number) }
 
@@ -58,17 +66,84 @@ pub fn open_store<J: Disk, P: Disk + Drop>(
         (λ store. LeaveWhatStood (pair_of (J.history journal) (P.history pages)) (pair_of store.journal.history (P.history store.base.disk)))
         (λ refused. LeavesPagesUnopened (pair_of (J.history journal) (P.history pages)) (pair_of (J.history refused.journal) (P.history refused.pages))) }
 
-    // Why it isn't opened: the place of the first broken rule, or images, the files being synced and as they were; or a fault of a disk.
+    // Why it isn't opened: the place of the first broken rule, the files being synced and as they were; or a fault of a disk.
     ensures reason { IfErr result (λ refused. HasReason
         (λ place. IsTrue J.is_known → IsTrue P.is_known
         → RefusesPages (pair_of (J.history journal) (P.history pages)) (pair_of (J.history refused.journal) (P.history refused.pages)) place)
         (OneRose (J.faults journal) (J.faults refused.journal) (P.faults pages) (P.faults refused.pages)) refused.fault) }
 
-    // After any error but a fault the pages are as they were, and the journal as it was or as it is made in a fresh file.
-    ensures kept { IfErr result (λ refused. UnlessFault refused.fault (KeepsFiles J.is_known P.is_known
-        (pair_of (J.history journal) (P.history pages)) (pair_of (J.history refused.journal) (P.history refused.pages)))) }
+    // After any error but a fault the pages are as they were where no images were open, and the journal as it was or as it is made in a fresh file.
+    ensures kept { IfErr result (λ refused. UnlessFault refused.fault (UnlessImages J.is_known P.is_known (J.history journal).now.reads
+        (KeepsFiles J.is_known P.is_known
+        (pair_of (J.history journal) (P.history pages)) (pair_of (J.history refused.journal) (P.history refused.pages))))) }
 
     // No fault is passed over: the counts are as they were but after a fault that is answered.
+    ensures counts { MatchResult result
+        (λ store. (store.journal.faults ≡ J.faults journal) × (P.faults store.base.disk ≡ P.faults pages))
+        (λ refused. RiseOnlyAtFault refused.fault (J.faults journal) (J.faults refused.journal) (P.faults pages) (P.faults refused.pages)) }
+{
+    match open_once(alloc, journal, pages, frames) {
+        Ok(store) => Ok(store),
+        Err(refused) => {
+            if is_first_page(&refused.fault) {
+                return open_refused(alloc, refused.journal, refused.pages, frames);
+            }
+            Err(refused)
+        }
+    }
+}
+
+/// Whether the pages are damaged at 0, which is what open images are before they are put in.
+fn is_first_page(fault: &OpenError) -> bool
+    ensures yes { result ≡ true → fault.now ≡ errors.Damaged (place_in files.Pages 0) }
+    ensures no { fault.now ≡ errors.Damaged (place_in files.Pages 0) → result ≡ true }
+{
+    match fault {
+        OpenError::Damaged(place) => place.at == 0 && is_pages(&place.file),
+        _ => false,
+    }
+}
+
+/// Whether it is the page file.
+fn is_pages(file: &File) -> bool
+    ensures yes { result ≡ true → file.now ≡ files.Pages }
+    ensures no { file.now ≡ files.Pages → result ≡ true }
+{
+    match file {
+        File::Pages => true,
+        _ => false,
+    }
+}
+
+/// Opens a store whose files were refused at the first page: a checkpoint is finished, if its images are open. The clauses are those of `open_store`.
+fn open_refused<J: Disk, P: Disk + Drop>(
+    alloc: Global,
+    journal: J,
+    pages: P,
+    frames: u32,
+) -> Result<Opened<J, P>, StoreFault<J, P>>
+    requires frames { (1 ≤ frames) × (frames ≤ 65_536) }
+    requires refused { IsTrue J.is_known → IsTrue P.is_known
+        → IsRefusedAt (J.history journal).now.reads (P.history pages).now.reads (place_in files.Pages 0) }
+    ensures opens { IfOk result (λ store. IsTrue J.is_known → IsTrue P.is_known → (es : Entries)
+        → contents_after store.layers.changes (map_of_file P.is_known (P.history store.base.disk).now.reads) ≡ Some es
+        → OpensPages (pair_of (J.history journal) (P.history pages)) (pair_of store.journal.history (P.history store.base.disk)) es store.number) }
+    ensures tree { IfOk result (λ store. (es : Entries)
+        → contents_after store.layers.changes (map_of_file P.is_known (P.history store.base.disk).now.reads) ≡ Some es → IsStoredTree es) }
+    ensures frames { IfOk result (λ store. store.base.pool.most ≡ frames) }
+    ensures synced { IfOk result (λ store. AreReady J.is_known P.is_known
+        (pair_of (J.history journal) (P.history pages)) (pair_of store.journal.history (P.history store.base.disk))) }
+    ensures next { IfOk result (λ store. TakesBehind store.journal store.number) }
+    ensures any_moment { IsTrue J.is_known → IsTrue P.is_known → MatchResult result
+        (λ store. LeaveWhatStood (pair_of (J.history journal) (P.history pages)) (pair_of store.journal.history (P.history store.base.disk)))
+        (λ refused. LeavesPagesUnopened (pair_of (J.history journal) (P.history pages)) (pair_of (J.history refused.journal) (P.history refused.pages))) }
+    ensures reason { IfErr result (λ refused. HasReason
+        (λ place. IsTrue J.is_known → IsTrue P.is_known
+        → RefusesPages (pair_of (J.history journal) (P.history pages)) (pair_of (J.history refused.journal) (P.history refused.pages)) place)
+        (OneRose (J.faults journal) (J.faults refused.journal) (P.faults pages) (P.faults refused.pages)) refused.fault) }
+    ensures kept { IfErr result (λ refused. UnlessFault refused.fault (UnlessImages J.is_known P.is_known (J.history journal).now.reads
+        (KeepsFiles J.is_known P.is_known
+        (pair_of (J.history journal) (P.history pages)) (pair_of (J.history refused.journal) (P.history refused.pages))))) }
     ensures counts { MatchResult result
         (λ store. (store.journal.faults ≡ J.faults journal) × (P.faults store.base.disk ≡ P.faults pages))
         (λ refused. RiseOnlyAtFault refused.fault (J.faults journal) (J.faults refused.journal) (P.faults pages) (P.faults refused.pages)) }
@@ -77,13 +152,67 @@ pub fn open_store<J: Disk, P: Disk + Drop>(
     let mut pages = pages;
     // Each disk says that a read gives what a crash may leave.
     let _faults = (journal.faults(), pages.faults());
-    let looked = look(alloc, &mut journal, &mut pages, frames);
+    let looked = look(alloc, &mut journal, &mut pages, 1);
     match looked {
-        Ok((fresh, pool)) => open_synced(alloc, journal, pages, pool, fresh),
+        Ok((fresh, _pool)) => {
+            if fresh {
+                return Err(StoreFault {
+                    fault: OpenError::at(File::Pages, 0),
+                    journal,
+                    pages,
+                });
+            }
+            open_unfinished(alloc, journal, pages, frames)
+        }
         Err(fault) => Err(StoreFault {
             fault,
             journal,
             pages,
         }),
+    }
+}
+
+/// Opens a store whose files are synced and were refused at the first page. The clauses are those of `open_store`.
+fn open_unfinished<J: Disk, P: Disk + Drop>(
+    alloc: Global,
+    journal: J,
+    pages: P,
+    frames: u32,
+) -> Result<Opened<J, P>, StoreFault<J, P>>
+    requires frames { (1 ≤ frames) × (frames ≤ 65_536) }
+    requires journal { IsTrue J.is_known → IsAllSynced (J.history journal) }
+    requires pages { IsTrue P.is_known → IsAllSynced (P.history pages) }
+    requires made { IsTrue J.is_known → is_fresh (J.history journal).now.reads ≡ false }
+    requires refused { IsTrue J.is_known → IsTrue P.is_known
+        → IsRefusedAt (J.history journal).now.reads (P.history pages).now.reads (place_in files.Pages 0) }
+    ensures opens { IfOk result (λ store. IsTrue J.is_known → IsTrue P.is_known → (es : Entries)
+        → contents_after store.layers.changes (map_of_file P.is_known (P.history store.base.disk).now.reads) ≡ Some es
+        → OpensPages (pair_of (J.history journal) (P.history pages)) (pair_of store.journal.history (P.history store.base.disk)) es store.number) }
+    ensures tree { IfOk result (λ store. (es : Entries)
+        → contents_after store.layers.changes (map_of_file P.is_known (P.history store.base.disk).now.reads) ≡ Some es → IsStoredTree es) }
+    ensures frames { IfOk result (λ store. store.base.pool.most ≡ frames) }
+    ensures synced { IfOk result (λ store. AreReady J.is_known P.is_known
+        (pair_of (J.history journal) (P.history pages)) (pair_of store.journal.history (P.history store.base.disk))) }
+    ensures next { IfOk result (λ store. TakesBehind store.journal store.number) }
+    ensures any_moment { IsTrue J.is_known → IsTrue P.is_known → MatchResult result
+        (λ store. LeaveWhatStood (pair_of (J.history journal) (P.history pages)) (pair_of store.journal.history (P.history store.base.disk)))
+        (λ refused. LeavesPagesUnopened (pair_of (J.history journal) (P.history pages)) (pair_of (J.history refused.journal) (P.history refused.pages))) }
+    ensures reason { IfErr result (λ refused. HasReason
+        (λ place. IsTrue J.is_known → IsTrue P.is_known
+        → RefusesPages (pair_of (J.history journal) (P.history pages)) (pair_of (J.history refused.journal) (P.history refused.pages)) place)
+        (OneRose (J.faults journal) (J.faults refused.journal) (P.faults pages) (P.faults refused.pages)) refused.fault) }
+    ensures kept { IfErr result (λ refused. UnlessFault refused.fault (UnlessImages J.is_known P.is_known (J.history journal).now.reads
+        (KeepsFiles J.is_known P.is_known
+        (pair_of (J.history journal) (P.history pages)) (pair_of (J.history refused.journal) (P.history refused.pages))))) }
+    ensures counts { MatchResult result
+        (λ store. (store.journal.faults ≡ J.faults journal) × (P.faults store.base.disk ≡ P.faults pages))
+        (λ refused. RiseOnlyAtFault refused.fault (J.faults journal) (J.faults refused.journal) (P.faults pages) (P.faults refused.pages)) }
+{
+    match finish(alloc, journal, pages) {
+        Ok(done) => {
+            let (journal, pages) = done;
+            open_once(alloc, journal, pages, frames)
+        }
+        Err(refused) => Err(refused),
     }
 }

@@ -15,7 +15,8 @@ ghost use Rattle.paged_seq.specs.PagedMaps.{map_of_file};
 ghost use Rattle.store_contents.specs.StoredTrees.{LeaveWhatStood};
 ghost use Rattle.recovery.specs.Causes.{OneRose, RiseOnlyAtFault};
 ghost use Rattle.recovery.specs.Openings.{AreOpened, KeepsFiles, TakesBehind};
-ghost use Rattle.paged_recovery.specs.Openings.{IsRefusedAt, OpensPages, RefusesPages};
+ghost use Rattle.paged_recovery.specs.Openings.{OpensPages};
+ghost use Rattle.paged_recovery.specs.inside.Over.{IsRefused, IsRefusedAt};
 
 use crate::behind::{Followed, look_at_journal, open_behind};
 use crate::holding::{Held, Unheld, hold};
@@ -54,7 +55,7 @@ pub fn open_synced<J: Disk, P: Disk + Drop>(
         (λ refused. LeaveWhatStood (pair_of (J.history journal) (P.history pages)) (pair_of (J.history refused.journal) (P.history refused.pages))) }
     ensures reason { IfErr result (λ refused. HasReason
         (λ place. IsTrue J.is_known → IsTrue P.is_known
-        → RefusesPages (pair_of (J.history journal) (P.history pages)) (pair_of (J.history refused.journal) (P.history refused.pages)) place)
+        → IsRefused (pair_of (J.history journal) (P.history pages)) (pair_of (J.history refused.journal) (P.history refused.pages)) place)
         (OneRose (J.faults journal) (J.faults refused.journal) (P.faults pages) (P.faults refused.pages)) refused.fault) }
     ensures kept { IfErr result (λ refused. UnlessFault refused.fault (KeepsFiles J.is_known P.is_known
         (pair_of (J.history journal) (P.history pages)) (pair_of (J.history refused.journal) (P.history refused.pages)))) }
@@ -94,7 +95,7 @@ fn open_over<J: Disk, P: Disk + Drop>(
         (λ refused. LeaveWhatStood (pair_of (J.history journal) (P.history held.seq.disk)) (pair_of (J.history refused.journal) (P.history refused.pages))) }
     ensures reason { IfErr result (λ refused. HasReason
         (λ place. IsTrue J.is_known → IsTrue P.is_known
-        → RefusesPages (pair_of (J.history journal) (P.history held.seq.disk)) (pair_of (J.history refused.journal) (P.history refused.pages)) place)
+        → IsRefused (pair_of (J.history journal) (P.history held.seq.disk)) (pair_of (J.history refused.journal) (P.history refused.pages)) place)
         (FaultCounted (J.faults journal) (J.faults refused.journal)) refused.fault) }
     ensures kept { IfErr result (λ refused. UnlessFault refused.fault (KeepsFiles J.is_known P.is_known
         (pair_of (J.history journal) (P.history held.seq.disk)) (pair_of (J.history refused.journal) (P.history refused.pages)))) }

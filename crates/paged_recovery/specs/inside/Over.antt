@@ -1,6 +1,8 @@
 -- What is answered of a journal, by what was read of the pages beside it.
-use Rattle.std.specs.Prelude.{◌≡◌, ℕ, Bool, true, not, ◌&&◌, IsTrue, if◌then◌else◌, List, Option, Some, None, is_some, Result, Ok, Err}
+use Rattle.std.specs.Prelude.{◌≡◌, ◌⊎◌, ℕ, Bool, true, not, ◌&&◌, IsTrue, if◌then◌else◌, List, Option, Some, None, is_some, Result, Ok, Err}
 use Rattle.dewey_labels.specs.Lists.{is_empty}
+use Rattle.outside_traits.specs.DiskPairs.{Pair}
+use Rattle.outside_traits.specs.Disks.{Synced}
 use Rattle.outside_traits.specs.Moments.{History}
 use Rattle.tree_model.specs.Entries.{Entries}
 use Rattle.tree_model.specs.declared.change.Change.{Change}
@@ -12,7 +14,8 @@ use Rattle.journal.specs.Journals.{read}
 use Rattle.journal.specs.Openings.{Opens}
 use Rattle.journal.specs.declared.group.Group.{Group}
 use Rattle.journal.specs.declared.group.Groups.{Groups}
-use Rattle.store_contents.specs.Contents.{Contents, checked, first_broken, goes_on_from, place_in, with_commits}
+use Rattle.store_contents.specs.Contents.{Contents, checked, contents_of_files, first_broken, goes_on_from, place_in, with_commits}
+use Rattle.paged_recovery.specs.Openings.{HasImages}
 use Rattle.paged_recovery.specs.inside.Nets.{NetOf}
 
 -- no group at all
@@ -50,3 +53,15 @@ pub record FollowsOver (is_known : Bool) (records : Entries) (base : ℕ) (old n
   pub goes_on : goes_on_from (Some base) commits ≡ true
   pub net : NetOf records base commits changes number
   pub opens : IsTrue is_known → Opens old new (only_commits commits)
+
+-- ---- a store that isn't opened at first
+
+-- the place of the first rule that the files break; or page 0 where images are open, which are put into the pages before the store is opened once more
+abbrev pub IsRefusedAt : List ℕ → List ℕ → Place → Type 0
+IsRefusedAt journal pages place = (contents_of_files journal pages ≡ Err place) ⊎ (HasImages journal × (place ≡ place_in Pages 0))
+
+-- the files are refused at this place; they are synced, and as they were
+pub record IsRefused (old new : Pair) (place : Place) : Type 0 where
+  pub refused : IsRefusedAt old.journal.now.reads old.pages.now.reads place
+  pub journal : Synced old.journal.now new.journal.now
+  pub pages : Synced old.pages.now new.pages.now

@@ -6,7 +6,8 @@ use Rattle.page_store.specs.Pages.{ArePagesOf}
 use Rattle.node_pages.specs.PageFiles.{contents_of_file}
 use Rattle.store_contents.specs.StoredTrees.{LeaveWhatStood}
 use Rattle.recovery.specs.Causes.{RiseOnlyAtFault}
-use Rattle.paged_recovery.specs.Openings.{IsRefusedAt, OpensPages, RefusesPages}
+use Rattle.paged_recovery.specs.Openings.{OpensPages}
+use Rattle.paged_recovery.specs.inside.Over.{IsRefused, IsRefusedAt}
 use Rattle.paged_recovery.proofs.AnswerLaws.{unless_of, unless_then}
 use Rattle.paged_recovery.proofs.PagedSteps.{counts_joined, err_then, match_then, nothing_moves, ok_then, pages_rose, reason_leads}
 use Rattle.paged_recovery.proofs.over.open_synced.Goals as goal
@@ -55,7 +56,7 @@ pub returns-in-Ok-clause-reason : goal.returns-in-Ok-clause-reason
 returns-in-Ok-clause-reason g c =
     let j = g.J.Disk.history c.args.journal in
     err_then c.open_over.result _ _ (λ refused reason. reason_leads _ _ _ _ refused.fault
-    (λ place refuses tj tp. subst (λ (p : History). RefusesPages (pair_of j p) (pair_of (g.J.Disk.history refused.journal) (g.P.Disk.history refused.pages)) place) (c.in-Ok.ensures.same tp) (refuses tj tp))
+    (λ place refuses tj tp. subst (λ (p : History). IsRefused (pair_of j p) (pair_of (g.J.Disk.history refused.journal) (g.P.Disk.history refused.pages)) place) (c.in-Ok.ensures.same tp) (refuses tj tp))
     (λ rose. inl rose) reason) c.open_over.ensures.reason
 
 pub returns-in-Ok-clause-kept : goal.returns-in-Ok-clause-kept

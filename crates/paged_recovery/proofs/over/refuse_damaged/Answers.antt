@@ -1,8 +1,7 @@
 use Rattle.std.proofs.Common.{ℕ, ◌∙◌, Option, unwrap_or, inl, inr, refl, sym, ap, subst, le_refl}
 use Rattle.node_records.specs.declared.open_error.Place.{Place}
 use Rattle.store_contents.specs.Contents.{base_of}
-use Rattle.paged_recovery.specs.Openings.{IsRefusedAt}
-use Rattle.paged_recovery.specs.inside.Over.{answer_before}
+use Rattle.paged_recovery.specs.inside.Over.{IsRefusedAt, answer_before}
 use Rattle.paged_recovery.proofs.AnswerLaws.{unless_then}
 use Rattle.paged_recovery.proofs.OverLaws.{refused_before, refused_fresh}
 use Rattle.paged_recovery.proofs.PagedSteps.{reason_leads}
