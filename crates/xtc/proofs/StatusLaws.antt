@@ -166,10 +166,6 @@ pub known_map : (is_known : Bool) → IsTrue is_known → (changes : List Change
 known_map true known changes file = (changed changes (valid_entries (file_entries file)), refl)
 known_map false known changes file = absurd cc
 
--- a file that was synced is all synced
-pub pages_synced : (old new : History) → Synced old.now new.now → IsAllSynced new
-pages_synced old new synced = synced ∙ ap all_synced (sym (ap (λ (d : DiskState). d.reads) synced))
-
 -- ---- the counts of faults
 
 -- where damage is the status, this holds of its place

@@ -110,20 +110,12 @@ script_done empty o command status script text left_before named done leaves_so 
 abbrev nothing : List ℕ
 nothing = []
 
--- no images are open in an empty journal
-no_images : (groups : Groups) → read nothing ≡ Ok groups → is_some groups.images ≡ true → ⊥
-unfolding read
-no_images groups is has = true≢false (sym has ∙ ap (λ (r : Result Groups ℕ). is_some (groups_read r).images) (sym is))
-
 -- no place of a new store is damaged
 pub not_damaged : StandFor [] [] empty_tree 0 → (old new : Pair) (place : Place) → old.journal.now ≡ all_synced [] → old.pages.now ≡ all_synced [] → RefusesPages old new place → ⊥
-not_damaged empty old new place journal pages found = elim found.refused [
-  | inl broken ↦
-      let opened : Result Contents Place = Ok (record { entries = map_of empty_tree; number = 0 }) in
-      let no : opened ≡ Err place = sym empty.opens ∙ (λ i. contents_of_files (sym journal i).reads (sym pages i).reads) ∙ broken in
-      cc
-  | inr images ↦ no_images images.0.groups (subst (λ (s : DiskState). read s.reads ≡ Ok images.0.groups) journal images.0.reads) images.0.has
-]
+not_damaged empty old new place journal pages found =
+    let opened : Result Contents Place = Ok (record { entries = map_of empty_tree; number = 0 }) in
+    let no : opened ≡ Err place = sym empty.opens ∙ (λ i. contents_of_files (sym journal i).reads (sym pages i).reads) ∙ found.broken in
+    cc
 
 -- at Usage what holds of a silent run holds
 pub silent_at_usage : (command : Option Command) (status : Status) (P : Type 0) → status ≡ Usage → IsSilent command status P → P

@@ -13,7 +13,7 @@ use Rattle.xtc.specs.Commands.{reads_input}
 use Rattle.xtc.specs.StoreMachine.{Held, pages_of, told}
 use Rattle.xtc.specs.inside.CommandRuns.{StandSettled}
 use Rattle.xtc.specs.TopCall.{Outcome, Leaves, OpenedStoreLeaves, IsSilent, tx_limit}
-use Rattle.xtc.proofs.StatusLaws.{known_map, pages_synced, refused_leaves, refused_silent, refused_not, refused_as, words_usage, nothing_read, unopened_leaves, unopened_not_done, unopened_silent, opened_leaves, opened_unread, opened_not_damaged, damaged_of, cause_of, no_fault}
+use Rattle.xtc.proofs.StatusLaws.{known_map, refused_leaves, refused_silent, refused_not, refused_as, words_usage, nothing_read, unopened_leaves, unopened_not_done, unopened_silent, opened_leaves, opened_unread, opened_not_damaged, damaged_of, cause_of, no_fault}
 use Rattle.xtc.proofs.top_call.xtc.Goals as goal
 
 -- ---- the words gave no command
@@ -124,8 +124,8 @@ returns-in-Ok-open_store-clause-leaves g c =
           let stand : StandFor old.journal.now.reads old.pages.now.reads t store.number = record { is_valid_tree = stored.is_valid_tree; opens = opens.stood ∙ ap (λ es. Ok (record { entries = es; number = store.number })) (sym stored.map) } in
           let is : StandsFor (told g.P.Disk.is_known history held) t = record { valid = stored.is_valid_tree; map = told_is ∙ seen.1 ∙ ap Some (sym stored.map) } in
           let files : StandSettled opening t store.number = subst (λ (p : Pair). StandSettled p t store.number) (sym same_pair) (record {
-            journal = (opened.synced.journal kj).synced;
-            pages = pages_synced (history c.args.pages) (history store.base.disk) (opened.synced.pages kp);
+            journal = opened.synced.journal kj;
+            pages = opened.synced.pages kp;
             stand = record { is_valid_tree = stored.is_valid_tree; opens = opens.stands ∙ ap (λ es. Ok (record { entries = es; number = store.number })) (sym stored.map) };
           }) in
           let o : Outcome = record {
