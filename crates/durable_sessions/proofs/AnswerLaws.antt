@@ -1,5 +1,5 @@
 -- What the calls that do a line leave of the core and the journal: a line that is done at once, and a commit.
-use Rattle.std.proofs.Common.{◌≡◌, ℕ, ◌+◌, ◌≤◌, Bool, IsTrue, List, [], ◌∷◌, ◌++◌, length, append-nil, refl, sym, ap, subst, ◌∙◌, arith}
+use Rattle.std.proofs.Common.{◌≡◌, ℕ, ◌+◌, ◌≤◌, Bool, IsTrue, List, [], ◌∷◌, ◌++◌, length, append-nil, append_assoc, refl, sym, ap, subst, ◌∙◌, arith}
 use Rattle.std.specs.Prelude.{Option, None, Some, Result, Ok, Err, OnErr, OnOk}
 use Rattle.outside_traits.specs.Moments.{History}
 use Rattle.tree_model.specs.Entries.{Entries}
@@ -25,7 +25,7 @@ use Rattle.session_driver.specs.Progress.{Progress}
 use Rattle.session_driver.specs.Refusals.{refusal}
 use Rattle.session_driver.specs.declared.doing.Doing.{Doing}
 use Rattle.session_driver.specs.declared.doing.Doing.TheVariants.{Commit}
-use Rattle.durable_sessions.specs.Asked.{asked_from, TakesNext, LeadsTo, LeavesEither}
+use Rattle.durable_sessions.specs.Asked.{asked_from, GrowsByOne, TakesNext, LeadsTo, LeavesEither}
 use Rattle.durable_sessions.specs.Standing.{Stands}
 use Rattle.durable_sessions.specs.inside.Commits.{IsLegalCore, IsDue}
 use Rattle.durable_sessions.proofs.CommitLaws.{has_body, same_holds, commit_moments, commit_settles, follows}
@@ -186,6 +186,57 @@ module _ {C B : Type 0} where
       let one : commits_in (old.book ++ made ∷ []) ≡ commits_in old.book + 1 = commits_append old.book (made ∷ []) in
       let next : p.number + 1 ≡ next_number now = omega (arith, number, behind, one, ap (λ (v : CoreView C B). next_number v) same) in
       record { usable = added.usable; next = subst (λ (n : ℕ). IsTrue (is_next new.last n)) next (follows new.last p.number added.last) }
+
+-- ---- what the book gains
+
+module _ {C B : Type 0} where
+  -- entries that commit nothing
+  pub grown_by_none : (old new : CoreView C B) (before after : List LineReply) → HasGrown old new before after → GrowsByOne old new
+  grown_by_none old new before after h = record {
+    opening = ap (λ (v : CoreView C B). v.opening) h.core;
+    number = ap (λ (v : CoreView C B). v.number) h.core;
+    limit = ap (λ (v : CoreView C B). v.limit) h.core;
+    more = h.entries;
+    book = ap (λ (v : CoreView C B). v.book) h.core;
+    one = omega (arith, h.commits);
+  }
+
+  -- a commit, and behind it entries that commit nothing
+  pub grown_by_one : (old mid now : CoreView C B) (session : ℕ) (a : EventAnswer) (before after : List LineReply) → HasGrown (with_entry old (entry session event.Commit a)) mid before after → now ≡ over mid now.base → GrowsByOne old now
+  grown_by_one old mid now session a before after h same =
+      let made : Noted C = entry session event.Commit a in
+      record {
+        opening = ap (λ (v : CoreView C B). v.opening) same ∙ ap (λ (v : CoreView C B). v.opening) h.core;
+        number = ap (λ (v : CoreView C B). v.number) same ∙ ap (λ (v : CoreView C B). v.number) h.core;
+        limit = ap (λ (v : CoreView C B). v.limit) same ∙ ap (λ (v : CoreView C B). v.limit) h.core;
+        more = made ∷ h.entries;
+        book = ap (λ (v : CoreView C B). v.book) same ∙ ap (λ (v : CoreView C B). v.book) h.core ∙ append_assoc old.book (made ∷ []) h.entries;
+        one = omega (arith, h.commits);
+      }
+
+  -- the same behind the preparing of a commit
+  pub grown_over : (session : ℕ) (old mid new : CoreView C B) → mid ≡ record old { prepared = Some session } → GrowsByOne mid new → GrowsByOne old new
+  grown_over session old mid new moved h = record {
+    opening = h.opening ∙ ap (λ (v : CoreView C B). v.opening) moved;
+    number = h.number ∙ ap (λ (v : CoreView C B). v.number) moved;
+    limit = h.limit ∙ ap (λ (v : CoreView C B). v.limit) moved;
+    more = h.more;
+    book = h.book ∙ ap (λ (v : CoreView C B). v.book ++ h.more) moved;
+    one = h.one;
+  }
+
+-- the entries that a line makes
+module _ {C B : Type 0} (m : CallMeaning C) (contents : B → Option Entries) where
+  pub done_book : (session : ℕ) (doing : Doing C) (old new : CoreView C B) (before after : List LineReply)
+      → ((t : Tree) → StandsFor (contents old.opening) t → HasDone old new before after (after_line m (state_from m t old) (record { session = session; doing = doing })))
+      → (s : State C) → Stands m contents old s → new.book ≡ old.book ++ (asked_from m s session doing).book
+  done_book session doing old new before after done s stands =
+      ap (λ (v : CoreView C B). v.book) (done stands.tree stands.opened).core
+      ∙ ap (λ (st : State C). old.book ++ (asked_from m st session doing).book) stands.state
+
+  -- a commit that is due isn't refused
+  pub due_allowed : (core : CoreView C B) (session : ℕ) (p : Prepared) → IsDue m contents core session p → (t : Tree) → StandsFor (contents core.opening) t → refusal m (state_from m t core) session Commit ≡ None
+  due_allowed core session p due t opened = due.allowed (state_from m t core) (record { tree = t; opened = opened; state = refl })
 
 -- ---- nothing was begun, or the same over a core whose commit was prepared
 

@@ -1,11 +1,13 @@
 -- What one thing that a session is asked leaves of the core and the journal.
-use Rattle.std.specs.Prelude.{ℕ, Bool, List, Option, IsTrue}
+use Rattle.std.specs.Prelude.{◌≡◌, ◌≤◌, ◌++◌, ℕ, Bool, List, Option, IsTrue}
 use Rattle.outside_traits.specs.Moments.{History, LeavesOnly}
 use Rattle.tree_model.specs.Entries.{Entries}
 use Rattle.journal.specs.Groups.{is_next}
 use Rattle.journal.specs.Views.{JournalView, TakesGroups}
 use Rattle.script_runs.specs.Counts.{Counts}
 use Rattle.call_contract.specs.Calls.{CallMeaning}
+use Rattle.call_contract.specs.Books.{Book}
+use Rattle.call_contract.specs.Sessions.{commits_in}
 use Rattle.call_contract.specs.States.{State}
 use Rattle.tx_core.specs.Cores.{CoreView, next_number}
 use Rattle.session_driver.specs.Lines.{after_line}
@@ -35,6 +37,15 @@ pub record LeadsTo {C B : Type 0} (m : CallMeaning C) (contents : B → Option E
 -- on the way from the one to the other a crash leaves what was committed in the one or is in the other
 abbrev pub LeavesEither : {C : Type 0} → Bool → History → History → State C → State C → Type 0
 LeavesEither is_known old new s t = IsTrue is_known → (pages : List ℕ) → HoldsAll s pages old → LeavesOnly (HoldsEither s t pages) old new
+
+-- it was opened so, and its book tells more of which one at most is a commit
+pub record GrowsByOne {C B : Type 0} (old new : CoreView C B) : Type 0 where
+  pub opening : new.opening ≡ old.opening
+  pub number : new.number ≡ old.number
+  pub limit : new.limit ≡ old.limit
+  pub more : Book C
+  pub book : new.book ≡ old.book ++ more
+  pub one : commits_in more ≤ 1
 
 -- the faults that the journal's disk and the base have counted
 abbrev pub counts_of : {C B : Type 0} → (B → ℕ) → CoreView C B → JournalView → Counts

@@ -4,12 +4,12 @@ ghost use Rattle.call_contract.specs.States.{State};
 ghost use Rattle.script_runs.specs.Counts.{DisksCountedWhere};
 ghost use Rattle.session_driver.specs.Driving.{HasBegun};
 ghost use Rattle.session_driver.specs.declared.doing.Doing.TheVariants.{Commit};
-ghost use Rattle.durable_sessions.specs.Asked.{asked_from, counts_of, LeadsTo, LeavesEither, TakesNext};
+ghost use Rattle.durable_sessions.specs.Asked.{asked_from, counts_of, GrowsByOne, LeadsTo, LeavesEither, TakesNext};
 ghost use Rattle.durable_sessions.specs.Standing.{Stands};
 ghost use Rattle.durable_sessions.specs.inside.Commits.{IsDue};
 ghost use Rattle.durable_sessions.specs.inside.Halts.{halt_of};
 
-use crate::base::Base;
+use crate::base::SessionBase;
 use crate::halt::Halt;
 use call_contract::TreeCall;
 use command_lines::LineReply;
@@ -21,7 +21,7 @@ use tx_core::{CallError, Core, Prepared};
 
 /// Does what a session is asked. A commit is made once it is durable, and where the journal's disk fails no entry comes to the book.
 /// After an error a first part of what was asked is done, with an attempt that failed behind it at most. A fault of the base ends it as one of the journal's disk does.
-pub fn answer<C: TreeCall + Drop, B: Base, J: Disk>(
+pub fn answer<C: TreeCall + Drop, B: SessionBase, J: Disk>(
     alloc: Global,
     core: &mut Core<C, B>,
     journal: &mut Journal<J>,
@@ -41,6 +41,9 @@ pub fn answer<C: TreeCall + Drop, B: Base, J: Disk>(
     ensures unmade { journal.new.faults ≢ journal.old.faults → core.new.book ≡ core.old.book }
     ensures begun { OnErr result ((s : State C) → Stands C.meaning B.contents core.old s
         → HasBegun core.old core.new replies.old.items replies.new.items (asked_from C.meaning s session doing)) }
+    ensures grown { OnOk result (GrowsByOne core.old core.new) }
+    ensures book { OnOk result ((s : State C) → Stands C.meaning B.contents core.old s
+        → core.new.book ≡ core.old.book ++ (asked_from C.meaning s session doing).book) }
     ensures base { B.stays core.old.base core.new.base }
     ensures counts { DisksCountedWhere (result ≡ Err Halt.DiskFault) (counts_of B.count core.old journal.old) (counts_of B.count core.new journal.new) }
 {
@@ -59,7 +62,7 @@ pub fn answer<C: TreeCall + Drop, B: Base, J: Disk>(
 
 /// Makes a commit durable, then makes it and does what it leads to; where the journal's disk fails nothing is made.
 /// What memory the journal wants is taken before its first write.
-fn commit<C: TreeCall + Drop, B: Base, J: Disk>(
+fn commit<C: TreeCall + Drop, B: SessionBase, J: Disk>(
     alloc: Global,
     core: &mut Core<C, B>,
     journal: &mut Journal<J>,
@@ -81,6 +84,9 @@ fn commit<C: TreeCall + Drop, B: Base, J: Disk>(
     ensures unmade { journal.new.faults ≢ journal.old.faults → core.new ≡ core.old }
     ensures begun { OnErr result ((s : State C) → Stands C.meaning B.contents core.old s
         → HasBegun core.old core.new replies.old.items replies.new.items (asked_from C.meaning s session Commit)) }
+    ensures grown { OnOk result (GrowsByOne core.old core.new) }
+    ensures book { OnOk result ((s : State C) → Stands C.meaning B.contents core.old s
+        → core.new.book ≡ core.old.book ++ (asked_from C.meaning s session Commit).book) }
     ensures base { B.stays core.old.base core.new.base }
     ensures counts { DisksCountedWhere (result ≡ Err Halt.DiskFault) (counts_of B.count core.old journal.old) (counts_of B.count core.new journal.new) }
 {

@@ -11,7 +11,7 @@ use tx_core::Core;
 /// A map that sessions read, and that may take in what was committed over it.
 ///
 /// `stays` holds of a base and the same base after sessions were asked: what they leave alone of it, whatever it took in.
-pub trait Base: NodeRead + Drop + Sized {
+pub trait SessionBase: NodeRead + Drop + Sized {
     ghost stays: { Self → Self → Type 0 };
 
     /// Takes in what was committed, where that is due. It is called after each commit. What the core stands for stays, and no fault is counted.
@@ -26,7 +26,7 @@ pub trait Base: NodeRead + Drop + Sized {
 }
 
 /// A map in memory takes in what was committed: nothing of it stays.
-impl Base for SortedSeq {
+impl SessionBase for SortedSeq {
     ghost stays = { λ x y. Unit {0} };
 
     fn take_in<C: TreeCall + Drop>(alloc: Global, core: &mut Core<C, SortedSeq>) {
@@ -40,7 +40,7 @@ impl Base for SortedSeq {
 }
 
 /// What was committed stays in the core's layers: base and layers are as they were, but for what reading leaves.
-impl<S: NodeRead + Drop> Base for Stacked<S> {
+impl<S: NodeRead + Drop> SessionBase for Stacked<S> {
     ghost use Rattle.std.proofs.Common.{◌∙◌};
 
     ghost stays = { λ x y. S.unchanged x.base y.base × (x.layers ≡ y.layers) };

@@ -10,7 +10,7 @@ ghost use Rattle.durable_sessions.specs.Standing.{Stands};
 ghost use Rattle.durable_sessions.specs.declared.in_turn.Stop.TheVariants.{DiskFault as Fails, NoMemory as WantsMemory};
 
 use crate::answering::answer;
-use crate::base::Base;
+use crate::base::SessionBase;
 use crate::halt::Halt;
 use crate::reasons::{Reason, reason_in};
 use call_contract::TreeCall;
@@ -54,7 +54,7 @@ impl From<NoMemory> for Stop {
 }
 
 /// Asks a session these in turn, up to the first that is refused.
-pub fn ask_in_turn<C: TreeCall + Drop, B: Base, J: Disk>(
+pub fn ask_in_turn<C: TreeCall + Drop, B: SessionBase, J: Disk>(
     alloc: Global,
     core: &mut Core<C, B>,
     journal: &mut Journal<J>,

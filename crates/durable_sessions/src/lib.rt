@@ -1,6 +1,6 @@
 //! Sessions over a core whose commits go to a journal: `answer` does what a session is asked, and a commit is made only once it is durable.
 //! `ask_in_turn` asks one session several things, up to the first that is refused. Where a disk fails, of the journal or of the core's base, nothing more is answered.
-//! All is generic in the calls and in the base, and what is said of the journal holds beside any page file; what stays of the base is the base's own word (`Base`).
+//! All is generic in the calls and in the base, and what is said of the journal holds beside any page file; what stays of the base is the base's own word (`SessionBase`).
 //! `laws` has that an attempt of a transaction that is alone is answered.
 #![tactic(auto)]
 
@@ -12,7 +12,7 @@ pub mod laws;
 mod reasons;
 
 pub use answering::answer;
-pub use base::Base;
+pub use base::SessionBase;
 pub use halt::Halt;
 pub use in_turn::{Stop, ask_in_turn};
 pub use reasons::{Reason, limit_in, reason_in};

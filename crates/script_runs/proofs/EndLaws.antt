@@ -4,6 +4,7 @@ use Rattle.std.specs.Prelude.{Option, Result, Ok, Err, IfSome}
 use Rattle.outside_kinds.specs.Bounds.{input_limit}
 use Rattle.outside_traits.specs.Bytes.{Gave}
 use Rattle.outside_traits.specs.Faults.{FaultCounted}
+use Rattle.node_records.specs.declared.open_error.Place.{Place}
 use Rattle.script_runs.specs.Counts.{CountedWhere, DisksCountedWhere, ReadFaultCause}
 use Rattle.script_runs.specs.Lines.{line_limit}
 use Rattle.script_runs.specs.Machine.{Machine}
@@ -12,7 +13,7 @@ use Rattle.script_runs.specs.inside.Feeding.{stopped}
 use Rattle.script_runs.specs.inside.Inputs.{RunsScript}
 use Rattle.script_runs.specs.declared.feeding.Stop.{Stop}
 use Rattle.script_runs.specs.declared.feeding.Stop.TheVariants as stop
-use Rattle.script_runs.specs.declared.halt.Halt.TheVariants.{DiskFault}
+use Rattle.script_runs.specs.declared.halt.Halt.TheVariants.{DiskFault, Damaged}
 use Rattle.script_runs.specs.declared.running.End.{End}
 use Rattle.script_runs.specs.declared.running.End.TheVariants as end
 use Rattle.script_runs.specs.declared.running.Input.{Input}
@@ -52,6 +53,11 @@ stop_of_failed_disk stop.LineTooLong it = absurd cc
 stop_of_failed_disk stop.WriteFault it = absurd cc
 stop_of_failed_disk (stop.Halted halt) it = cc
 
+stop_of_damage : (e : Stop) (place : Place) → stopped e ≡ end.Halted (Damaged place) → e ≡ stop.Halted (Damaged place)
+stop_of_damage stop.LineTooLong place it = absurd cc
+stop_of_damage stop.WriteFault place it = absurd cc
+stop_of_damage (stop.Halted halt) place it = cc
+
 module _ {S K M : Type 0} (m : Machine M) (left : S → Option (List ℕ)) (given asked faults : S → ℕ) (held : K → Option (List ℕ)) (write_faults : K → ℕ) (old new : M) (source source_now : S) (sink sink_now : K) where
   -- bytes were read, and what running them as a script leaves
   abbrev Runs : End → Type 0
@@ -61,14 +67,16 @@ module _ {S K M : Type 0} (m : Machine M) (left : S → Option (List ℕ)) (give
   abbrev Leaves : End → Type 0
   Leaves how = RunsScript m left given asked faults held write_faults old new source source_now sink sink_now how
 
-  pub run_ended : Runs end.Done → given source_now ≤ given source + input_limit → IfSome (left source_now) (λ rest. rest ≡ []) → faults source_now ≡ faults source → write_faults sink_now ≡ write_faults sink → m.faults new ≡ m.faults old → Leaves end.Done
-  run_ended ran bound all none written kept = record {
+  pub run_ended : Runs end.Done → given source_now ≤ given source + input_limit → IfSome (left source_now) (λ rest. rest ≡ []) → faults source_now ≡ faults source → write_faults sink_now ≡ write_faults sink → m.faults new ≡ m.faults old → m.usable new → Leaves end.Done
+  run_ended ran bound all none written kept usable = record {
     ran = ran;
     bound = bound;
     whole = λ is. all;
+    usable = λ is. usable;
     read = record { cause = λ no. absurd cc; exact = λ other. none };
     write = record { counted = λ no. absurd cc; exact = λ other. written };
     disk = record { counted = λ no. absurd cc; exact = λ other. kept };
+    damaged = λ place no. absurd cc;
   }
 
   -- a read failed
@@ -77,21 +85,25 @@ module _ {S K M : Type 0} (m : Machine M) (left : S → Option (List ℕ)) (give
     ran = ran;
     bound = bound;
     whole = λ no. absurd cc;
+    usable = λ no. absurd cc;
     read = record { cause = λ is. cause; exact = λ other. absurd (other refl) };
     write = record { counted = λ no. absurd cc; exact = λ other. written };
     disk = record { counted = λ no. absurd cc; exact = λ other. kept };
+    damaged = λ place no. absurd cc;
   }
 
   -- a step stopped for good
   pub run_halted : (how : End) (e : Stop) → how ≡ stopped e → Runs (stopped e) → given source_now ≤ given source + input_limit → faults source_now ≡ faults source → CountedWhere (as_stop e ≡ Err stop.WriteFault) (write_faults sink) (write_faults sink_now)
-      → DisksCountedWhere (as_stop e ≡ Err (stop.Halted DiskFault)) (m.faults old) (m.faults new) → Leaves how
-  run_halted how e is ran bound none write disk = subst Leaves (sym is) (record {
+      → DisksCountedWhere (as_stop e ≡ Err (stop.Halted DiskFault)) (m.faults old) (m.faults new) → ((place : Place) → as_stop e ≡ Err (stop.Halted (Damaged place)) → m.damages) → Leaves how
+  run_halted how e is ran bound none write disk damaged = subst Leaves (sym is) (record {
     ran = ran;
     bound = bound;
     whole = λ it. absurd (stop_is_not_done e it);
+    usable = λ it. absurd (stop_is_not_done e it);
     read = record { cause = λ it. absurd (stop_is_no_failed_read e it); exact = λ other. none };
     write = record { counted = λ it. write.counted (ap as_stop (stop_of_failed_write e it)); exact = λ other. write.exact (λ it. other (ap stopped (error_of it))) };
     disk = record { counted = λ it. disk.counted (ap as_stop (stop_of_failed_disk e it)); exact = λ other. disk.exact (λ it. other (ap stopped (error_of it))) };
+    damaged = λ place it. damaged place (ap as_stop (stop_of_damage e place it));
   })
 
   -- a line was too long, and what was pending is written
@@ -100,9 +112,11 @@ module _ {S K M : Type 0} (m : Machine M) (left : S → Option (List ℕ)) (give
     ran = ran;
     bound = bound;
     whole = λ no. absurd cc;
+    usable = λ no. absurd cc;
     read = record { cause = λ no. absurd cc; exact = λ other. none };
     write = record { counted = λ no. absurd cc; exact = λ other. written };
     disk = record { counted = λ no. absurd cc; exact = λ other. kept };
+    damaged = λ place no. absurd cc;
   }
 
   -- or it isn't, since a write failed
@@ -111,7 +125,9 @@ module _ {S K M : Type 0} (m : Machine M) (left : S → Option (List ℕ)) (give
     ran = ran;
     bound = bound;
     whole = λ no. absurd cc;
+    usable = λ no. absurd cc;
     read = record { cause = λ no. absurd cc; exact = λ other. none };
     write = record { counted = λ is. failed; exact = λ other. absurd (other refl) };
     disk = record { counted = λ no. absurd cc; exact = λ other. kept };
+    damaged = λ place no. absurd cc;
   }

@@ -4,6 +4,7 @@ use Rattle.std.specs.Prelude.{Option, Result, Ok, Err, IfSome, IsErrAnd}
 use Rattle.std.proofs.Math.Seq.{take-append_seam}
 use Rattle.outside_kinds.specs.Bounds.{input_limit}
 use Rattle.outside_traits.specs.Bytes.{Gave}
+use Rattle.node_records.specs.declared.open_error.Place.{Place}
 use Rattle.script_runs.specs.Counts.{CountedWhere, DisksCountedWhere, ReadFaultCause}
 use Rattle.script_runs.specs.Lines.{line_limit}
 use Rattle.script_runs.specs.Machine.{Machine}
@@ -12,7 +13,7 @@ use Rattle.script_runs.specs.inside.Feeding.{Script, IsNew, IfGoesOn, LeavesFrom
 use Rattle.script_runs.specs.inside.Inputs.{TakesInput}
 use Rattle.script_runs.specs.declared.feeding.Stop.{Stop}
 use Rattle.script_runs.specs.declared.feeding.Stop.TheVariants.{WriteFault, Halted}
-use Rattle.script_runs.specs.declared.halt.Halt.TheVariants.{DiskFault}
+use Rattle.script_runs.specs.declared.halt.Halt.TheVariants.{DiskFault, Damaged}
 use Rattle.script_runs.specs.declared.running.Input.{Input}
 use Rattle.script_runs.specs.declared.running.Input.TheVariants.{Ended, Fault}
 use Rattle.script_runs.proofs.LogLaws.{leaves_none, leaves_on, flushed_on}
@@ -85,8 +86,9 @@ module _ {S K M : Type 0} (m : Machine M) (left : S → Option (List ℕ)) (give
 
   -- a step stopped
   pub input_stopped : (r : Result Input Stop) (e : Stop) → IsErrAnd r (λ x. x ≡ e) → Takes (Err e) → IfGoesOn (m.usable new.machine) (Err e) → new.lines ≤ input_limit → given source_now ≤ given source + input_limit → faults source_now ≡ faults source
-      → CountedWhere (as_stop e ≡ Err WriteFault) (write_faults sink) (write_faults sink_now) → DisksCountedWhere (as_stop e ≡ Err (Halted DiskFault)) (m.faults old.machine) (m.faults new.machine) → Taken r
-  input_stopped r e is takes ready lines bound none write disk = subst Taken (sym (stopped_at r e is)) (record {
+      → CountedWhere (as_stop e ≡ Err WriteFault) (write_faults sink) (write_faults sink_now) → DisksCountedWhere (as_stop e ≡ Err (Halted DiskFault)) (m.faults old.machine) (m.faults new.machine)
+      → ((place : Place) → as_stop e ≡ Err (Halted (Damaged place)) → m.damages) → Taken r
+  input_stopped r e is takes ready lines bound none write disk damaged = subst Taken (sym (stopped_at r e is)) (record {
     takes = takes;
     ready = ready;
     lines = lines;
@@ -96,6 +98,7 @@ module _ {S K M : Type 0} (m : Machine M) (left : S → Option (List ℕ)) (give
     read = record { cause = λ no. absurd cc; exact = λ other. none };
     write = record { counted = λ it. write.counted (ap went it); exact = λ other. write.exact (λ it. other (ap came it)) };
     disk = record { counted = λ it. disk.counted (ap went it); exact = λ other. disk.exact (λ it. other (ap came it)) };
+    damaged = λ place it. damaged place (ap went it);
   })
 
   -- the input came to its end
@@ -111,6 +114,7 @@ module _ {S K M : Type 0} (m : Machine M) (left : S → Option (List ℕ)) (give
     read = record { cause = λ no. absurd cc; exact = λ other. none };
     write = record { counted = λ no. absurd cc; exact = λ other. written };
     disk = record { counted = λ no. absurd cc; exact = λ other. kept };
+    damaged = λ place no. absurd cc;
   }
 
   -- a read failed
@@ -126,4 +130,5 @@ module _ {S K M : Type 0} (m : Machine M) (left : S → Option (List ℕ)) (give
     read = record { cause = λ is. cause; exact = λ other. absurd (other refl) };
     write = record { counted = λ no. absurd cc; exact = λ other. written };
     disk = record { counted = λ no. absurd cc; exact = λ other. kept };
+    damaged = λ place no. absurd cc;
   }

@@ -16,7 +16,7 @@ use Rattle.script_runs.specs.inside.Feeding.{Script, Standing, with_state, IfGoe
 use Rattle.script_runs.specs.declared.halt.Halt.{Halt}
 use Rattle.script_runs.specs.declared.feeding.Stop.{Stop}
 use Rattle.script_runs.specs.declared.feeding.Stop.TheVariants.{LineTooLong, WriteFault, Halted}
-use Rattle.script_runs.proofs.FeedingLaws.{fed_none, ended_on, state_after_on, answers_on, short_on, comes_on, comes_more}
+use Rattle.script_runs.proofs.FeedingLaws.{fed_none, fed_written, ended_on, state_after_on, answers_on, short_on, comes_on, comes_more}
 
 pub ok_map : (P Q : Type 0) (r : Result (Unit {0}) Stop) → (P → Q) → OnOk r P → OnOk r Q
 ok_map P Q (Ok u) leads p = leads p
@@ -131,6 +131,49 @@ module _ {M : Type 0} (m : Machine M) where
               (λ journal pages of_journal of_pages. record { count = 0; enough = omega arith; bound = omega arith; within = omega arith; holds = settled.holds journal pages of_journal of_pages });
         }
 
+    -- what holds of a state holds of none of the lines behind it
+    none_from : (a : Standing m) (most : ℕ) (journal pages : List ℕ) → m.holds a.state journal pages → HoldsFrom m 0 most a.state [] journal pages
+    none_from a most journal pages holds = record { count = 0; enough = omega arith; bound = omega arith; within = omega arith; holds = holds }
+
+    -- the machine rested between two lines
+    pub does_rest : (a : Standing m) (held : Option (List ℕ)) (k : M) (new : Script M) → new.lines ≡ a.lines → m.fixed new.machine ≡ m.fixed k
+        → (IsSettled m k a.state → IsSettled m new.machine a.state) → (IsSettled m k a.state → PairsLeave (m.holds a.state) (m.disks k) (m.disks new.machine))
+        → DoneFrom m limit a held held k new [] (Ok tt)
+    does_rest a held k new count fixed after run = record {
+      done = 0;
+      within = omega arith;
+      whole = refl;
+      counted = omega (arith, count);
+      fixed = fixed;
+      short = tt;
+      valid = tt;
+      wrote = (_, took_nothing held _);
+      any_moment = λ settled. pairs_weaker _ _ (none_from a 0) (m.disks k) (m.disks new.machine) (run settled);
+      kept = λ settled. (after settled).kept;
+      left = λ settled journal pages of_journal of_pages. none_from a 0 journal pages ((after settled).holds journal pages of_journal of_pages);
+    }
+
+    -- it stopped there
+    pub does_unrested : (a : Standing m) (held : Option (List ℕ)) (k : M) (new : Script M) (halt : Halt) → m.fixed new.machine ≡ m.fixed k
+        → (IsSettled m k a.state → PairsLeave (m.holds a.state) (m.disks k) (m.disks new.machine))
+        → DoneFrom m limit a held held k new [] (Err (Halted halt))
+    does_unrested a held k new halt fixed run =
+        let moments : IsSettled m k a.state → PairsLeave (HoldsFrom m 0 (0 + 1) a.state []) (m.disks k) (m.disks new.machine)
+        = λ settled. pairs_weaker _ _ (none_from a 1) (m.disks k) (m.disks new.machine) (run settled) in
+        record {
+          done = 0;
+          within = omega arith;
+          whole = tt;
+          counted = tt;
+          fixed = fixed;
+          short = tt;
+          valid = tt;
+          wrote = (_, took_nothing held _);
+          any_moment = moments;
+          kept = λ settled. tt;
+          left = λ settled. pairs_now _ (m.disks k) (m.disks new.machine) (moments settled) (λ journal pages of_journal of_pages. none_from a 1 journal pages (settled.holds journal pages of_journal of_pages));
+        }
+
     -- ---- one step after another
 
     -- what the first lines and then others are answered
@@ -224,6 +267,19 @@ module _ {M : Type 0} (m : Machine M) where
       comes = tt;
       does = does_halted (with_state m a s) held a.machine b a.unended halt fixed run;
     }
+
+    -- the machine rested between two lines
+    pub leaves_rest : (s : m.State) (a b : Script M) (held : Option (List ℕ)) → m.stands b.machine s → b.lines ≡ a.lines → b.unended ≡ a.unended → b.pending ≡ a.pending → m.fixed b.machine ≡ m.fixed a.machine
+        → (IsSettled m a.machine s → IsSettled m b.machine s) → (IsSettled m a.machine s → PairsLeave (m.holds s) (m.disks a.machine) (m.disks b.machine)) → LeavesFrom m limit s a b held held [] (Ok tt)
+    leaves_rest s a b held stands lines line pending fixed after run = record {
+      comes = (s, stands, fed_written m limit (with_state m a s) (with_state m b s) held held refl lines line (subst (TookAllBut held held a.pending) (sym pending) (took_nothing held a.pending)));
+      does = does_rest (with_state m a s) held a.machine b lines fixed after run;
+    }
+
+    -- it stopped there
+    pub leaves_unrested : (s : m.State) (a b : Script M) (held : Option (List ℕ)) (halt : Halt) → m.fixed b.machine ≡ m.fixed a.machine
+        → (IsSettled m a.machine s → PairsLeave (m.holds s) (m.disks a.machine) (m.disks b.machine)) → LeavesFrom m limit s a b held held [] (Err (Halted halt))
+    leaves_unrested s a b held halt fixed run = record { comes = tt; does = does_unrested (with_state m a s) held a.machine b halt fixed run }
 
     -- nothing was taken
     pub leaves_none : (s : m.State) (k : Script M) (held : Option (List ℕ)) → m.stands k.machine s → LeavesFrom m limit s k k held held [] (Ok tt)

@@ -9,14 +9,14 @@ use Rattle.script_runs.specs.Lines.{ended, unended, last_line, lines_of, first_l
 use Rattle.script_runs.specs.Machine.{Machine, IsSettled}
 use Rattle.script_runs.specs.Texts.{answers, state_after, text_of, script_text}
 use Rattle.script_runs.specs.inside.Feeding.{Script, with_state, start, IsNew, Standing, IsInLine, slack_of, stopped, DoneFrom, LeavesFrom, Leaves, EndsFrom, TakesFrom, Fed, Overran}
-use Rattle.script_runs.specs.Runs.{HoldsFrom, slack_at, AskedLines, IsExact, IfAnswered, IsPrompt, Ran}
+use Rattle.script_runs.specs.Runs.{HoldsFrom, slack_at, AskedLines, IsExact, IfAnswered, IfDone, IsPrompt, Ran}
 use Rattle.script_runs.specs.declared.feeding.Stop.{Stop}
 use Rattle.script_runs.specs.declared.feeding.Stop.TheVariants as stop
 use Rattle.script_runs.specs.declared.running.End.{End}
 use Rattle.script_runs.specs.declared.running.End.TheVariants.{Done, LineTooLong, ReadFault, WriteFault, Halted}
 use Rattle.script_runs.specs.declared.halt.Halt.TheVariants.{NoMemory}
 use Rattle.script_runs.proofs.LineEnds.{ltb_tells}
-use Rattle.script_runs.proofs.FeedingLaws.{ended_on, unended_on, answers_on, short_on, ended_in_line, unended_in_line, fed_on}
+use Rattle.script_runs.proofs.FeedingLaws.{state_after_on, ended_on, unended_on, answers_on, short_on, ended_in_line, unended_in_line, fed_on}
 use Rattle.script_runs.proofs.LogLaws.{does_on, does_still}
 
 pub long_behind : (limit n : ℕ) (prefix lines : List (List ℕ)) → AllShort limit prefix → first_long limit n (prefix ++ lines) ≡ first_long limit (n + length prefix) lines
@@ -75,6 +75,11 @@ stopped_answered stop.LineTooLong apart P = absurd (apart refl)
 stopped_answered stop.WriteFault apart P = tt
 stopped_answered (stop.Halted halt) apart P = tt
 
+stopped_undone : (e : Stop) (P : Type 0) → IfDone (stopped e) P
+stopped_undone stop.LineTooLong P = tt
+stopped_undone stop.WriteFault P = tt
+stopped_undone (stop.Halted halt) P = tt
+
 module _ {M : Type 0} (m : Machine M) (limit : ℕ) where
   stopped_exact : (s : m.State) (e : Stop) → (e ≡ stop.LineTooLong → ⊥) → (read : List ℕ) (h i : Option (List ℕ)) (lines : List (List ℕ)) (done : ℕ) → IsExact m limit s (stopped e) read h i lines done
   stopped_exact s stop.LineTooLong apart read h i lines done = absurd (apart refl)
@@ -90,8 +95,8 @@ module _ {M : Type 0} (m : Machine M) (limit : ℕ) where
 
   -- a run from what its steps did
   ran_of : (s : m.State) (end : End) (read : List ℕ) (asked : ℕ) (rest h i j : Option (List ℕ)) (a : M) (b : Script M) (n : M) (lines : List (List ℕ)) (r : Result (Unit {0}) Stop) (d : DoneFrom m limit (start m s) h i a b lines r)
-      → n ≡ b.machine → slack_of r ≡ slack_at end → AskedLines rest read lines → TookPrefix h j (text_of m s (take d.done lines)) → IsExact m limit s end read h j lines d.done → IsPrompt m limit s (take asked read) h j → (IsSettled m a s → IfAnswered end (m.settled b.machine)) → Ran m limit s end read asked rest h j a n
-  ran_of s end read asked rest h i j a b n lines r d same slack asked_for wrote exact prompt settles =
+      → n ≡ b.machine → slack_of r ≡ slack_at end → AskedLines rest read lines → TookPrefix h j (text_of m s (take d.done lines)) → IsExact m limit s end read h j lines d.done → IsPrompt m limit s (take asked read) h j → (IsSettled m a s → IfAnswered end (m.settled b.machine)) → IfDone end (m.stands b.machine (state_after m s lines)) → Ran m limit s end read asked rest h j a n
+  ran_of s end read asked rest h i j a b n lines r d same slack asked_for wrote exact prompt settles stands =
       subst (λ (x : M). Ran m limit s end read asked rest h j a x) (sym same) (record {
         lines = lines;
         asked_for = asked_for;
@@ -106,6 +111,7 @@ module _ {M : Type 0} (m : Machine M) (limit : ℕ) where
         left = λ settled. subst (λ (k : ℕ). PairsHave (HoldsFrom m d.done (d.done + k) s lines) (m.disks b.machine)) slack (d.left settled);
         settled = settles;
         fixed = d.fixed;
+        stands = stands;
       })
 
   -- ---- where a read is asked for
@@ -165,13 +171,15 @@ module _ {M : Type 0} (m : Machine M) (limit : ℕ) where
         let d = done_end b c i j (Ok tt) p.leaves q in
         let same : answers m p.leaves.comes.0 b.lines (last_line b.unended) ≡ answers m (state_after m s (ended [] read)) (0 + length (ended [] read)) (last_line (unended [] read)) = λ k. answers m (fed.state k) (fed.lines k) (last_line (fed.unended k)) in
         let text : Took h j (script_text m s read) = subst (Took h j) (ap (λ t. text_of m s (ended [] read) ++ t) same ∙ sym (script_is s read)) (whole_took h j _ (took_more h i j (text_of m s (ended [] read)) b.pending _ [] fed.wrote q.wrote)) in
+        let at_end : state_after m p.leaves.comes.0 (last_line b.unended) ≡ state_after m s (lines_of read) = (λ k. state_after m (fed.state k) (last_line (fed.unended k))) ∙ sym (state_after_on m s (ended [] read) (last_line (unended [] read))) in
         ran_of s Done read asked rest h j j a.machine c c.machine (lines_of read) (Ok tt) d refl refl (inr (ends, refl)) d.wrote (d.whole, refl, text) (prompt_later s (take asked read) h i j _ p.prompt q.does.wrote) d.kept
+        (subst (m.stands c.machine) at_end q.stands)
 
     -- the input ended and its last line stopped the script
     pub run_end_stopped : (b c : Script M) (i j rest : Option (List ℕ)) (e : Stop) → (e ≡ stop.LineTooLong → ⊥) → (p : TakesFrom m limit s a b h i read asked (Ok tt)) → EndsFrom m limit p.leaves.comes.0 b c i j (Err e) → IfSome rest (λ bytes. bytes ≡ []) → Ran m limit s (stopped e) read asked rest h j a.machine c.machine
     run_end_stopped b c i j rest e apart p q ends =
         let d = done_end b c i j (Err e) p.leaves q in
-        ran_of s (stopped e) read asked rest h j j a.machine c c.machine (lines_of read) (Err e) d refl (stopped_slack e apart) (inr (ends, refl)) d.wrote (stopped_exact s e apart read h j (lines_of read) d.done) (prompt_later s (take asked read) h i j _ p.prompt q.does.wrote) (λ settled. stopped_answered e apart _)
+        ran_of s (stopped e) read asked rest h j j a.machine c c.machine (lines_of read) (Err e) d refl (stopped_slack e apart) (inr (ends, refl)) d.wrote (stopped_exact s e apart read h j (lines_of read) d.done) (prompt_later s (take asked read) h i j _ p.prompt q.does.wrote) (λ settled. stopped_answered e apart _) (stopped_undone e _)
 
     -- the reading failed
     pub run_read_fault : (b : Script M) (i rest : Option (List ℕ)) → TakesFrom m limit s a b h i read asked (Ok tt) → b.pending ≡ [] → length b.unended ≤ limit → Ran m limit s ReadFault read asked rest h i a.machine b.machine
@@ -179,13 +187,13 @@ module _ {M : Type 0} (m : Machine M) (limit : ℕ) where
         let d = done_start b i (Ok tt) p.leaves in
         let now = prompt_here s a new h read b i p.leaves written short in
         let text : Took h i (text_of m s (ended [] read)) = whole_took h i _ (subst (λ k. TookAllBut h i (text_of m s (ended [] read)) k) written (fed_start b i p.leaves).wrote) in
-        ran_of s ReadFault read asked rest h i i a.machine b b.machine (ended [] read) (Ok tt) d refl refl (inl refl) d.wrote (d.whole, refl, text, now.short) p.prompt d.kept
+        ran_of s ReadFault read asked rest h i i a.machine b b.machine (ended [] read) (Ok tt) d refl refl (inl refl) d.wrote (d.whole, refl, text, now.short) p.prompt d.kept tt
 
     -- a step stopped for good
     pub run_stopped : (b : Script M) (i rest : Option (List ℕ)) (e : Stop) → (e ≡ stop.LineTooLong → ⊥) → TakesFrom m limit s a b h i read asked (Err e) → Ran m limit s (stopped e) read asked rest h i a.machine b.machine
     run_stopped b i rest e apart p =
         let d = done_start b i (Err e) p.leaves in
-        ran_of s (stopped e) read asked rest h i i a.machine b b.machine (ended [] read) (Err e) d refl (stopped_slack e apart) (inl refl) d.wrote (stopped_exact s e apart read h i (ended [] read) d.done) p.prompt (λ settled. stopped_answered e apart _)
+        ran_of s (stopped e) read asked rest h i i a.machine b b.machine (ended [] read) (Err e) d refl (stopped_slack e apart) (inl refl) d.wrote (stopped_exact s e apart read h i (ended [] read) d.done) p.prompt (λ settled. stopped_answered e apart _) (stopped_undone e _)
 
     over_start : (b : Script M) (i : Option (List ℕ)) (p : LeavesFrom m limit s a b h i read (Err stop.LineTooLong)) → Overran m limit (start m s) (with_state m b p.comes.0) h i read
     over_start b i p = subst (λ (k : Standing m). Overran m limit k (with_state m b p.comes.0) h i read) (at_start a s new) p.comes.2
@@ -219,7 +227,7 @@ module _ {M : Type 0} (m : Machine M) (limit : ℕ) where
         let count : 1 + length (ended [] over.done) ≡ n = omega (arith, over.fed.lines, number) in
         let long : first_long limit 1 (lines_of read) ≡ Some n = ap (first_long limit 1) lines ∙ long_behind limit 1 (ended [] over.done) _ over.fed.short ∙ still_long limit (1 + length (ended [] over.done)) (unended [] over.done ++ over.part) over.more is_long ∙ ap Some count in
         let numbered : n ≡ d.done + 1 = omega (arith, number, d.counted) in
-        ran_of s (LineTooLong n) read asked rest h i j a.machine b c.machine (ended [] read) (Err stop.LineTooLong) d same refl (inl refl) ([], took_whole h j _ text) (numbered, long, text) (prompt_later s (take asked read) h i j _ takes.prompt flush.does.wrote) d.kept
+        ran_of s (LineTooLong n) read asked rest h i j a.machine b c.machine (ended [] read) (Err stop.LineTooLong) d same refl (inl refl) ([], took_whole h j _ text) (numbered, long, text) (prompt_later s (take asked read) h i j _ takes.prompt flush.does.wrote) d.kept tt
 
     -- a line is too long, and the sink took a prefix of the answers before it
     pub run_too_long_unwritten : (b c : Script M) (i j rest : Option (List ℕ)) (e : Stop) → TakesFrom m limit s a b h i read asked (Err stop.LineTooLong) → Leaves m limit b c i j [] (Err e) → c.machine ≡ b.machine → Ran m limit s WriteFault read asked rest h j a.machine c.machine
@@ -233,14 +241,14 @@ module _ {M : Type 0} (m : Machine M) (limit : ℕ) where
         let nothing : flush.done ≡ 0 = omega (arith, flush.within) in
         let began : TookPrefix i j (b.pending ++ []) = subst (λ k. TookPrefix i j (b.pending ++ answers m t b.lines (take k []))) nothing flush.wrote in
         let prefix : TookPrefix h j (text_of m s (ended [] over.done)) = subst (TookPrefix h j) (append-nil (text_of m s (ended [] over.done))) (began.0, took_more h i j (text_of m s (ended [] over.done)) b.pending [] began.0 over.fed.wrote began.1) in
-        ran_of s WriteFault read asked rest h i j a.machine b c.machine (ended [] read) (Err stop.LineTooLong) d same refl (inl refl) (subst (λ ls. TookPrefix h j (text_of m s ls)) (sym before) prefix) tt (prompt_later s (take asked read) h i j _ takes.prompt flush.wrote) (λ settled. tt)
+        ran_of s WriteFault read asked rest h i j a.machine b c.machine (ended [] read) (Err stop.LineTooLong) d same refl (inl refl) (subst (λ ls. TookPrefix h j (text_of m s ls)) (sym before) prefix) tt (prompt_later s (take asked read) h i j _ takes.prompt flush.wrote) (λ settled. tt) tt
 
   -- nothing was read
   pub run_nothing : (s : m.State) (asked : ℕ) (rest h : Option (List ℕ)) (a : M) → Ran m limit s (Halted NoMemory) [] asked rest h h a a
   run_nothing s asked rest h a =
       let k : Script M = record { machine = a; lines = 0; unended = []; pending = [] } in
       let d = does_still m limit (start m s) h h a k [] (Err (stop.Halted NoMemory)) refl refl tt ([], took_nothing h []) in
-      ran_of s (Halted NoMemory) [] asked rest h h h a k a [] (Err (stop.Halted NoMemory)) d refl refl (inl refl) d.wrote tt (prompt_nothing s asked h) (λ settled. tt)
+      ran_of s (Halted NoMemory) [] asked rest h h h a k a [] (Err (stop.Halted NoMemory)) d refl refl (inl refl) d.wrote tt (prompt_nothing s asked h) (λ settled. tt) tt
 
   -- the same of what equals it
   pub run_as : (s : m.State) (read : List ℕ) (end end_now : End) (asked asked_now : ℕ) (rest rest_now h i i_now : Option (List ℕ)) (a a_now b b_now : M) → end ≡ end_now → asked ≡ asked_now → rest ≡ rest_now → i ≡ i_now → a ≡ a_now → b ≡ b_now

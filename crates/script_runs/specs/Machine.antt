@@ -6,8 +6,9 @@ use Rattle.script_runs.specs.Counts.{Counts}
 -- A type `Self` that does lines.
 -- `State`: what its answers depend on. `text`: what a line, by its number from 1, is answered in a state; `next`: the state after it.
 -- `valid`: what is sure of a line that was done. `holds`: which two files stand for what is committed in a state.
--- `stands`: in which states a value is. `usable`: whether it may be asked. `settled`: what it knows of its disks between two lines.
--- `fixed`: what of a value no line changes, a `Fixed`.
+-- `stands`: in which states a value is. `usable`: whether it may be asked a line; `answered`: whether it has done one, and is to rest.
+-- `settled`: what it knows of its disks between two lines.
+-- `fixed`: what of a value no line changes, a `Fixed`. `damages`: that it may find a file damaged that it wrote itself.
 -- `is_known`: whether the histories of its disks are known; `disks`: those histories; `faults`: the disks' counts.
 pub record Machine (Self : Type 0) : Type 1 where
   pub State : Type 0
@@ -17,9 +18,11 @@ pub record Machine (Self : Type 0) : Type 1 where
   pub holds : State → List ℕ → List ℕ → Type 0
   pub stands : Self → State → Type 0
   pub usable : Self → Type 0
+  pub answered : Self → Type 0
   pub settled : Self → Type 0
   pub Fixed : Type 0
   pub fixed : Self → Fixed
+  pub damages : Type 0
   pub is_known : Bool
   pub disks : Self → Pair
   pub faults : Self → Counts

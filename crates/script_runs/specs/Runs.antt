@@ -49,6 +49,11 @@ IfAnswered (LineTooLong n) P = P
 IfAnswered ReadFault P = P
 IfAnswered end P = Unit {0}
 
+-- where a run ends with the whole input, this holds
+abbrev pub IfDone : End → Type 0 → Type 0
+IfDone Done P = P
+IfDone end P = Unit {0}
+
 -- A run from this state, of which these bytes were read, the first `asked` of them before the last read was asked for.
 -- Of the lines that it was to do it did so many, all short and valid; the sink took a prefix of what these are answered;
 -- and the files stand for these, and for one more at most where the machine stopped within it.
@@ -66,3 +71,4 @@ pub record Ran {M : Type 0} (m : Machine M) (limit : ℕ) (s : m.State) (end : E
   pub left : IsSettled m old s → PairsHave (HoldsFrom m done (done + slack_at end) s lines) (m.disks new)
   pub settled : IsSettled m old s → IfAnswered end (m.settled new)
   pub fixed : m.fixed new ≡ m.fixed old
+  pub stands : IfDone end (m.stands new (state_after m s lines))

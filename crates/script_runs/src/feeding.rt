@@ -2,6 +2,7 @@
 ghost use Rattle.std.specs.Prelude.{◌≡◌, ◌==◌, position, ◌≢◌, ℕ, ◌+◌, ◌<◌, ◌≤◌, ◌^◌, List, [], ◌∷◌, ◌++◌, length, Option, Err, OnOk, OnErr};
 ghost use Rattle.outside_traits.specs.DiskPairs.{PairsLeave};
 ghost use Rattle.script_runs.specs.Counts.{CountedWhere, DisksCountedWhere};
+ghost use Rattle.node_records.specs.declared.open_error.Place.{Place};
 ghost use Rattle.script_runs.specs.Lines.{line_limit};
 ghost use Rattle.script_runs.specs.Machine.{IsSettled, HoldsEither};
 ghost use Rattle.script_runs.specs.inside.Feeding.{Ends, IsInLine, IsFirstEnd, IsNew, FedFrom, Leaves, IfGoesOn};
@@ -92,6 +93,7 @@ impl<M: LineMachine> Script<M> {
         ensures ready { IfGoesOn (M.machine.usable self.new.machine) result }
         ensures write { CountedWhere (result ≡ Err Stop.WriteFault) (K.faults sink.old) (K.faults sink.new) }
         ensures disk { DisksCountedWhere (result ≡ Err (Stop.Halted Halt.DiskFault)) (M.machine.faults self.old.machine) (M.machine.faults self.new.machine) }
+        ensures damaged { (place : Place) → result ≡ Err (Stop.Halted (Halt.Damaged place)) → M.machine.damages }
         ensures lines { self.new.lines ≤ self.old.lines + length piece.now }
     {
         let mut rest = piece;
@@ -111,13 +113,16 @@ impl<M: LineMachine> Script<M> {
         ensures ends { Ends M.machine line_limit self.old self.new (K.held sink.old) (K.held sink.new) result }
         ensures write { CountedWhere (result ≡ Err Stop.WriteFault) (K.faults sink.old) (K.faults sink.new) }
         ensures disk { DisksCountedWhere (result ≡ Err (Stop.Halted Halt.DiskFault)) (M.machine.faults self.old.machine) (M.machine.faults self.new.machine) }
+        ensures damaged { (place : Place) → result ≡ Err (Stop.Halted (Halt.Damaged place)) → M.machine.damages }
+        ensures ready { OnOk result (M.machine.usable self.new.machine) }
         ensures error { result ≢ Err Stop.LineTooLong }
     {
         if self.unended.as_slice().is_empty() {
             return self.flush(sink);
         }
         self.end_line(alloc)?;
-        self.flush(sink)
+        self.flush(sink)?;
+        self.rest(alloc)
     }
 
     /// Writes what is pending.
@@ -146,11 +151,25 @@ impl<M: LineMachine> Script<M> {
         ensures ready { IfGoesOn (M.machine.usable self.new.machine) result }
         ensures write { CountedWhere (result ≡ Err Stop.WriteFault) (K.faults sink.old) (K.faults sink.new) }
         ensures disk { DisksCountedWhere (result ≡ Err (Stop.Halted Halt.DiskFault)) (M.machine.faults self.old.machine) (M.machine.faults self.new.machine) }
+        ensures damaged { (place : Place) → result ≡ Err (Stop.Halted (Halt.Damaged place)) → M.machine.damages }
         ensures lines { self.new.lines ≤ self.old.lines + 1 }
     {
         self.extend(line)?;
         self.end_line(alloc)?;
-        if self.pending.len() >= LARGE {
+        self.flush_if_due(sink)?;
+        self.rest(alloc)
+    }
+
+    /// Writes what is pending where that is much, or where the machine is to do something behind it.
+    fn flush_if_due<K: Sink>(&mut self, sink: &mut K) -> Result<(), Stop>
+        requires answered { M.machine.answered self.old.machine }
+        ensures leaves { Leaves M.machine line_limit self.old self.new (K.held sink.old) (K.held sink.new) [] result }
+        ensures machine { self.new.machine ≡ self.old.machine }
+        ensures lines { self.new.lines ≡ self.old.lines }
+        ensures write { CountedWhere (result ≡ Err Stop.WriteFault) (K.faults sink.old) (K.faults sink.new) }
+        ensures error { OnErr result (result ≡ Err Stop.WriteFault) }
+    {
+        if self.pending.len() >= LARGE || self.machine.is_due() {
             return self.flush(sink);
         }
         Ok(())
@@ -162,6 +181,7 @@ impl<M: LineMachine> Script<M> {
         ensures leaves { (held : Option (List ℕ)) → Leaves M.machine line_limit self.old self.new held held part.now result }
         ensures machine { self.new.machine ≡ self.old.machine }
         ensures cause { (result ≢ Err Stop.WriteFault) × (result ≢ Err (Stop.Halted Halt.DiskFault)) }
+        ensures undamaged { (place : Place) → result ≢ Err (Stop.Halted (Halt.Damaged place)) }
         ensures lines { self.new.lines ≡ self.old.lines }
     {
         if LINE_LIMIT - self.unended.len() < part.len() {
@@ -178,12 +198,27 @@ impl<M: LineMachine> Script<M> {
         requires room { self.old.lines + 1 < 2 ^ 64 }
         requires ready { M.machine.usable self.old.machine }
         ensures leaves { (held : Option (List ℕ)) → Leaves M.machine line_limit self.old self.new held held (10 ∷ []) result }
-        ensures ready { IfGoesOn (M.machine.usable self.new.machine) result }
+        ensures ready { IfGoesOn (M.machine.answered self.new.machine) result }
         ensures cause { (result ≢ Err Stop.WriteFault) × (result ≢ Err Stop.LineTooLong) }
         ensures disk { DisksCountedWhere (result ≡ Err (Stop.Halted Halt.DiskFault)) (M.machine.faults self.old.machine) (M.machine.faults self.new.machine) }
+        ensures damaged { (place : Place) → result ≡ Err (Stop.Halted (Halt.Damaged place)) → M.machine.damages }
         ensures lines { self.new.lines ≤ self.old.lines + 1 }
     {
         Ok(self.do_line(alloc)?)
+    }
+
+    /// Lets the machine do what is due between two lines.
+    fn rest(&mut self, alloc: Global) -> Result<(), Stop>
+        requires answered { M.machine.answered self.old.machine }
+        ensures leaves { (held : Option (List ℕ)) → Leaves M.machine line_limit self.old self.new held held [] result }
+        ensures ready { IfGoesOn (M.machine.usable self.new.machine) result }
+        ensures pending { self.new.pending ≡ self.old.pending }
+        ensures cause { (result ≢ Err Stop.WriteFault) × (result ≢ Err Stop.LineTooLong) }
+        ensures disk { DisksCountedWhere (result ≡ Err (Stop.Halted Halt.DiskFault)) (M.machine.faults self.old.machine) (M.machine.faults self.new.machine) }
+        ensures damaged { (place : Place) → result ≡ Err (Stop.Halted (Halt.Damaged place)) → M.machine.damages }
+        ensures lines { self.new.lines ≡ self.old.lines }
+    {
+        Ok(self.machine.rest(alloc)?)
     }
 
     /// Does the line that has ended.
@@ -193,12 +228,13 @@ impl<M: LineMachine> Script<M> {
         ensures fed { OnOk result ((held : Option (List ℕ)) (s : M.machine.State) → M.machine.stands self.old.machine s
             → FedFrom M.machine line_limit s self.old self.new held held (10 ∷ [])) }
         ensures valid { OnOk result (M.machine.valid self.old.unended) }
-        ensures ready { OnOk result (M.machine.usable self.new.machine) }
+        ensures ready { OnOk result (M.machine.answered self.new.machine) }
         ensures settled { OnOk result ((s : M.machine.State) → M.machine.stands self.old.machine s → IsSettled M.machine self.old.machine s
             → IsSettled M.machine self.new.machine (M.machine.next s self.old.unended)) }
         ensures any_moment { (s : M.machine.State) → M.machine.stands self.old.machine s → IsSettled M.machine self.old.machine s
             → PairsLeave (HoldsEither M.machine s (M.machine.next s self.old.unended)) (M.machine.disks self.old.machine) (M.machine.disks self.new.machine) }
         ensures fixed { M.machine.fixed self.new.machine ≡ M.machine.fixed self.old.machine }
+        ensures damaged { (place : Place) → result ≡ Err (Halt.Damaged place) → M.machine.damages }
         ensures cause { DisksCountedWhere (result ≡ Err Halt.DiskFault) (M.machine.faults self.old.machine) (M.machine.faults self.new.machine) }
         ensures lines { self.new.lines ≤ self.old.lines + 1 }
     {

@@ -2,6 +2,7 @@
 ghost use Rattle.std.specs.Prelude.{◌≡◌, ◌++◌, Err, OnOk};
 ghost use Rattle.outside_traits.specs.DiskPairs.{PairsLeave};
 ghost use Rattle.script_runs.specs.Counts.{DisksCountedWhere};
+ghost use Rattle.node_records.specs.declared.open_error.Place.{Place};
 ghost use Rattle.script_runs.specs.Machine.{Machine, IsSettled, HoldsEither};
 
 use crate::halt::Halt;
@@ -23,7 +24,7 @@ pub trait LineMachine {
         ensures state { OnOk result ((s : machine.State) → machine.stands self.old s → machine.stands self.new (machine.next s line.now)) }
         ensures text { OnOk result ((s : machine.State) → machine.stands self.old s → out.new.items ≡ out.old.items ++ machine.text s number line.now) }
         ensures valid { OnOk result (machine.valid line.now) }
-        ensures ready { OnOk result (machine.usable self.new) }
+        ensures ready { OnOk result (machine.answered self.new) }
         ensures settled { OnOk result ((s : machine.State) → machine.stands self.old s → IsSettled machine self.old s
             → IsSettled machine self.new (machine.next s line.now)) }
 
@@ -31,5 +32,24 @@ pub trait LineMachine {
         ensures any_moment { (s : machine.State) → machine.stands self.old s → IsSettled machine self.old s
             → PairsLeave (HoldsEither machine s (machine.next s line.now)) (machine.disks self.old) (machine.disks self.new) }
         ensures fixed { machine.fixed self.new ≡ machine.fixed self.old }
+        ensures damaged { (place : Place) → result ≡ Err (Halt.Damaged place) → machine.damages }
+        ensures cause { DisksCountedWhere (result ≡ Err Halt.DiskFault) (machine.faults self.old) (machine.faults self.new) };
+
+    /// Whether something is to be done once the replies to the line are written.
+    fn is_due(&self) -> bool
+        requires answered { machine.answered self.now };
+
+    /// Does what is due between two lines. All replies are written by then, where `is_due` says so. After an error the machine isn't used again.
+    fn rest(&mut self, alloc: Global) -> Result<(), Halt>
+        requires answered { machine.answered self.old }
+        ensures state { OnOk result ((s : machine.State) → machine.stands self.old s → machine.stands self.new s) }
+        ensures ready { OnOk result (machine.usable self.new) }
+        ensures settled { OnOk result ((s : machine.State) → machine.stands self.old s → IsSettled machine self.old s → IsSettled machine self.new s) }
+
+        // A crash at any moment of it leaves what was committed before.
+        ensures any_moment { (s : machine.State) → machine.stands self.old s → IsSettled machine self.old s
+            → PairsLeave (machine.holds s) (machine.disks self.old) (machine.disks self.new) }
+        ensures fixed { machine.fixed self.new ≡ machine.fixed self.old }
+        ensures damaged { (place : Place) → result ≡ Err (Halt.Damaged place) → machine.damages }
         ensures cause { DisksCountedWhere (result ≡ Err Halt.DiskFault) (machine.faults self.old) (machine.faults self.new) };
 }

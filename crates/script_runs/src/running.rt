@@ -2,6 +2,7 @@
 ghost use Rattle.std.specs.Prelude.{◌≡◌, ◌≢◌, ◌+◌, ◌-◌, ◌<◌, ◌≤◌, ℕ, List, [], length, OnOk, Ok, Err, IfSome, IfOk};
 ghost use Rattle.outside_kinds.specs.Bounds.{input_limit};
 ghost use Rattle.outside_traits.specs.Bytes.{Gave};
+ghost use Rattle.node_records.specs.declared.open_error.Place.{Place};
 ghost use Rattle.script_runs.specs.Counts.{CountedWhere, DisksCountedWhere, ReadCountedWhere};
 ghost use Rattle.script_runs.specs.Lines.{line_limit};
 ghost use Rattle.script_runs.specs.Runs.{Ran};
@@ -58,10 +59,12 @@ pub fn run<S: Source, K: Sink, M: LineMachine>(
         (K.held sink.old) (K.held sink.new) machine result.machine) }
     ensures bound { S.given source.new ≤ S.given source.old + input_limit }
     ensures whole { result.end ≡ End.Done → IfSome (S.left source.new) (λ rest. rest ≡ []) }
+    ensures usable { result.end ≡ End.Done → M.machine.usable result.machine }
     ensures read { ReadCountedWhere (result.end ≡ End.ReadFault) input_limit
         (S.faults source.old) (S.faults source.new) (S.given source.old) (S.given source.new) }
     ensures write { CountedWhere (result.end ≡ End.WriteFault) (K.faults sink.old) (K.faults sink.new) }
     ensures disk { DisksCountedWhere (result.end ≡ End.Halted Halt.DiskFault) (M.machine.faults machine) (M.machine.faults result.machine) }
+    ensures damaged { (place : Place) → result.end ≡ End.Halted (Halt.Damaged place) → M.machine.damages }
 {
     let mut script = Script::new(alloc, machine);
     let end = match buffer(alloc) {

@@ -21,7 +21,7 @@ use Rattle.xtc.specs.declared.status.Status.{Status}
 use Rattle.xtc.specs.declared.status.Status.TheVariants.{Done, Usage, LineTooLong, Damaged, ReadFault, WriteFault, DiskFault, NoMemory, NotJsonMl, DocumentRefused}
 use Rattle.xtc.specs.inside.Asking.{IsUnwritten, IsWriteEnd}
 use Rattle.xtc.specs.inside.CommandRuns.{Input, Output, Disks, RanOver, RunsCommand, StandSettled}
-use Rattle.xtc.proofs.StatusLaws.{of_workers, script_not_silent, script_opened}
+use Rattle.xtc.proofs.StatusLaws.{EndsUndamaged, of_workers, script_not_silent, script_opened}
 
 -- ---- the counts of faults
 
@@ -52,6 +52,7 @@ done_end end.ReadFault it = absurd cc
 done_end end.WriteFault it = absurd cc
 done_end (end.Halted halt.DiskFault) it = absurd cc
 done_end (end.Halted halt.NoMemory) it = absurd cc
+done_end (end.Halted (halt.Damaged place)) it = absurd cc
 
 read_end : (e : End) → status_of_end e ≡ ReadFault → e ≡ end.ReadFault
 read_end end.Done it = absurd cc
@@ -60,6 +61,7 @@ read_end end.ReadFault it = refl
 read_end end.WriteFault it = absurd cc
 read_end (end.Halted halt.DiskFault) it = absurd cc
 read_end (end.Halted halt.NoMemory) it = absurd cc
+read_end (end.Halted (halt.Damaged place)) it = absurd cc
 
 write_end : (e : End) → status_of_end e ≡ WriteFault → e ≡ end.WriteFault
 write_end end.Done it = absurd cc
@@ -68,6 +70,7 @@ write_end end.ReadFault it = absurd cc
 write_end end.WriteFault it = refl
 write_end (end.Halted halt.DiskFault) it = absurd cc
 write_end (end.Halted halt.NoMemory) it = absurd cc
+write_end (end.Halted (halt.Damaged place)) it = absurd cc
 
 disk_end : (e : End) → status_of_end e ≡ DiskFault → e ≡ end.Halted halt.DiskFault
 disk_end end.Done it = absurd cc
@@ -76,6 +79,7 @@ disk_end end.ReadFault it = absurd cc
 disk_end end.WriteFault it = absurd cc
 disk_end (end.Halted halt.DiskFault) it = refl
 disk_end (end.Halted halt.NoMemory) it = absurd cc
+disk_end (end.Halted (halt.Damaged place)) it = absurd cc
 
 -- the script's end is the status
 pub script_runs : (journal_known pages_known : Bool) (map : Option Entries) (number : ℕ) (e : End) (input input_now : Input) (output output_now : Output) (disks disks_now : Disks)
@@ -85,13 +89,14 @@ pub script_runs : (journal_known pages_known : Bool) (map : Option Entries) (num
     → ReadCountedWhere (e ≡ end.ReadFault) input_limit input.faults input_now.faults input.given input_now.given
     → CountedWhere (e ≡ end.WriteFault) output.faults output_now.faults
     → DisksCountedWhere (e ≡ end.Halted halt.DiskFault) disks.faults disks_now.faults
+    → EndsUndamaged e
     → RunsCommand journal_known pages_known map number run (status_of_end e) input input_now output output_now disks disks_now
-script_runs journal_known pages_known map number e input input_now output output_now disks disks_now ran whole bound read write disk = record {
+script_runs journal_known pages_known map number e input input_now output output_now disks disks_now ran whole bound read write disk undamaged = record {
   ran = ran;
   whole = λ reads is. whole (done_end e is);
   bound = bound;
-  silent = script_not_silent e _;
-  opened = script_opened e;
+  silent = script_not_silent e _ undamaged;
+  opened = script_opened e undamaged;
   read = read_counted_as (read_end e) (ap status_of_end) _ _ _ _ _ read;
   write = counted_as (write_end e) (ap status_of_end) _ _ write;
   disk = disks_counted_as (disk_end e) (ap status_of_end) _ _ disk;

@@ -45,6 +45,7 @@ slack_is end.ReadFault = refl
 slack_is end.WriteFault = refl
 slack_is (end.Halted halt.DiskFault) = refl
 slack_is (end.Halted halt.NoMemory) = refl
+slack_is (end.Halted (halt.Damaged place)) = refl
 
 slack_small : (e : End) → slack_at e ≤ 1
 slack_small end.Done = omega arith
@@ -211,6 +212,7 @@ module _ {P : Type 0} (journal_known pages_known : Bool) (history : P → Histor
   exact_is end.WriteFault read before now lines done script is x = tt
   exact_is (end.Halted halt.DiskFault) read before now lines done script is x = tt
   exact_is (end.Halted halt.NoMemory) read before now lines done script is x = tt
+  exact_is (end.Halted (halt.Damaged place)) read before now lines done script is x = tt
 
   -- over a store that was opened
   pub script_ran : (e : End) (read : List ℕ) (before_read : ℕ) (rest before now : Option (List ℕ)) (k m : KeptStore P) (old new : Pair) → IsSettled (store_machine journal_known pages_known history faults) k s → new ≡ pair_of m.journal.history (pages_of history m.core.base)

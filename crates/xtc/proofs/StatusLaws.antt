@@ -109,22 +109,28 @@ nothing_read (DocumentRefused why) left left_now given given_now source count = 
 
 -- ---- a script that ran
 
--- its status asks for no silence
-pub script_not_silent : (e : End) (P : Type 0) → IsSilent (Some run) (status_of_end e) P
-script_not_silent end.Done P = tt
-script_not_silent (end.LineTooLong n) P = tt
-script_not_silent end.ReadFault P = tt
-script_not_silent end.WriteFault P = tt
-script_not_silent (end.Halted halt.DiskFault) P = tt
-script_not_silent (end.Halted halt.NoMemory) P = tt
+-- it doesn't end as damage
+abbrev pub EndsUndamaged : End → Type 0
+EndsUndamaged e = (place : Place) → e ≡ end.Halted (halt.Damaged place) → ⊥
 
-pub script_opened : (e : End) → IsOfOpened (status_of_end e)
-script_opened end.Done = tt
-script_opened (end.LineTooLong n) = tt
-script_opened end.ReadFault = tt
-script_opened end.WriteFault = tt
-script_opened (end.Halted halt.DiskFault) = tt
-script_opened (end.Halted halt.NoMemory) = tt
+-- its status asks for no silence
+pub script_not_silent : (e : End) (P : Type 0) → EndsUndamaged e → IsSilent (Some run) (status_of_end e) P
+script_not_silent end.Done P sound = tt
+script_not_silent (end.LineTooLong n) P sound = tt
+script_not_silent end.ReadFault P sound = tt
+script_not_silent end.WriteFault P sound = tt
+script_not_silent (end.Halted halt.DiskFault) P sound = tt
+script_not_silent (end.Halted halt.NoMemory) P sound = tt
+script_not_silent (end.Halted (halt.Damaged place)) P sound = absurd (sound place refl)
+
+pub script_opened : (e : End) → EndsUndamaged e → IsOfOpened (status_of_end e)
+script_opened end.Done sound = tt
+script_opened (end.LineTooLong n) sound = tt
+script_opened end.ReadFault sound = tt
+script_opened end.WriteFault sound = tt
+script_opened (end.Halted halt.DiskFault) sound = tt
+script_opened (end.Halted halt.NoMemory) sound = tt
+script_opened (end.Halted (halt.Damaged place)) sound = sound place refl
 
 -- ---- a command that ran over a store that was opened
 

@@ -73,6 +73,7 @@ status_of_end end.ReadFault = ReadFault
 status_of_end end.WriteFault = WriteFault
 status_of_end (end.Halted halt.DiskFault) = DiskFault
 status_of_end (end.Halted halt.NoMemory) = NoMemory
+status_of_end (end.Halted (halt.Damaged place)) = Damaged place
 
 -- the status of a whole input that can't be had
 abbrev pub status_of_gathering : GatherError → Status

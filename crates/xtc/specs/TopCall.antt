@@ -89,6 +89,7 @@ pub record IsSound (t : Tree) (n limit : ℕ) (script : Progress StoreCall) : Ty
 abbrev pub slack : Status → ℕ
 slack DiskFault = 1
 slack NoMemory = 1
+slack (Damaged place) = 1
 slack status = 0
 
 -- what is known besides, by the status: which lines were done, and that all their answers are written

@@ -31,7 +31,7 @@ use crate::store::OpenStore;
 use crate::top_call::{Finish, Over, TX_LIMIT, with_disks};
 use command_lines::StoreCall;
 use dewey_labels::{NoMemory, Text};
-use durable_sessions::{Base, ask_in_turn};
+use durable_sessions::{SessionBase, ask_in_turn};
 use journal::Journal;
 use jsonml_io::{FragmentError, read_fragment};
 use outside_traits::{Disk, Sink, Source};
@@ -93,7 +93,7 @@ pub fn written<K: Sink>(sink: &mut K, text: Result<Vec<u8>, Status>) -> Status
 }
 
 /// Makes a document of the whole input over a base, and answers the line to write.
-fn put_over<S: Source, B: Base, J: Disk>(
+fn put_over<S: Source, B: SessionBase, J: Disk>(
     alloc: Global,
     name: &str,
     source: &mut S,
@@ -129,7 +129,7 @@ fn put_over<S: Source, B: Base, J: Disk>(
 }
 
 /// Makes a document of the whole input, and answers the line to write.
-fn put_input<S: Source, B: Base, J: Disk>(
+fn put_input<S: Source, B: SessionBase, J: Disk>(
     alloc: Global,
     name: &str,
     source: &mut S,
@@ -188,7 +188,7 @@ fn is_text(fragment: &Fragment) -> bool
 }
 
 /// Creates a document of an element and commits, and answers the line of its label.
-fn put<B: Base, J: Disk>(
+fn put<B: SessionBase, J: Disk>(
     alloc: Global,
     core: &mut Core<StoreOp, B>,
     journal: &mut Journal<J>,

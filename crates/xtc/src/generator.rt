@@ -37,7 +37,7 @@ use crate::store::OpenStore;
 use crate::top_call::{Finish, Over, TX_LIMIT, with_disks};
 use command_lines::LineReply;
 use dewey_labels::{Label, NoMemory};
-use durable_sessions::{Base, Halt, Reason, Stop, answer, limit_in};
+use durable_sessions::{Halt, Reason, SessionBase, Stop, answer, limit_in};
 use journal::Journal;
 use node_seq::{NodeRead, SeqError};
 use outside_traits::{Disk, Sink};
@@ -79,7 +79,7 @@ pub fn run_gen<K: Sink, J: Disk, P: Disk + Drop>(
 }
 
 /// Runs the script over a base, which is refused if it has documents, and answers the line of its summary.
-fn generate_over<B: Base, J: Disk>(
+fn generate_over<B: SessionBase, J: Disk>(
     alloc: Global,
     seed: u32,
     count: u32,
@@ -139,7 +139,7 @@ fn some_document<S: NodeRead>(alloc: Global, seq: &mut S) -> Result<bool, Stop>
 }
 
 /// Runs the script over a base without documents, and answers the line of its summary.
-fn generate_in<B: Base, J: Disk>(
+fn generate_in<B: SessionBase, J: Disk>(
     alloc: Global,
     seed: u32,
     count: u32,
@@ -172,7 +172,7 @@ fn generate_in<B: Base, J: Disk>(
 }
 
 /// Runs the script, and answers the line of its summary.
-fn run_script<B: Base, J: Disk>(
+fn run_script<B: SessionBase, J: Disk>(
     alloc: Global,
     seed: u32,
     count: u32,
@@ -203,7 +203,7 @@ fn line_of(alloc: Global, summary: &Summary) -> Result<Vec<u8>, NoMemory>
 }
 
 /// Does the lines of a script up to the first begin or commit that is refused by the numbers that are left, and counts them and their replies.
-fn run_lines<B: Base, J: Disk>(
+fn run_lines<B: SessionBase, J: Disk>(
     alloc: Global,
     core: &mut Core<StoreOp, B>,
     journal: &mut Journal<J>,
@@ -224,7 +224,7 @@ fn run_lines<B: Base, J: Disk>(
 }
 
 /// Does a line, and counts it and its replies, which are made in `replies`.
-fn run_line<B: Base, J: Disk>(
+fn run_line<B: SessionBase, J: Disk>(
     alloc: Global,
     core: &mut Core<StoreOp, B>,
     journal: &mut Journal<J>,
@@ -251,7 +251,7 @@ fn run_line<B: Base, J: Disk>(
 }
 
 /// Does what a line asks.
-fn ask_line<B: Base, J: Disk>(
+fn ask_line<B: SessionBase, J: Disk>(
     alloc: Global,
     core: &mut Core<StoreOp, B>,
     journal: &mut Journal<J>,

@@ -96,6 +96,7 @@ impl From<End> for Status {
             End::WriteFault => Status::WriteFault,
             End::Halted(Halt::DiskFault) => Status::DiskFault,
             End::Halted(Halt::NoMemory) => Status::NoMemory,
+            End::Halted(Halt::Damaged(place)) => Status::Damaged(place),
         }
     }
 }

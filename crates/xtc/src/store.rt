@@ -14,7 +14,7 @@ ghost use Rattle.xtc.specs.ReadLines.{line_in};
 use crate::line::{ReadLine, read_line};
 use command_lines::{LineReply, write_reply};
 use dewey_labels::{List, NoMemory, Text};
-use durable_sessions::{Base, Halt, answer};
+use durable_sessions::{Halt, SessionBase, answer};
 use journal::Journal;
 use outside_traits::Disk;
 use overlays::Stacked;
@@ -92,7 +92,7 @@ impl<J: Disk, P: Disk + Drop> Store<J, P> {
 }
 
 /// Does a line that was read, by its number from 1, and adds its replies to `out`. They are made in `replies`.
-fn do_line<B: Base, J: Disk>(
+fn do_line<B: SessionBase, J: Disk>(
     alloc: Global,
     core: &mut Core<StoreOp, B>,
     journal: &mut Journal<J>,
@@ -122,7 +122,7 @@ fn do_line<B: Base, J: Disk>(
 }
 
 /// Does what a session is asked, and adds the replies to `out`. They are made in `replies`.
-fn ask<B: Base, J: Disk>(
+fn ask<B: SessionBase, J: Disk>(
     alloc: Global,
     core: &mut Core<StoreOp, B>,
     journal: &mut Journal<J>,
@@ -203,5 +203,13 @@ impl<J: Disk, P: Disk + Drop> LineMachine for Store<J, P> {
             Err(Halt::DiskFault) => Err(script_runs::Halt::DiskFault),
             Err(Halt::NoMemory) => Err(script_runs::Halt::NoMemory),
         }
+    }
+
+    fn is_due(&self) -> bool {
+        false
+    }
+
+    fn rest(&mut self, _alloc: Global) -> Result<(), script_runs::Halt> {
+        Ok(())
     }
 }

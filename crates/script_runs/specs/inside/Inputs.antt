@@ -2,6 +2,7 @@
 use Rattle.std.specs.Prelude.{◌≡◌, ℕ, ◌+◌, ◌-◌, ◌≤◌, List, [], length, Option, Result, Ok, Err, OnOk, IfSome}
 use Rattle.outside_kinds.specs.Bounds.{input_limit}
 use Rattle.outside_traits.specs.Bytes.{Gave}
+use Rattle.node_records.specs.declared.open_error.Place.{Place}
 use Rattle.script_runs.specs.Counts.{CountedWhere, DisksCountedWhere, ReadCountedWhere}
 use Rattle.script_runs.specs.Lines.{line_limit}
 use Rattle.script_runs.specs.Machine.{Machine}
@@ -9,7 +10,7 @@ use Rattle.script_runs.specs.Runs.{Ran}
 use Rattle.script_runs.specs.inside.Feeding.{Script, TakesFrom, IfGoesOn, went}
 use Rattle.script_runs.specs.declared.feeding.Stop.{Stop}
 use Rattle.script_runs.specs.declared.feeding.Stop.TheVariants.{WriteFault, Halted}
-use Rattle.script_runs.specs.declared.halt.Halt.TheVariants.{DiskFault}
+use Rattle.script_runs.specs.declared.halt.Halt.TheVariants.{DiskFault, Damaged}
 use Rattle.script_runs.specs.declared.running.End.{End}
 use Rattle.script_runs.specs.declared.running.End.TheVariants as end
 use Rattle.script_runs.specs.declared.running.Input.{Input}
@@ -29,6 +30,7 @@ pub record TakesInput {S K M : Type 0} (m : Machine M) (left : S → Option (Lis
   pub read : ReadCountedWhere (result ≡ Ok Fault) input_limit (faults source) (faults source_now) (given source) (given source_now)
   pub write : CountedWhere (result ≡ Err WriteFault) (write_faults sink) (write_faults sink_now)
   pub disk : DisksCountedWhere (result ≡ Err (Halted DiskFault)) (m.faults old.machine) (m.faults new.machine)
+  pub damaged : (place : Place) → result ≡ Err (Halted (Damaged place)) → m.damages
 
 -- What running a new script leaves, at its end.
 pub record RunsScript {S K M : Type 0} (m : Machine M) (left : S → Option (List ℕ)) (given asked faults : S → ℕ) (held : K → Option (List ℕ)) (write_faults : K → ℕ)
@@ -37,6 +39,8 @@ pub record RunsScript {S K M : Type 0} (m : Machine M) (left : S → Option (Lis
       × ((s : m.State) → m.stands old s → Ran m line_limit s how read (asked source_now - given source) (left source_now) (held sink) (held sink_now) old new)
   pub bound : given source_now ≤ given source + input_limit
   pub whole : how ≡ end.Done → IfSome (left source_now) (λ rest. rest ≡ [])
+  pub usable : how ≡ end.Done → m.usable new
   pub read : ReadCountedWhere (how ≡ end.ReadFault) input_limit (faults source) (faults source_now) (given source) (given source_now)
   pub write : CountedWhere (how ≡ end.WriteFault) (write_faults sink) (write_faults sink_now)
   pub disk : DisksCountedWhere (how ≡ end.Halted DiskFault) (m.faults old) (m.faults new)
+  pub damaged : (place : Place) → how ≡ end.Halted (Damaged place) → m.damages

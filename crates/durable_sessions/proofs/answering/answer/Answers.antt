@@ -9,7 +9,7 @@ use Rattle.session_driver.specs.Driving.{HasBegun}
 use Rattle.session_driver.specs.declared.doing.Doing.{Doing}
 use Rattle.session_driver.specs.declared.doing.Doing.TheVariants.{Commit}
 use Rattle.durable_sessions.specs.Asked.{asked_from, LeadsTo, LeavesEither}
-use Rattle.durable_sessions.proofs.AnswerLaws.{begun_over, Driven, DoneAtOnce, done_leads, grown_takes, on_ok, by_commit}
+use Rattle.durable_sessions.proofs.AnswerLaws.{begun_over, done_book, grown_by_none, grown_over, Driven, DoneAtOnce, done_leads, grown_takes, on_ok, by_commit}
 use Rattle.durable_sessions.proofs.answering.answer.Goals as goal
 
 -- ---- a line that is done at once
@@ -97,12 +97,49 @@ returns-in-Ok-Some-clause-begun g c =
 -- ---- what is left alone of the base
 
 pub returns-in-Ok-None-clause-base : goal.returns-in-Ok-None-clause-base
-returns-in-Ok-None-clause-base g c = g.met.B.Base.unchanged_stays c.args.core.now.base c.drive.new.core.base c.drive.ensures.unchanged
+returns-in-Ok-None-clause-base g c = g.met.B.SessionBase.unchanged_stays c.args.core.now.base c.drive.new.core.base c.drive.ensures.unchanged
 
 pub returns-in-Ok-Some-clause-base : goal.returns-in-Ok-Some-clause-base
 returns-in-Ok-Some-clause-base g c =
-    g.met.B.Base.stays_onward c.args.core.now.base c.drive.new.core.base c.commit.new.core.base
-    (g.met.B.Base.unchanged_stays c.args.core.now.base c.drive.new.core.base c.drive.ensures.unchanged) c.commit.ensures.base
+    g.met.B.SessionBase.stays_onward c.args.core.now.base c.drive.new.core.base c.commit.new.core.base
+    (g.met.B.SessionBase.unchanged_stays c.args.core.now.base c.drive.new.core.base c.drive.ensures.unchanged) c.commit.ensures.base
 
 pub returns-in-Err-clause-base : goal.returns-in-Err-clause-base
-returns-in-Err-clause-base g c = g.met.B.Base.unchanged_stays c.args.core.now.base c.drive.new.core.base c.drive.ensures.unchanged
+returns-in-Err-clause-base g c = g.met.B.SessionBase.unchanged_stays c.args.core.now.base c.drive.new.core.base c.drive.ensures.unchanged
+
+-- ---- what the book gains
+
+pub returns-in-Ok-None-clause-grown : goal.returns-in-Ok-None-clause-grown
+returns-in-Ok-None-clause-grown g c = grown_by_none c.args.core.now c.drive.new.core c.args.replies.now.items c.drive.new.out.items c.drive.ensures.later
+
+pub returns-in-Ok-Some-clause-grown : goal.returns-in-Ok-Some-clause-grown
+returns-in-Ok-Some-clause-grown g c =
+    let old = c.args.core.now in
+    let mid = c.drive.new.core in
+    let due : (mid ≡ record old { prepared = Some c.args.session }) × IsPrepared old c.in-Ok-Some.prepared
+    = subst (λ (p : Option Prepared). IfSome p (λ it. (mid ≡ record old { prepared = Some c.args.session }) × IsPrepared old it)) c.in-Ok-Some.field-0-is c.in-Ok-Some.ensures.prepared in
+    on_ok c.commit.result _ _ (grown_over c.args.session old mid c.commit.new.core due.0) c.commit.ensures.grown
+
+pub returns-in-Ok-None-clause-book : goal.returns-in-Ok-None-clause-book
+returns-in-Ok-None-clause-book g c =
+    let m = g.C.TreeCall.meaning in
+    let driven : DoneAtOnce g.C.TreeCall.is_valid m g.met.C.TreeCall.laws g.B.NodeRead.contents c.args.session c.args.doing c.args.core.now c.drive.new.core c.args.replies.now.items c.drive.new.out.items
+    = subst (Driven g.C.TreeCall.is_valid m g.met.C.TreeCall.laws g.B.NodeRead.contents c.args.session c.args.doing c.args.core.now c.drive.new.core c.args.replies.now.items c.drive.new.out.items) c.in-Ok-None.field-0-is c.in-Ok-None.ensures.line in
+    done_book m g.B.NodeRead.contents c.args.session c.args.doing c.args.core.now c.drive.new.core c.args.replies.now.items c.drive.new.out.items (λ t opened. (driven t opened).0)
+
+pub returns-in-Ok-Some-clause-book : goal.returns-in-Ok-Some-clause-book
+returns-in-Ok-Some-clause-book g c =
+    let m = g.C.TreeCall.meaning in
+    let old = c.args.core.now in
+    let mid = c.drive.new.core in
+    let new = c.commit.new.core in
+    let prepared = c.in-Ok-Some.prepared in
+    let driven : Driven g.C.TreeCall.is_valid m g.met.C.TreeCall.laws g.B.NodeRead.contents c.args.session c.args.doing old mid c.args.replies.now.items c.drive.new.out.items (Some prepared)
+    = subst (Driven g.C.TreeCall.is_valid m g.met.C.TreeCall.laws g.B.NodeRead.contents c.args.session c.args.doing old mid c.args.replies.now.items c.drive.new.out.items) c.in-Ok-Some.field-0-is c.in-Ok-Some.ensures.line in
+    let due : (mid ≡ record old { prepared = Some c.args.session }) × IsPrepared old prepared
+    = subst (λ (p : Option Prepared). IfSome p (λ it. (mid ≡ record old { prepared = Some c.args.session }) × IsPrepared old it)) c.in-Ok-Some.field-0-is c.in-Ok-Some.ensures.prepared in
+    on_ok c.commit.result _ _
+    (λ told. by_commit g.C.TreeCall.is_valid m g.met.C.TreeCall.laws g.B.NodeRead.contents (λ (d : Doing g.row.C.Denot) (s : State g.row.C.Denot). new.book ≡ old.book ++ (asked_from m s c.args.session d).book)
+    c.args.session c.args.doing old mid c.args.replies.now.items c.drive.new.out.items prepared driven due.0
+    (λ s stands. told s stands ∙ ap (λ v. v.book ++ (asked_from m s c.args.session Commit).book) due.0))
+    c.commit.ensures.book

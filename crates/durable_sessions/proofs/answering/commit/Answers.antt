@@ -1,6 +1,7 @@
-use Rattle.std.proofs.Common.{ap}
+use Rattle.std.proofs.Common.{◌∙◌, ap}
 use Rattle.journal.specs.Views.{JournalView}
-use Rattle.durable_sessions.proofs.AnswerLaws.{begun_nothing, on_err, commit_follows, commit_leaves, commit_leads_to, commit_takes, finished_over}
+use Rattle.session_driver.specs.declared.doing.Doing.TheVariants.{Commit}
+use Rattle.durable_sessions.proofs.AnswerLaws.{begun_nothing, on_err, commit_follows, commit_leaves, commit_leads_to, commit_takes, done_book, due_allowed, finished_over, grown_by_one}
 use Rattle.durable_sessions.proofs.answering.commit.Goals as goal
 
 pub append_group-requires-clause-commit : goal.append_group-requires-clause-commit
@@ -43,15 +44,27 @@ returns-in_err-append_group-clause-begun g c = on_err c.from_residual-in_err-app
 -- ---- what is left alone of the base
 
 pub returns-in_err-make_room-clause-base : goal.returns-in_err-make_room-clause-base
-returns-in_err-make_room-clause-base g c = g.met.B.Base.unchanged_stays c.args.core.now.base c.args.core.now.base (g.met.B.NodeRead.unchanged_itself c.args.core.now.base)
+returns-in_err-make_room-clause-base g c = g.met.B.SessionBase.unchanged_stays c.args.core.now.base c.args.core.now.base (g.met.B.NodeRead.unchanged_itself c.args.core.now.base)
 
 pub returns-in_err-append_group-clause-base : goal.returns-in_err-append_group-clause-base
-returns-in_err-append_group-clause-base g c = g.met.B.Base.unchanged_stays c.args.core.now.base c.args.core.now.base (g.met.B.NodeRead.unchanged_itself c.args.core.now.base)
+returns-in_err-append_group-clause-base g c = g.met.B.SessionBase.unchanged_stays c.args.core.now.base c.args.core.now.base (g.met.B.NodeRead.unchanged_itself c.args.core.now.base)
 
 pub returns-in-Ok-clause-base : goal.returns-in-Ok-clause-base
 returns-in-Ok-clause-base g c =
-    g.met.B.Base.stays_onward c.args.core.now.base c.finish_commit.new.core.base c.take_in.new.core.base
-    (g.met.B.Base.unchanged_stays c.args.core.now.base c.finish_commit.new.core.base c.finish_commit.ensures.unchanged) c.take_in.ensures.stays
+    g.met.B.SessionBase.stays_onward c.args.core.now.base c.finish_commit.new.core.base c.take_in.new.core.base
+    (g.met.B.SessionBase.unchanged_stays c.args.core.now.base c.finish_commit.new.core.base c.finish_commit.ensures.unchanged) c.take_in.ensures.stays
 
 pub returns-in-Err-clause-base : goal.returns-in-Err-clause-base
-returns-in-Err-clause-base g c = g.met.B.Base.unchanged_stays c.args.core.now.base c.finish_commit.new.core.base c.finish_commit.ensures.unchanged
+returns-in-Err-clause-base g c = g.met.B.SessionBase.unchanged_stays c.args.core.now.base c.finish_commit.new.core.base c.finish_commit.ensures.unchanged
+
+pub returns-in-Ok-clause-grown : goal.returns-in-Ok-clause-grown
+returns-in-Ok-clause-grown g c =
+    grown_by_one c.args.core.now c.finish_commit.new.core c.take_in.new.core c.args.session _ _ c.finish_commit.new.out.items c.finish_commit.ensures.made c.take_in.ensures.same
+
+pub returns-in-Ok-clause-book : goal.returns-in-Ok-clause-book
+returns-in-Ok-clause-book g c = λ s stands.
+    let m = g.C.TreeCall.meaning in
+    let contents = g.B.NodeRead.contents in
+    ap (λ v. v.book) c.take_in.ensures.same
+    ∙ done_book m contents c.args.session Commit c.args.core.now c.finish_commit.new.core c.args.replies.now.items c.finish_commit.new.out.items
+    (λ t opened. c.in-Ok.ensures.line t opened (due_allowed m contents c.args.core.now c.args.session c.args.prepared c.requires.due t opened)) s stands

@@ -75,7 +75,7 @@ returns-in_err-answer-clause-counts g t c = stop_counts c.from_residual.result c
 -- ---- what is left alone of the base
 
 pub returns-clause-base : goal.returns-clause-base
-returns-clause-base g t c = g.met.B.Base.stays_onward c.args.core.now.base c.answer.new.core.base c.ask_in_turn.new.core.base c.answer.ensures.base c.ask_in_turn.ensures.base
+returns-clause-base g t c = g.met.B.SessionBase.stays_onward c.args.core.now.base c.answer.new.core.base c.ask_in_turn.new.core.base c.answer.ensures.base c.ask_in_turn.ensures.base
 
 pub returns-in_default-clause-base : goal.returns-in_default-clause-base
-returns-in_default-clause-base g t c = g.met.B.Base.unchanged_stays c.args.core.now.base c.args.core.now.base (g.met.B.NodeRead.unchanged_itself c.args.core.now.base)
+returns-in_default-clause-base g t c = g.met.B.SessionBase.unchanged_stays c.args.core.now.base c.args.core.now.base (g.met.B.NodeRead.unchanged_itself c.args.core.now.base)

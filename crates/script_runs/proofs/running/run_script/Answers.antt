@@ -40,6 +40,7 @@ returns-in-Ok g c =
     (took.read.exact (λ it. end_is_no_failed_read (sym (ap as_end c.in-Ok-Ended.field-0-is) ∙ it)))
     (f.write.exact (step_is_no_stop _) ∙ took.write.exact (end_is_no_stop _ _))
     (f.disk.exact (step_is_no_stop _) ∙ took.disk.exact (end_is_no_stop _ _))
+    f.ready
 
 pub returns-in-Err-finish : goal.returns-in-Err-finish
 returns-in-Err-finish g c =
@@ -56,6 +57,7 @@ returns-in-Err-finish g c =
     (took.read.exact (λ it. end_is_no_failed_read (sym (ap as_end c.in-Ok-Ended.field-0-is) ∙ it)))
     (subst (λ n. CountedWhere (as_stop e ≡ Err stop.WriteFault) n (g.K.Sink.faults c.finish.new.sink)) (took.write.exact (end_is_no_stop _ _)) f.write)
     (subst (λ n. DisksCountedWhere (as_stop e ≡ Err (stop.Halted DiskFault)) n (m.faults c.finish.new.self.machine)) (took.disk.exact (end_is_no_stop _ _)) f.disk)
+    f.damaged
 
 pub returns-in-Ok-Fault : goal.returns-in-Ok-Fault
 returns-in-Ok-Fault g c =
@@ -124,3 +126,4 @@ returns-in-Err g c =
     (took.read.exact (stop_is_no_input _))
     (record { counted = λ it. took.write.counted (ap came it); exact = λ other. took.write.exact (λ it. other (ap went it)) })
     (record { counted = λ it. took.disk.counted (ap came it); exact = λ other. took.disk.exact (λ it. other (ap went it)) })
+    (λ place it. took.damaged place (ap came it))

@@ -3,12 +3,13 @@ use Rattle.std.specs.Prelude.{Option}
 use Rattle.std.proofs.Common.{rules, arith, refl, ap, ◌∙◌, append-nil, ◌≡◌, ◌+◌, ℕ, List, [], ◌++◌, take, sym, subst, length-append, Ok, Err}
 use Rattle.outside_traits.specs.Bytes.{Gave}
 use Rattle.outside_traits.proofs.Laws.{gave_none, gave_on}
+use Rattle.node_records.specs.declared.open_error.Place.{Place}
 use Rattle.script_runs.specs.Lines.{line_limit}
 use Rattle.script_runs.proofs.LogLaws.{flushed_on}
 use Rattle.script_runs.specs.Counts.{DisksCountedWhere}
 use Rattle.script_runs.specs.declared.feeding.Stop.{Stop}
 use Rattle.script_runs.specs.declared.feeding.Stop.TheVariants.{WriteFault, Halted}
-use Rattle.script_runs.specs.declared.halt.Halt.TheVariants.{DiskFault}
+use Rattle.script_runs.specs.declared.halt.Halt.TheVariants.{DiskFault, Damaged}
 use Rattle.script_runs.proofs.AnswerLaws.{as_stop, step_is_no_stop}
 use Rattle.script_runs.proofs.InputLaws.{takes_none, takes_flushed, takes_fault, takes_end, takes_piece, counted_from, stops_unwritten, input_stopped, input_failed, input_ended}
 use Rattle.script_runs.proofs.running.take_pieces.Goals as goal
@@ -16,6 +17,10 @@ use Rattle.script_runs.proofs.running.take_pieces.Goals as goal
 -- a failed write is no failed disk
 write_is_no_halt : (e : Stop) → as_stop e ≡ Err WriteFault → as_stop e ≡ Err (Halted DiskFault) → ⊥
 write_is_no_halt e is it = cc
+
+-- nor a damaged file
+write_is_no_damage : (e : Stop) (place : Place) → as_stop e ≡ Err WriteFault → as_stop e ≡ Err (Halted (Damaged place)) → ⊥
+write_is_no_damage e place is it = cc
 
 -- one piece more was given
 gave_piece : (a b c : Option (List ℕ)) (read piece prefix : List ℕ) → Gave a b read → piece ≡ prefix → Gave b c prefix → Gave a c (read ++ piece)
@@ -51,6 +56,7 @@ returns-in_err-flush-clause-takes g c =
     invariant.no_read_fault
     (counted_from (as_stop e ≡ Err WriteFault) (g.K.Sink.faults c.args.sink.now) (g.K.Sink.faults c.loop-source.sink) (g.K.Sink.faults c.flush.new.sink) invariant.no_write_fault f.write)
     (record { counted = λ it. absurd (write_is_no_halt e f.error it); exact = λ other. ap m.faults f.machine ∙ invariant.no_disk_fault })
+    (λ place it. absurd (write_is_no_damage e place f.error it))
 
 pub returns-in-Err-clause-takes : goal.returns-in-Err-clause-takes
 returns-in-Err-clause-takes g c =
@@ -127,6 +133,7 @@ returns-in_err-feed-clause-takes g c =
     (r.below.exact ∙ invariant.no_read_fault)
     (counted_from (as_stop e ≡ Err WriteFault) (g.K.Sink.faults c.args.sink.now) (g.K.Sink.faults c.flush.new.sink) (g.K.Sink.faults c.feed.new.sink) (f.write.exact (step_is_no_stop _) ∙ invariant.no_write_fault) fed.write)
     (subst (λ n. DisksCountedWhere (as_stop e ≡ Err (Halted DiskFault)) n (m.faults c.feed.new.self.machine)) (ap m.faults f.machine ∙ invariant.no_disk_fault) fed.disk)
+    fed.damaged
 
 pub loop-source-preserved : goal.loop-source-preserved
 loop-source-preserved g c =

@@ -17,7 +17,7 @@ returns-in-Ok-clause-done g c =
     (done.0, done.1, done.2, done.3, λ t is. done.4 (start t c.args.number tx_limit) (core_stands g.B.NodeRead.contents c.args.base c.args.number tx_limit c.in-Ok.core c.in-Ok.ensures.ok t is))
 
 pub returns-in-Ok-clause-base : goal.returns-in-Ok-clause-base
-returns-in-Ok-clause-base g c = base_stays g.B.NodeRead.contents c.args.base c.args.number tx_limit c.in-Ok.core c.in-Ok.ensures.ok g.B.Base.stays c.put_input-text.new.core.base c.into_base.result c.into_base.ensures c.put_input-text.ensures.base
+returns-in-Ok-clause-base g c = base_stays g.B.NodeRead.contents c.args.base c.args.number tx_limit c.in-Ok.core c.in-Ok.ensures.ok g.B.SessionBase.stays c.put_input-text.new.core.base c.into_base.result c.into_base.ensures c.put_input-text.ensures.base
 
 pub returns-in-Ok-clause-counts : goal.returns-in-Ok-clause-counts
 returns-in-Ok-clause-counts g c = counts_from g.B.NodeRead.contents c.args.base c.args.number tx_limit c.in-Ok.core c.in-Ok.ensures.ok g.B.NodeRead.count c.put_input-text.new.core.base c.into_base.result c.into_base.ensures c.args.journal.now.faults c.put_input-text.new.journal.faults c.put_input-text.ensures.counts
@@ -32,4 +32,4 @@ returns-in-Err-clause-done g c = (
 )
 
 pub returns-in-Err-clause-base : goal.returns-in-Err-clause-base
-returns-in-Err-clause-base g c = subst (g.B.Base.stays c.args.base) (sym c.in-Err.ensures.err) (g.met.B.Base.unchanged_stays _ _ (g.met.B.NodeRead.unchanged_itself c.args.base))
+returns-in-Err-clause-base g c = subst (g.B.SessionBase.stays c.args.base) (sym c.in-Err.ensures.err) (g.met.B.SessionBase.unchanged_stays _ _ (g.met.B.NodeRead.unchanged_itself c.args.base))

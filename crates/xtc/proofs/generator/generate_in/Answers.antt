@@ -15,7 +15,7 @@ returns-in-Ok-clause-done g c = λ t is empty.
     c.run_script-text.ensures.done (start t c.args.number tx_limit) (core_stands g.B.NodeRead.contents c.args.base c.args.number tx_limit c.in-Ok.core c.in-Ok.ensures.ok t is) empty
 
 pub returns-in-Ok-clause-base : goal.returns-in-Ok-clause-base
-returns-in-Ok-clause-base g c = base_stays g.B.NodeRead.contents c.args.base c.args.number tx_limit c.in-Ok.core c.in-Ok.ensures.ok g.B.Base.stays c.run_script-text.new.core.base c.into_base.result c.into_base.ensures c.run_script-text.ensures.base
+returns-in-Ok-clause-base g c = base_stays g.B.NodeRead.contents c.args.base c.args.number tx_limit c.in-Ok.core c.in-Ok.ensures.ok g.B.SessionBase.stays c.run_script-text.new.core.base c.into_base.result c.into_base.ensures c.run_script-text.ensures.base
 
 pub returns-in-Ok-clause-counts : goal.returns-in-Ok-clause-counts
 returns-in-Ok-clause-counts g c = counts_from g.B.NodeRead.contents c.args.base c.args.number tx_limit c.in-Ok.core c.in-Ok.ensures.ok g.B.NodeRead.count c.run_script-text.new.core.base c.into_base.result c.into_base.ensures c.args.journal.now.faults c.run_script-text.new.journal.faults c.run_script-text.ensures.counts
@@ -24,4 +24,4 @@ pub returns-in-Err-clause-done : goal.returns-in-Err-clause-done
 returns-in-Err-clause-done g c = λ t is empty. nothing_asked g.J.Disk.is_known (start t c.args.number tx_limit) (gen c.args.seed c.args.count) [] c.args.journal.now.history NoMemory tt (omega arith)
 
 pub returns-in-Err-clause-base : goal.returns-in-Err-clause-base
-returns-in-Err-clause-base g c = subst (g.B.Base.stays c.args.base) (sym c.in-Err.ensures.err) (g.met.B.Base.unchanged_stays _ _ (g.met.B.NodeRead.unchanged_itself c.args.base))
+returns-in-Err-clause-base g c = subst (g.B.SessionBase.stays c.args.base) (sym c.in-Err.ensures.err) (g.met.B.SessionBase.unchanged_stays _ _ (g.met.B.NodeRead.unchanged_itself c.args.base))

@@ -12,7 +12,7 @@ pub loop-line-init : goal.loop-line-init
 loop-line-init g c = record {
   run = λ s stands. none_run g.B.NodeRead.contents g.J.Disk.is_known s c.args.script.now c.args.core.now c.args.journal.now.history c.args.summary.now stands;
   takes = c.requires.takes;
-  stays = g.met.B.Base.unchanged_stays _ _ (g.met.B.NodeRead.unchanged_itself c.args.core.now.base);
+  stays = g.met.B.SessionBase.unchanged_stays _ _ (g.met.B.NodeRead.unchanged_itself c.args.core.now.base);
   no_fault = refl;
 }
 
@@ -34,7 +34,7 @@ loop-line-preserved g c =
           (here_stands g.B.NodeRead.contents g.J.Disk.is_known s c.args.script.now left c.in-Some.line c.args.journal.now.history mid c.loop-line.core c.args.summary.now c.loop-line.summary (run s stands)))
           c.in_ok-run_line.ensures.counted;
       takes = c.in_ok-run_line.ensures.takes;
-      stays = g.met.B.Base.stays_onward _ _ _ inv.stays c.in_ok-run_line.ensures.base;
+      stays = g.met.B.SessionBase.stays_onward _ _ _ inv.stays c.in_ok-run_line.ensures.base;
       no_fault = c.in_ok-run_line.ensures.counts.exact (λ is. cc) ∙ inv.no_fault;
     }
 
@@ -55,4 +55,4 @@ returns-clause-ran g c = λ s stands.
     run_ends g.B.NodeRead.contents g.J.Disk.is_known s c.args.script.now c.loop-line.script c.args.journal.now.history c.loop-line.journal.history c.loop-line.core c.args.summary.now c.loop-line.summary (c.loop-line.invariant.run s stands) c.in_default.ensures.0
 
 pub returns-in_err-run_line-clause-base : goal.returns-in_err-run_line-clause-base
-returns-in_err-run_line-clause-base g c = g.met.B.Base.stays_onward _ _ _ c.loop-line.invariant.stays c.in_err-run_line.ensures.base
+returns-in_err-run_line-clause-base g c = g.met.B.SessionBase.stays_onward _ _ _ c.loop-line.invariant.stays c.in_err-run_line.ensures.base

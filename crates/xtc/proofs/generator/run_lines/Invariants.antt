@@ -12,7 +12,7 @@ abbrev pub invariant-loop-line : goal.invariant-loop-line
 invariant-loop-line g l = record {
   run : (s : State StoreCall) → Stands store_meaning g.B.NodeRead.contents l.fn.core s → HasRun g.B.NodeRead.contents g.J.Disk.is_known s l.fn.script l.script l.fn.journal.history l.core l.journal.history l.fn.summary l.summary;
   takes : TakesNext l.core l.journal;
-  stays : g.B.Base.stays l.fn.core.base l.core.base;
+  stays : g.B.SessionBase.stays l.fn.core.base l.core.base;
   no_fault : counts_of g.B.NodeRead.count l.core l.journal ≡ counts_of g.B.NodeRead.count l.fn.core l.fn.journal;
 }
 

@@ -57,7 +57,7 @@ returns-in-Ok g c =
           c.run-run.result.end read.0 _ _ _ _ c.new-in-Ok.result m old _ same (record { files = λ i. pair_of (journal_is i) (pages_is i); journal_image = out.images.0 kj; pages_image = out.images.1 kp }) read.3 _ refl,
     ) ran.whole ran.bound ran.read ran.write
     (disks_moved _ _ _ _ (λ i. record { journal = (same i).journal.faults; pages = faults (same i).core.base.base.disk })
-    (λ i. record { journal = (out.journal.1 ∙ ap (λ (j : JournalView). j.faults) parts.journal) i; pages = (ap faults out.pages ∙ ap (λ (b : Held g.row.P.Denot). faults b.base.disk) parts.base) i }) ran.disk))
+    (λ i. record { journal = (out.journal.1 ∙ ap (λ (j : JournalView). j.faults) parts.journal) i; pages = (ap faults out.pages ∙ ap (λ (b : Held g.row.P.Denot). faults b.base.disk) parts.base) i }) ran.disk) ran.damaged)
 
 -- there is no memory for a core, and nothing is read
 pub returns-in-Err : goal.returns-in-Err
