@@ -1,5 +1,5 @@
 -- The pages of a file, and those that are kept in memory (docs/FILE_FORMAT.md, "The page file").
-use Rattle.std.specs.Prelude.{◌≡◌, ℕ, ◌+◌, ◌-◌, ◌*◌, ◌^◌, min, Bool, if◌then◌else◌, nat_eq, List, take, drop, is_some}
+use Rattle.std.specs.Prelude.{◌≡◌, ◌≤◌, ℕ, ◌+◌, ◌-◌, ◌*◌, ◌^◌, min, Bool, if◌then◌else◌, nat_eq, List, take, drop, is_some, IsTrue}
 use Rattle.std.specs.List.{AllByRecursion}
 use Rattle.std.specs.Map.{lookup}
 
@@ -32,3 +32,9 @@ one_more n = min (n + 1) (2 ^ 64 - 1)
 -- how many were read after a page was asked for: one more where it wasn't kept
 abbrev pub reads_after : ℕ → PoolView → ℕ
 reads_after page pool = if is_kept page pool then pool.reads else one_more pool.reads
+
+-- a pool after a page was asked for, whether it was answered or not: it has the same room, and at most one page was read, none where that page was kept
+pub record IsAfterAsking (page : ℕ) (old new : PoolView) : Type 0 where
+  pub most : new.most ≡ old.most
+  pub reads : new.reads ≤ old.reads + 1
+  pub unread : IsTrue (is_kept page old) → new.reads ≡ old.reads

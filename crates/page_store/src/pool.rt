@@ -4,7 +4,7 @@ ghost use Rattle.std.specs.Map.{lookup};
 ghost use Rattle.std.specs.Borrow.{sem, follows_so};
 ghost use mathlib.Core.Option.{none};
 ghost use Rattle.outside_traits.specs.Faults.{HasCause};
-ghost use Rattle.page_store.specs.Pages.{ArePagesOf, is_kept, page_of, reads_after};
+ghost use Rattle.page_store.specs.Pages.{ArePagesOf, IsAfterAsking, is_kept, page_of, reads_after};
 ghost use Rattle.page_store.specs.contracts.pool.Pool.{the_row};
 ghost use Rattle.page_store.specs.declared.page_error.PageError.TheVariants.{DiskFault};
 
@@ -120,6 +120,7 @@ impl Pool {
     }
 
     /// A page of the file, read where it isn't kept: `fill` and `frame` in one. What is kept was read since the file was written.
+    /// The page that is answered stays among those that are kept.
     pub fn read_page<P: Disk>(
         &mut self,
         alloc: Global,
@@ -128,7 +129,10 @@ impl Pool {
     ) -> Result<&[u8], PageError>
         requires within { IsTrue P.is_known → 8_192 * page + 8_192 ≤ length (P.history disk.old).now.reads }
         requires pages { IsTrue P.is_known → ArePagesOf (P.history disk.old).now.reads self.old.kept }
-        ensures* after { sem 𝓛 (follows_so the_row the_row self.entry.ghost_name none (λ _ _. ⊤) (λ n. (n.most ≡ self.old.most) × (n.reads ≤ self.old.reads + 1) × (IsTrue P.is_known → ArePagesOf (P.history disk.old).now.reads n.kept))) }
+        ensures* after { sem 𝓛 (follows_so the_row the_row self.entry.ghost_name none (λ _ _. ⊤)
+            (λ n. IsAfterAsking page self.old n × OnOk result (IsTrue (is_kept page n)) × (IsTrue P.is_known → ArePagesOf (P.history disk.old).now.reads n.kept))) }
+        // What is kept is answered without a read, memory or fault.
+        ensures kept_suffices { IsTrue (is_kept page self.old) → IsOk result }
         ensures value { IfOk result (λ bytes. IsTrue P.is_known → bytes.now ≡ page_of page (P.history disk.old).now.reads) }
         ensures length { IfOk result (λ bytes. length bytes.now ≡ 8_192) }
         ensures same { IsTrue P.is_known → P.history disk.new ≡ P.history disk.old }

@@ -5,3 +5,4 @@ pub mod PlaceLaws
 pub mod RecordLaws
 pub mod ValidLaws
 pub mod SizeLaws
+pub mod CostLaws

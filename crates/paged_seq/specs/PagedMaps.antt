@@ -1,5 +1,5 @@
 -- The map that a file of pages has for its readers: the entries that a valid tree may have (docs/FILE_FORMAT.md, "The page file").
-use Rattle.std.specs.Prelude.{ℕ, ◌+◌, ◌/◌, Bool, ◌&&◌, ◌||◌, nat_le, cond, List, [], filter, length, Option, Some, None, Result, Ok, Err}
+use Rattle.std.specs.Prelude.{ℕ, ◌+◌, ◌/◌, Bool, ◌&&◌, ◌||◌, nat_le, cond, List, [], ◌∷◌, filter, length, reverse, Option, Some, None, Result, Ok, Err}
 use Rattle.dewey_labels.specs.Labels.{is_label_within, level}
 use Rattle.node_records.specs.Records.{record_bytes}
 use Rattle.node_pages.specs.Chunks.{records_in}
@@ -7,7 +7,7 @@ use Rattle.node_pages.specs.PageFiles.{contents_of_file}
 use Rattle.node_pages.specs.PagesIn.{entries_from}
 use Rattle.tree_model.specs.declared.key.Key.{Key}
 use Rattle.tree_model.specs.declared.record.Record.{Record}
-use Rattle.tree_model.specs.Entries.{Entries}
+use Rattle.tree_model.specs.Entries.{Entries, entries_above, entries_below}
 use Rattle.tree_model.specs.Limits.{deepest_level}
 use Rattle.tree_model.specs.Names.{Name, is_name}
 use Rattle.tree_model.specs.Records.{record_fits}
@@ -59,3 +59,16 @@ chunks_found (Some r) = chunk_count (length (record_bytes r))
 abbrev pub chunks_of_entry : Option (Key × Record) → ℕ
 chunks_of_entry None = 0
 chunks_of_entry (Some e) = chunk_count (length (record_bytes e.1))
+
+-- going over entries until the first that a valid tree may have: three pages for each and for the end, and one a chunk of its record
+abbrev pub passing_cost : Entries → ℕ
+passing_cost [] = 3
+passing_cost (e ∷ es) = 3 + chunk_count (length (record_bytes e.1)) + cond (is_valid_entry e) 0 (passing_cost es)
+
+-- looking upwards from a key
+abbrev pub next_cost : Key → Entries → ℕ
+next_cost k es = passing_cost (entries_above k es)
+
+-- looking downwards
+abbrev pub prev_cost : Key → Entries → ℕ
+prev_cost k es = passing_cost (reverse (entries_below k es))

@@ -4,10 +4,11 @@ ghost use Rattle.outside_traits.specs.Faults.{FaultCounted, HasCause};
 ghost use Rattle.page_store.specs.Pages.{ArePagesOf};
 ghost use Rattle.tree_model.specs.Entries.{Sorted, first_above, get, last_below};
 ghost use Rattle.node_pages.specs.PageFiles.{contents_of_file};
-ghost use Rattle.node_seq.specs.Reads.{IsEntryOfTrees, LiesAbove, LiesBelow};
+ghost use Rattle.node_seq.specs.Reads.{Finds, IsEntryOfTrees, IsKeyAbove, IsKeyBelow, IsKeyOfTrees, IsRecordOfTrees, LiesAbove, LiesBelow};
+ghost use Rattle.node_seq.specs.Reads.{key_above, key_below};
 ghost use Rattle.node_seq.specs.declared.node_read.SeqError.TheVariants.{DiskFault};
 ghost use Rattle.paged_seq.specs.PagedFiles.{AllPagesKeepRules, BreaksPages, HasReason, IfDamagedAtFirst};
-ghost use Rattle.paged_seq.specs.PagedMaps.{chunks_found, chunks_of_entry, file_entries, valid_entries};
+ghost use Rattle.paged_seq.specs.PagedMaps.{chunks_found, chunks_of_entry, file_entries, map_of_file, next_cost, prev_cost, valid_entries};
 
 use crate::opening::{PagesFault, read_index};
 use crate::page_file::PageFile;
@@ -177,11 +178,14 @@ impl<P: Disk + Drop> PagedSeq<P> {
         PAGE_BYTES as u64 * self.starts.len() as u64
     }
 
-    /// The entry with the least key above a key, of those that a valid tree may have. Each other one that is passed over costs as much again.
+    /// The entry with the least key above a key, of those that a valid tree may have.
+    /// At most three pages are read, and one a chunk of the record. Each other entry that is passed over costs as much again.
     fn valid_above(&mut self, alloc: Global, key: &Key) -> Result<Option<(Key, Record)>, SeqError>
         ensures value { IfOk result (λ found. IsTrue P.is_known → found ≡ first_above key.now (valid_entries (file_entries (P.history self.old.disk).now.reads))) }
         ensures above { IfOk result (LiesAbove key.now) }
         ensures valid { IfOk result IsEntryOfTrees }
+        ensures pages { OnOk result (IsTrue P.is_known
+            → self.new.pool.reads ≤ self.old.pool.reads + next_cost key.now (file_entries (P.history self.old.disk).now.reads)) }
         ensures most { self.new.pool.most ≡ self.old.pool.most }
         ensures same { IsTrue P.is_known → P.history self.new.disk ≡ P.history self.old.disk }
         ensures index { self.new.index ≡ self.old.index }
@@ -198,11 +202,14 @@ impl<P: Disk + Drop> PagedSeq<P> {
         Ok(None)
     }
 
-    /// The entry with the greatest key below a key, of those that a valid tree may have. Each other one that is passed over costs as much again.
+    /// The entry with the greatest key below a key, of those that a valid tree may have.
+    /// At most three pages are read, and one a chunk of the record. Each other entry that is passed over costs as much again.
     fn valid_below(&mut self, alloc: Global, key: &Key) -> Result<Option<(Key, Record)>, SeqError>
         ensures value { IfOk result (λ found. IsTrue P.is_known → found ≡ last_below key.now (valid_entries (file_entries (P.history self.old.disk).now.reads))) }
         ensures below { IfOk result (LiesBelow key.now) }
         ensures valid { IfOk result IsEntryOfTrees }
+        ensures pages { OnOk result (IsTrue P.is_known
+            → self.new.pool.reads ≤ self.old.pool.reads + prev_cost key.now (file_entries (P.history self.old.disk).now.reads)) }
         ensures most { self.new.pool.most ≡ self.old.pool.most }
         ensures same { IsTrue P.is_known → P.history self.new.disk ≡ P.history self.old.disk }
         ensures index { self.new.index ≡ self.old.index }
@@ -232,18 +239,87 @@ impl<P: Disk + Drop> NodeRead for PagedSeq<P> {
 
     ghost unchanged = { λ s t. (IsTrue P.is_known → P.history t.disk ≡ P.history s.disk) × (P.faults s.disk ≤ P.faults t.disk) × (t.index ≡ s.index) × (t.pool.most ≡ s.pool.most) };
 
-    fn get(&mut self, alloc: Global, key: &Key) -> Result<Option<Record>, SeqError> {
+    /// At most two pages are read, and one a chunk of the record that the pages have there.
+    fn get(&mut self, alloc: Global, key: &Key) -> Result<Option<Record>, SeqError>
+        ensures value { Finds (map_of_file P.is_known (P.history self.old.disk).now.reads) result (get key.now) }
+        ensures valid { IfOk result IsRecordOfTrees }
+        ensures pages { OnOk result (IsTrue P.is_known
+            → self.new.pool.reads ≤ self.old.pool.reads + 2 + chunks_found (get key.now (file_entries (P.history self.old.disk).now.reads))) }
+        ensures most { self.new.pool.most ≡ self.old.pool.most }
+        ensures same { IsTrue P.is_known → P.history self.new.disk ≡ P.history self.old.disk }
+        ensures index { self.new.index ≡ self.old.index }
+        ensures cause { HasCause DiskFault (P.faults self.old.disk) (P.faults self.new.disk) result }
+    {
         let _sorted = self.most_entries();
         let found = self.record_at(alloc, key)?;
         Ok(valid_at(key, found))
     }
 
-    fn next_from(&mut self, alloc: Global, key: &Key) -> Result<Option<(Key, Record)>, SeqError> {
+    /// At most three pages are read, and one a chunk of the record.
+    /// An entry that is passed over, because no valid tree has it, costs as much again.
+    fn next_from(&mut self, alloc: Global, key: &Key) -> Result<Option<(Key, Record)>, SeqError>
+        ensures value { Finds (map_of_file P.is_known (P.history self.old.disk).now.reads) result (first_above key.now) }
+        ensures above { IfOk result (LiesAbove key.now) }
+        ensures valid { IfOk result IsEntryOfTrees }
+        ensures pages { OnOk result (IsTrue P.is_known
+            → self.new.pool.reads ≤ self.old.pool.reads + next_cost key.now (file_entries (P.history self.old.disk).now.reads)) }
+        ensures most { self.new.pool.most ≡ self.old.pool.most }
+        ensures same { IsTrue P.is_known → P.history self.new.disk ≡ P.history self.old.disk }
+        ensures index { self.new.index ≡ self.old.index }
+        ensures cause { HasCause DiskFault (P.faults self.old.disk) (P.faults self.new.disk) result }
+    {
         self.valid_above(alloc, key)
     }
 
-    fn prev_from(&mut self, alloc: Global, key: &Key) -> Result<Option<(Key, Record)>, SeqError> {
+    /// As many pages are read as for `next_from`.
+    fn prev_from(&mut self, alloc: Global, key: &Key) -> Result<Option<(Key, Record)>, SeqError>
+        ensures value { Finds (map_of_file P.is_known (P.history self.old.disk).now.reads) result (last_below key.now) }
+        ensures below { IfOk result (LiesBelow key.now) }
+        ensures valid { IfOk result IsEntryOfTrees }
+        ensures pages { OnOk result (IsTrue P.is_known
+            → self.new.pool.reads ≤ self.old.pool.reads + prev_cost key.now (file_entries (P.history self.old.disk).now.reads)) }
+        ensures most { self.new.pool.most ≡ self.old.pool.most }
+        ensures same { IsTrue P.is_known → P.history self.new.disk ≡ P.history self.old.disk }
+        ensures index { self.new.index ≡ self.old.index }
+        ensures cause { HasCause DiskFault (P.faults self.old.disk) (P.faults self.new.disk) result }
+    {
         self.valid_below(alloc, key)
+    }
+
+    /// The key of `next_from`, whose record is read too.
+    fn key_above(&mut self, alloc: Global, key: &Key) -> Result<Option<Key>, SeqError>
+        ensures value { Finds (map_of_file P.is_known (P.history self.old.disk).now.reads) result (key_above key.now) }
+        ensures above { IfOk result (IsKeyAbove key.now) }
+        ensures valid { IfOk result IsKeyOfTrees }
+        ensures pages { OnOk result (IsTrue P.is_known
+            → self.new.pool.reads ≤ self.old.pool.reads + next_cost key.now (file_entries (P.history self.old.disk).now.reads)) }
+        ensures most { self.new.pool.most ≡ self.old.pool.most }
+        ensures same { IsTrue P.is_known → P.history self.new.disk ≡ P.history self.old.disk }
+        ensures index { self.new.index ≡ self.old.index }
+        ensures cause { HasCause DiskFault (P.faults self.old.disk) (P.faults self.new.disk) result }
+    {
+        match self.valid_above(alloc, key)? {
+            Some((at, _)) => Ok(Some(at)),
+            None => Ok(None),
+        }
+    }
+
+    /// The key of `prev_from`, whose record is read too.
+    fn key_below(&mut self, alloc: Global, key: &Key) -> Result<Option<Key>, SeqError>
+        ensures value { Finds (map_of_file P.is_known (P.history self.old.disk).now.reads) result (key_below key.now) }
+        ensures below { IfOk result (IsKeyBelow key.now) }
+        ensures valid { IfOk result IsKeyOfTrees }
+        ensures pages { OnOk result (IsTrue P.is_known
+            → self.new.pool.reads ≤ self.old.pool.reads + prev_cost key.now (file_entries (P.history self.old.disk).now.reads)) }
+        ensures most { self.new.pool.most ≡ self.old.pool.most }
+        ensures same { IsTrue P.is_known → P.history self.new.disk ≡ P.history self.old.disk }
+        ensures index { self.new.index ≡ self.old.index }
+        ensures cause { HasCause DiskFault (P.faults self.old.disk) (P.faults self.new.disk) result }
+    {
+        match self.valid_below(alloc, key)? {
+            Some((at, _)) => Ok(Some(at)),
+            None => Ok(None),
+        }
     }
 
     fn faults(&self) -> u64 {

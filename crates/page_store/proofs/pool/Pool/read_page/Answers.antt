@@ -8,9 +8,10 @@ returns g c =
     let file = (g.P.Disk.history c.args.disk.now).now.reads in
     let kept : IsTrue g.P.Disk.is_known → ArePagesOf (g.P.Disk.history c.args.disk.now).now.reads c.fill.new.self.kept =
     λ known. subst (λ (h : History). ArePagesOf h.now.reads c.fill.new.self.kept) (c.fill.ensures.same known) (c.fill.ensures.pages known) in (
-      (refl, λ _. tt, (c.fill.ensures.most, c.fill.ensures.reads, kept)),
+      (refl, λ _. tt, (search rules, search rules, kept)),
       record {
         after = tt;
+        kept_suffices = λ _. refl;
         value = λ known. c.in-Some.ensures.page file (kept known);
         length = c.in-Some.ensures.length;
         same = c.fill.ensures.same;

@@ -1,7 +1,8 @@
-use Rattle.std.proofs.Common.{◌≡◌, length, sym, ap, ◌∙◌, arith}
+use Rattle.std.proofs.Common.{◌≡◌, ◌+◌, length, sym, ap, ◌∙◌, arith}
 use Rattle.outside_traits.specs.Moments.{History}
 use Rattle.tree_model.specs.Entries.{last_below}
-use Rattle.paged_seq.specs.PagedMaps.{file_entries, valid_entries}
+use Rattle.paged_seq.specs.PagedMaps.{file_entries, prev_cost, valid_entries}
+use Rattle.paged_seq.proofs.CostLaws.{on_below, down_cost, down_cost_first, within_cost}
 use Rattle.paged_seq.proofs.ValidLaws.{below_valid, prev_valid, down_end, down_first, down_found, down_left, down_passed, down_side}
 use Rattle.paged_seq.proofs.seq.PagedSeq.valid_below.Goals as goal
 
@@ -19,6 +20,9 @@ loop-init g c = record {
       let es = file_entries (g.P.Disk.history c.args.self.now.disk).now.reads in
       let first = down_first es c.args.key.now c.in_ok-found.found (c.most_entries-most.ensures.sorted known) (c.in_ok-found.ensures.value known) in
       omega (arith, first);
+  pages = λ known.
+      down_cost_first c.args.key.now (file_entries (g.P.Disk.history c.args.self.now.disk).now.reads) c.entry_below.new.self.pool.reads c.args.self.now.pool.reads c.in_ok-found.found
+      (c.most_entries-most.ensures.sorted known) (c.in_ok-found.ensures.value known) (c.in_ok-found.ensures.reads known);
 }
 
 pub loop-preserved : goal.loop-preserved
@@ -39,6 +43,11 @@ loop-preserved g c =
           let es = file_entries (g.P.Disk.history c.args.self.now.disk).now.reads in
           let next : c.in_ok-found-in-Err.found ≡ last_below c.in-Err.at es = c.in_ok-found-in-Err.ensures.value known ∙ ap (λ (h : History). last_below c.in-Err.at (file_entries h.now.reads)) (inv.same known) in
           down_left es c.loop.counter (length es) c.loop.found c.in_ok-found-in-Err.found c.in-Err.at passed.0 (c.most_entries-most.ensures.sorted known) (inv.left known) passed.1 next;
+      pages = λ known.
+          let es = file_entries (g.P.Disk.history c.args.self.now.disk).now.reads in
+          let next : c.in_ok-found-in-Err.found ≡ last_below c.in-Err.at es = c.in_ok-found-in-Err.ensures.value known ∙ ap (λ (h : History). last_below c.in-Err.at (file_entries h.now.reads)) (inv.same known) in
+          down_cost es c.loop.self.pool.reads c.entry_below-in-Err.new.self.pool.reads (c.args.self.now.pool.reads + prev_cost c.args.key.now es) c.loop.found c.in_ok-found-in-Err.found c.in-Err.at passed.0
+          (c.most_entries-most.ensures.sorted known) passed.1 passed.2 next (inv.pages known) (c.in_ok-found-in-Err.ensures.reads known);
     }
 
 pub returns-in-Ok-clause-value : goal.returns-in-Ok-clause-value
@@ -52,3 +61,13 @@ returns-clause-value g c known =
     let most = c.most_entries-most.ensures.most known in
     let end = c.loop-test.false in
     down_end es c.loop.counter (last_below c.args.key.now (valid_entries es)) c.loop.found (c.loop.invariant.value known) (c.loop.invariant.left known) (omega (arith, most, end))
+
+pub returns-in-Ok-clause-pages : goal.returns-in-Ok-clause-pages
+returns-in-Ok-clause-pages g c known =
+    let es = file_entries (g.P.Disk.history c.args.self.now.disk).now.reads in
+    within_cost c.loop.self.pool.reads (on_below es c.loop.found) (c.args.self.now.pool.reads + prev_cost c.args.key.now es) (c.loop.invariant.pages known)
+
+pub returns-clause-pages : goal.returns-clause-pages
+returns-clause-pages g c known =
+    let es = file_entries (g.P.Disk.history c.args.self.now.disk).now.reads in
+    within_cost c.loop.self.pool.reads (on_below es c.loop.found) (c.args.self.now.pool.reads + prev_cost c.args.key.now es) (c.loop.invariant.pages known)
