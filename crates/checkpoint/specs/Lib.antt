@@ -1,3 +1,4 @@
+pub mod Bases
 pub mod Checkpoints
 pub mod NewPages
 pub mod inside
