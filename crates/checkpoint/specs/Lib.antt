@@ -1,4 +1,5 @@
 pub mod Bases
 pub mod Checkpoints
 pub mod NewPages
+pub mod Renewals
 pub mod inside

@@ -70,7 +70,7 @@ pub fn checkpoint<J: Disk, P: Disk, S: NodeRead>(
 }
 
 /// Writes the pages of a cut that the page file hasn't, and resets the journal.
-fn write_cut<J: Disk, P: Disk>(
+pub(crate) fn write_cut<J: Disk, P: Disk>(
     alloc: Global,
     journal: &mut Journal<J>,
     pages: &mut P,
