@@ -3,7 +3,9 @@ ghost use Rattle.std.specs.Prelude.{◌≡◌};
 ghost use Rattle.tx_core.specs.Cores.{over};
 
 use call_contract::TreeCall;
+use checkpoint::Base;
 use node_seq::{NodeRead, SortedSeq};
+use outside_traits::Disk;
 use overlays::Stacked;
 use std::alloc::Global;
 use tx_core::Core;
@@ -50,4 +52,17 @@ impl<S: NodeRead + Drop> SessionBase for Stacked<S> {
     ghost unchanged_stays = { λ x y is. is };
 
     ghost stays_onward = { λ x y z one two. (S.unchanged_onward x.base y.base z.base one.0 two.0, one.1 ∙ two.1) };
+}
+
+/// Pages with what was committed since as layers, or a copy of the map while a checkpoint writes the pages: what was committed stays in the core's layers.
+impl<P: Disk + Drop> SessionBase for Base<P> {
+    ghost use Rattle.checkpoint.specs.Bases.{IsUnchanged, unchanged_onward};
+
+    ghost stays = { λ x y. IsUnchanged P.is_known P.history P.faults x y };
+
+    fn take_in<C: TreeCall + Drop>(_alloc: Global, _core: &mut Core<C, Base<P>>) {}
+
+    ghost unchanged_stays = { λ x y is. is };
+
+    ghost stays_onward = { λ x y z one two. unchanged_onward P.is_known P.history P.faults x y z one two };
 }
