@@ -1,5 +1,5 @@
 -- A store that is opened once more behind a checkpoint that was finished: what holds from the start of both.
-use Rattle.std.proofs.Common.{◌≡◌, ◌⊎◌, inl, inr, ⊎_elim, ℕ, Bool, true, false, List, [], Option, None, Result, Ok, Err, IsTrue, refl, sym, ◌∙◌, ap, subst}
+use Rattle.std.proofs.Common.{◌≡◌, inl, ⊎_elim, ℕ, Bool, true, false, List, [], Option, None, Result, Ok, Err, IsTrue, sym, ◌∙◌, ap, subst}
 use Rattle.std.specs.Prelude.{OnErr, is_some}
 use Rattle.outside_traits.specs.DiskPairs.{Pair, pair_of}
 use Rattle.outside_traits.specs.Disks.{DiskState, Synced, all_synced}
@@ -17,7 +17,7 @@ use Rattle.journal.specs.declared.group.Images.{Images}
 use Rattle.journal.proofs.FreshSteps.{fresh_reads}
 use Rattle.store_contents.specs.Contents.{Contents, base_of, contents_of_files, first_broken, place_in}
 use Rattle.store_contents.proofs.ContentsLaws.{by_damage}
-use Rattle.recovery.specs.Causes.{OneRose, RiseOnlyAtFault}
+use Rattle.recovery.specs.Causes.{RiseOnlyAtFault}
 use Rattle.recovery.specs.Opened.{KeepsJournal}
 use Rattle.recovery.specs.Openings.{AreOpened, KeepsFiles}
 use Rattle.paged_recovery.specs.Openings.{AreReady, HasImages, OpensPages, RefusesPages, UnlessImages}

@@ -7,7 +7,7 @@ use Rattle.outside_traits.specs.Moments.{History, IsAllSynced}
 use Rattle.outside_traits.proofs.ImageLaws.{image-all_synced}
 use Rattle.outside_traits.proofs.MomentLaws.{weaker}
 use Rattle.outside_traits.proofs.PairLaws.{journal_phase, none, pages_phase, pairs_joined, pairs_now, pairs_weaker}
-use Rattle.page_images.specs.Images.{KeepsOthers, Lacks, LeavesOthers}
+use Rattle.page_images.specs.Images.{KeepsOthers, LeavesOthers}
 use Rattle.page_store.specs.Pages.{ArePagesOf}
 use Rattle.journal.specs.Appends.{IsOneOf, groups_in, groups_read}
 use Rattle.journal.specs.Groups.{only_commits}

@@ -13,12 +13,12 @@ use Rattle.tree_model.specs.Entries.{Entries}
 use Rattle.node_records.specs.declared.entries.Entry.{Entry}
 use Rattle.node_records.proofs.ReadLaws.{both}
 use Rattle.node_pages.specs.Chunks.{records_in}
-use Rattle.node_pages.specs.DirectoryPages.{Compared, at_end, after_directory_page, at_directory_end, compared_with, directory_pages, none_compared}
+use Rattle.node_pages.specs.DirectoryPages.{Compared, at_end, after_directory_page, at_directory_end, compared_with, none_compared}
 use Rattle.node_pages.specs.EntryForm.{entry_read}
 use Rattle.node_pages.specs.Filling.{filled, page_bytes, page_with, written}
 use Rattle.node_pages.specs.PageFiles.{contents_of_file, file_page}
 use Rattle.node_pages.specs.PageStarts.{start_behind}
-use Rattle.node_pages.specs.PageZero.{Header, count_of, header_in, header_of}
+use Rattle.node_pages.specs.PageZero.{Header, count_of, header_in}
 use Rattle.node_pages.specs.PagesIn.{compared, entries_from, items_or_none, pages_in, read_behind, read_with, scanned, starts_in}
 use Rattle.node_pages.specs.Reading.{page_in}
 use Rattle.node_pages.specs.Scanning.{Scanned, after_items, after_page, and_then, fault_at_end, least, no_pages, unless}

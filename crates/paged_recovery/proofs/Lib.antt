@@ -12,3 +12,4 @@ mod PagedSteps
 mod ReadyLaws
 mod SyncSteps
 mod TestLaws
+mod WalkLaws

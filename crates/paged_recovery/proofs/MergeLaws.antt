@@ -13,7 +13,7 @@ use Rattle.tree_model.specs.declared.record.Record.{Record}
 use Rattle.tree_model.proofs.ChangeLists.{all_behind_lower}
 use Rattle.tree_model.proofs.Entries.{all_above_lower, del_here, del_none, put_here, put_new, sorted_behind}
 use Rattle.tree_model.proofs.Keys.{key_tied, key_turned, key_turned_back}
-use Rattle.paged_recovery.specs.inside.Merging.{AreBehind, NoneBefore, begins_at, comes_before, rises_above, standing}
+use Rattle.paged_recovery.specs.inside.Merging.{AreBehind, NoneBefore, begins_at, comes_before, standing}
 
 is_less : (o : Ordering) → is_lt o ≡ true → o ≡ Less
 is_less Less h = refl
@@ -29,20 +29,6 @@ is_more : (o : Ordering) → is_lt o ≡ false → is_eq o ≡ false → o ≡ G
 is_more Less h g = cc
 is_more Equal h g = cc
 is_more Greater h g = refl
-
--- ---- records in order
-
--- records with one more before them are in order, where these are and it is below the first
-pub sorted_more : (e : Key × Record) (es : Entries) → rises_above e.0 es ≡ true → Sorted es → Sorted (e ∷ es)
-sorted_more e [] h s = (tt, tt)
-sorted_more e (d ∷ es) h s =
-    let below = is_less (key_cmp e.0 d.0) h in
-    ((below, all_above_lower e.0 d.0 below es s.0), s)
-
--- they aren't, where it isn't
-pub unsorted : (e : Key × Record) (es : Entries) → rises_above e.0 es ≡ false → Sorted (e ∷ es) → ⊥
-unsorted e [] h s = cc
-unsorted e (d ∷ es) h s = let less = ap is_lt s.0.0 in cc
 
 -- ---- one change at the front
 

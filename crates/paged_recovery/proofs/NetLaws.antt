@@ -17,14 +17,10 @@ use Rattle.tree_model.proofs.ChangeLists.{at_here, at_skip, changed_laid, found_
 use Rattle.tree_model.proofs.Entries.{sorted_changed}
 use Rattle.tree_model.proofs.Keys.{key_tied, key_turned}
 use Rattle.tree_model.proofs.SameEntries.{same_entries, value_is}
-use Rattle.node_records.specs.declared.open_error.OpenError.{OpenError}
-use Rattle.node_records.specs.declared.open_error.OpenError.TheVariants.{Damaged, DiskFault, NoMemory}
-use Rattle.node_records.specs.declared.open_error.Place.{Place}
 use Rattle.node_seq.specs.ChangeLists.{IsChangeList, PutsValidEntry}
 use Rattle.node_seq.specs.Reads.{IsValidEntry}
 use Rattle.node_pages.proofs.StoredLaws.{tree_stored}
 use Rattle.node_pages.specs.Cutting.{IsStored}
-use Rattle.journal.specs.Refusals.{HasReason}
 use Rattle.journal.specs.declared.group.Group.{Group}
 use Rattle.paged_seq.specs.PagedMaps.{is_valid_entry, valid_at, valid_entries}
 use Rattle.paged_seq.proofs.MapLaws.{get_kept, kept_sorted}
@@ -144,12 +140,6 @@ net_is records base commits changes number whole sorted rise effect last is stor
       map = valid_enough changes records rise sorted (subst IsStoredTree is stored) ∙ effect records sorted;
       tree = subst IsStoredTree (is ∙ effect records sorted) stored;
     }
-
--- a place at which this holds of damage, and no fault
-pub reason_on : (P Q : Place → Type 0) (fault : OpenError) → ((place : Place) → P place → Q place) → HasReason P ⊥ fault → HasReason Q ⊥ fault
-reason_on P Q (Damaged place) f h = f place h
-reason_on P Q DiskFault f h = h
-reason_on P Q NoMemory f h = tt
 
 -- changes that are laid over none, twice, are what they were
 pub layer_is : (changes none own below all : List Change) → IsChangeList changes → none ≡ [] → own ≡ laid changes none → below ≡ [] → all ≡ laid own below → all ≡ changes

@@ -18,8 +18,6 @@ use Rattle.journal.specs.Openings.{LeavesSameGroups}
 use Rattle.journal.specs.Refusals.{BreaksJournal, HasReason, UnlessFault}
 use Rattle.journal.proofs.FreshSteps.{fresh_reads}
 use Rattle.paged_seq.specs.PagedFiles.{HasReason as HasPagedReason}
-use Rattle.paged_seq.specs.PagedMaps.{file_entries}
-use Rattle.node_pages.specs.PageFiles.{contents_of_file}
 use Rattle.tree_model.specs.Entries.{Entries}
 use Rattle.store_contents.specs.Contents.{LeavesSameContents, contents_beside, contents_of_files}
 use Rattle.store_contents.specs.StoredTrees.{StoodFor, LeaveWhatStood}
@@ -75,15 +73,6 @@ told_reason P fault result before now a b first last (inr rose) h =
 pub told_uncounted : (fault result : OpenError) (before now a b : ℕ) → before ≡ a → now ≡ b → Told fault result before now → UnlessFault result (b ≡ a)
 told_uncounted fault result before now a b first last (inl same) = unless_of (b ≡ a) result (sym last ∙ same.0 ∙ first)
 told_uncounted fault result before now a b first last (inr rose) = subst (λ (f : OpenError). UnlessFault f (b ≡ a)) (sym rose.1) tt
-
--- the same of counts that are others by name alone
-pub counted_same : (a b c d : ℕ) → a ≡ b → c ≡ d → FaultCounted a c → FaultCounted b d
-counted_same a b c d p q h = subst (FaultCounted b) q (subst (λ (n : ℕ). FaultCounted n c) p h)
-
--- all records of pages that break no rule
-pub held_all : (file : List ℕ) (records : Entries) (a b : ℕ) → contents_of_file file ≡ Ok (file_entries file, a) → records ≡ file_entries file → b ≡ a → contents_of_file file ≡ Ok (records, b)
-held_all file records a b is all same =
-    is ∙ ap (λ (es : Entries). let r : Result (Entries × ℕ) ℕ = Ok (es, a) in r) (sym all) ∙ ap (λ (n : ℕ). let r : Result (Entries × ℕ) ℕ = Ok (records, n) in r) (sym same)
 
 -- a fresh journal breaks no rule
 pub fresh_reason : (is_known : Bool) (t : History) (P : Place → Type 0) (cause : Type 0) (fault : OpenError) → (IsTrue is_known → is_fresh t.now.reads ≡ true)

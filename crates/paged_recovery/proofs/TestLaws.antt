@@ -1,5 +1,5 @@
 -- What is found of pages with images put in is what they stand for.
-use Rattle.std.proofs.Common.{◌≡◌, ◌≤◌, ◌==◌, ℕ, ◌*◌, Bool, true, false, cond, List, [], ◌∷◌, length, take, drop, Option, Some, None, Result, Ok, Err, unwrap_or, refl, sym, ap, subst, ◌∙◌, arith}
+use Rattle.std.proofs.Common.{◌≡◌, ◌≤◌, ◌==◌, ℕ, ◌*◌, Bool, true, false, cond, List, [], ◌∷◌, length, drop, Option, Some, None, Result, Ok, Err, unwrap_or, refl, sym, ap, ◌∙◌, arith}
 use Rattle.std.proofs.lemmas.List.{length-take}
 use Rattle.std.specs.List.{AllByRecursion}
 use Rattle.page_store.specs.Pages.{page_of}
@@ -11,12 +11,12 @@ use Rattle.node_records.specs.declared.open_error.OpenError.TheVariants.{Damaged
 use Rattle.node_records.specs.declared.open_error.Place.{Place}
 use Rattle.journal.specs.Refusals.{HasReason}
 use Rattle.node_records.specs.declared.open_error.File.TheVariants.{Pages, Tree}
-use Rattle.node_pages.specs.PageFiles.{contents_of_file, place_of_page}
+use Rattle.node_pages.specs.PageFiles.{contents_of_file}
 use Rattle.node_pages.specs.PageZero.{Header, count_of, header_in}
 use Rattle.node_pages.specs.PagesIn.{pages_in}
 use Rattle.journal.specs.declared.group.Images.{Images}
 use Rattle.paged_seq.specs.PagedFiles.{BreaksPages}
-use Rattle.store_contents.specs.Contents.{Contents, base_told, checked, image_of, is_number, over_pages, page_among, place_in, with_commits, with_images}
+use Rattle.store_contents.specs.Contents.{Contents, base_told, checked, image_of, is_number, over_pages, page_among, place_in, with_images}
 use Rattle.paged_recovery.specs.inside.Finishing.{ArePages, AreSound, IsJudged, IsRowOf, judged, memory_alone}
 use Rattle.paged_recovery.specs.inside.Fronts.{front}
 use Rattle.paged_recovery.specs.inside.Nets.{IsMisfit}

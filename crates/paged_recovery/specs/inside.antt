@@ -6,3 +6,4 @@ pub mod Merging
 pub mod Nets
 pub mod Over
 pub mod Syncs
+pub mod Walking

@@ -1,17 +1,19 @@
 // The journal is opened beside pages that were read, and its commits are followed.
-ghost use Rattle.std.specs.Prelude.{◌≡◌, ◌≤◌, ℕ, List, [], true, false, Some, Err, unwrap_or, IsTrue, IfOk, IfErr};
+ghost use Rattle.std.specs.Prelude.{◌≡◌, ◌≤◌, ℕ, List, [], true, false, Some, Ok, Err, unwrap_or, IsTrue, IfOk, IfErr, OnOk, MatchResult};
 ghost use Rattle.outside_traits.specs.Faults.{FaultCounted};
 ghost use Rattle.outside_traits.specs.Moments.{IsAllSynced};
-ghost use Rattle.tree_model.specs.Entries.{Sorted};
+ghost use Rattle.node_pages.specs.PageFiles.{contents_of_file};
 ghost use Rattle.journal.specs.Groups.{only_commits};
 ghost use Rattle.journal.specs.Journals.{is_fresh};
 ghost use Rattle.journal.specs.Openings.{LeavesSameGroups, Opens};
 ghost use Rattle.journal.specs.Refusals.{HasReason, UnlessFault};
+ghost use Rattle.paged_seq.specs.PagedMaps.{file_entries};
 ghost use Rattle.store_contents.specs.Contents.{LeavesSameContents, goes_on_from};
+ghost use Rattle.recovery.specs.Causes.{OneRose, RiseOnlyAtFault};
 ghost use Rattle.recovery.specs.Opened.{KeepsJournal};
 ghost use Rattle.recovery.specs.Openings.{TakesBehind};
-ghost use Rattle.paged_recovery.specs.inside.Nets.{NetOf};
-ghost use Rattle.paged_recovery.specs.inside.Over.{FollowsOver, has_none, answer_before, answer_over, groups_before, groups_over};
+ghost use Rattle.paged_recovery.specs.inside.Nets.{IsNetOf};
+ghost use Rattle.paged_recovery.specs.inside.Over.{FollowsPages, has_none, answer_before, answer_over, groups_before, groups_over};
 
 use crate::damage::{first_fault, goes_on_from};
 use crate::netting::{Net, follow};
@@ -19,8 +21,8 @@ use dewey_labels::List;
 use journal::{FIRST_GATE, Groups, Journal, OpenFault};
 use node_records::{File, OpenError, Place};
 use outside_traits::Disk;
+use paged_seq::PagedSeq;
 use std::alloc::Global;
-use tree_model::{Key, Record};
 
 /// A journal that was opened, and what its commits make of the pages.
 #[derive(Drop)]
@@ -29,64 +31,74 @@ pub struct Followed<J: Disk> {
     pub net: Net,
 }
 
-/// Opens a journal beside pages with these records and this base. It is made in a fresh file, once the records are found to be a tree's;
+/// Opens a journal beside pages with this base. It is made in a fresh file, once the records are found to be a tree's;
 /// otherwise nothing is written.
-pub fn open_behind<J: Disk>(
+pub fn open_behind<J: Disk, P: Disk + Drop>(
     alloc: Global,
     journal: J,
+    seq: &mut PagedSeq<P>,
     base: u32,
-    records: List<(Key, Record)>,
     fresh: bool,
 ) -> Result<Followed<J>, OpenFault<J>>
     requires synced { IsTrue J.is_known → IsAllSynced (J.history journal) }
     requires fresh { IsTrue J.is_known → fresh ≡ is_fresh (J.history journal).now.reads }
-    ensures follows { IfOk result (λ f. FollowsOver J.is_known records base (J.history journal) f.journal.history f.net.layers.changes f.net.number) }
+    requires held { IsTrue P.is_known → contents_of_file (P.history seq.old.disk).now.reads ≡ Ok (file_entries (P.history seq.old.disk).now.reads, base) }
+    ensures follows { IfOk result (λ f. FollowsPages J.is_known P.is_known (P.history seq.old.disk).now.reads base
+        (J.history journal) f.journal.history f.net.layers.changes f.net.number) }
     ensures next { IfOk result (λ f. TakesBehind f.journal f.net.number) }
     ensures moments { IfOk result (λ f. IsTrue J.is_known → (pages : List ℕ) → LeavesSameContents pages (J.history journal) f.journal.history) }
     ensures moments_refused { IfErr result (λ refused. IsTrue J.is_known → (pages : List ℕ) → LeavesSameContents pages (J.history journal) (J.history refused.disk)) }
     ensures reason { IfErr result (λ refused. HasReason
-        (λ place. IsTrue J.is_known → Sorted records → answer_over (records, base) (J.history journal).now.reads ≡ Err place)
-        (FaultCounted (J.faults journal) (J.faults refused.disk)) refused.fault) }
+        (λ place. IsTrue J.is_known → IsTrue P.is_known
+        → answer_over (file_entries (P.history seq.old.disk).now.reads, base) (J.history journal).now.reads ≡ Err place)
+        (OneRose (J.faults journal) (J.faults refused.disk) (P.faults seq.old.disk) (P.faults seq.new.disk)) refused.fault) }
     ensures untouched { IfErr result (λ refused. HasReason
         (λ _. IsTrue J.is_known → J.history refused.disk ≡ J.history journal) (Unit {0}) refused.fault) }
     ensures kept { IfErr result (λ refused. UnlessFault refused.fault (IsTrue J.is_known
         → KeepsJournal (J.history journal).now.reads (J.history refused.disk).now.reads)) }
-    ensures exact { IfOk result (λ f. f.journal.faults ≡ J.faults journal) }
-    ensures uncounted { IfErr result (λ refused. UnlessFault refused.fault (J.faults refused.disk ≡ J.faults journal)) }
-    ensures later { IfErr result (λ refused. J.faults journal ≤ J.faults refused.disk) }
+    ensures most { seq.new.pool.most ≡ seq.old.pool.most }
+    ensures pages_same { IsTrue P.is_known → P.history seq.new.disk ≡ P.history seq.old.disk }
+    ensures counts { MatchResult result
+        (λ f. (f.journal.faults ≡ J.faults journal) × (P.faults seq.new.disk ≡ P.faults seq.old.disk))
+        (λ refused. RiseOnlyAtFault refused.fault (J.faults journal) (J.faults refused.disk) (P.faults seq.old.disk) (P.faults seq.new.disk)) }
 {
     if fresh {
-        open_fresh(alloc, journal, base, records)
+        open_fresh(alloc, journal, seq, base)
     } else {
-        open_made(alloc, journal, base, records)
+        open_made(alloc, journal, seq, base)
     }
 }
 
-/// Opens a fresh journal beside pages with these records. It is made only once these are found to be a tree's.
-fn open_fresh<J: Disk>(
+/// Opens a fresh journal beside pages. It is made only once their records are found to be a tree's.
+fn open_fresh<J: Disk, P: Disk + Drop>(
     alloc: Global,
     journal: J,
+    seq: &mut PagedSeq<P>,
     base: u32,
-    records: List<(Key, Record)>,
 ) -> Result<Followed<J>, OpenFault<J>>
     requires synced { IsTrue J.is_known → IsAllSynced (J.history journal) }
     requires fresh { IsTrue J.is_known → is_fresh (J.history journal).now.reads ≡ true }
-    ensures follows { IfOk result (λ f. FollowsOver J.is_known records base (J.history journal) f.journal.history f.net.layers.changes f.net.number) }
+    requires held { IsTrue P.is_known → contents_of_file (P.history seq.old.disk).now.reads ≡ Ok (file_entries (P.history seq.old.disk).now.reads, base) }
+    ensures follows { IfOk result (λ f. FollowsPages J.is_known P.is_known (P.history seq.old.disk).now.reads base
+        (J.history journal) f.journal.history f.net.layers.changes f.net.number) }
     ensures next { IfOk result (λ f. TakesBehind f.journal f.net.number) }
     ensures moments { IfOk result (λ f. IsTrue J.is_known → (pages : List ℕ) → LeavesSameContents pages (J.history journal) f.journal.history) }
     ensures moments_refused { IfErr result (λ refused. IsTrue J.is_known → (pages : List ℕ) → LeavesSameContents pages (J.history journal) (J.history refused.disk)) }
     ensures reason { IfErr result (λ refused. HasReason
-        (λ place. IsTrue J.is_known → Sorted records → answer_over (records, base) (J.history journal).now.reads ≡ Err place)
-        (FaultCounted (J.faults journal) (J.faults refused.disk)) refused.fault) }
+        (λ place. IsTrue J.is_known → IsTrue P.is_known
+        → answer_over (file_entries (P.history seq.old.disk).now.reads, base) (J.history journal).now.reads ≡ Err place)
+        (OneRose (J.faults journal) (J.faults refused.disk) (P.faults seq.old.disk) (P.faults seq.new.disk)) refused.fault) }
     ensures untouched { IfErr result (λ refused. HasReason
         (λ _. IsTrue J.is_known → J.history refused.disk ≡ J.history journal) (Unit {0}) refused.fault) }
     ensures kept { IfErr result (λ refused. UnlessFault refused.fault (IsTrue J.is_known
         → KeepsJournal (J.history journal).now.reads (J.history refused.disk).now.reads)) }
-    ensures exact { IfOk result (λ f. f.journal.faults ≡ J.faults journal) }
-    ensures uncounted { IfErr result (λ refused. UnlessFault refused.fault (J.faults refused.disk ≡ J.faults journal)) }
-    ensures later { IfErr result (λ refused. J.faults journal ≤ J.faults refused.disk) }
+    ensures most { seq.new.pool.most ≡ seq.old.pool.most }
+    ensures pages_same { IsTrue P.is_known → P.history seq.new.disk ≡ P.history seq.old.disk }
+    ensures counts { MatchResult result
+        (λ f. (f.journal.faults ≡ J.faults journal) × (P.faults seq.new.disk ≡ P.faults seq.old.disk))
+        (λ refused. RiseOnlyAtFault refused.fault (J.faults journal) (J.faults refused.disk) (P.faults seq.old.disk) (P.faults seq.new.disk)) }
 {
-    match follow(alloc, records, base, List::new(alloc)) {
+    match follow(alloc, seq, base, List::new(alloc)) {
         Ok(net) => match make(alloc, journal) {
             Ok(journal) => Ok(Followed { journal, net }),
             Err(OpenFault { fault, disk }) => Err(OpenFault { fault, disk }),
@@ -138,28 +150,33 @@ fn has_none(groups: &Groups) -> bool
     }
 }
 
-/// Opens a journal that isn't fresh beside pages with these records. Nothing is written.
-fn open_made<J: Disk>(
+/// Opens a journal that isn't fresh beside pages. Nothing is written.
+fn open_made<J: Disk, P: Disk + Drop>(
     alloc: Global,
     journal: J,
+    seq: &mut PagedSeq<P>,
     base: u32,
-    records: List<(Key, Record)>,
 ) -> Result<Followed<J>, OpenFault<J>>
     requires synced { IsTrue J.is_known → IsAllSynced (J.history journal) }
     requires made { IsTrue J.is_known → is_fresh (J.history journal).now.reads ≡ false }
-    ensures follows { IfOk result (λ f. FollowsOver J.is_known records base (J.history journal) f.journal.history f.net.layers.changes f.net.number) }
+    requires held { IsTrue P.is_known → contents_of_file (P.history seq.old.disk).now.reads ≡ Ok (file_entries (P.history seq.old.disk).now.reads, base) }
+    ensures follows { IfOk result (λ f. FollowsPages J.is_known P.is_known (P.history seq.old.disk).now.reads base
+        (J.history journal) f.journal.history f.net.layers.changes f.net.number) }
     ensures next { IfOk result (λ f. TakesBehind f.journal f.net.number) }
     ensures same { IfOk result (λ f. IsTrue J.is_known → f.journal.history ≡ J.history journal) }
     ensures same_refused { IfErr result (λ refused. IsTrue J.is_known → J.history refused.disk ≡ J.history journal) }
     ensures reason { IfErr result (λ refused. HasReason
-        (λ place. IsTrue J.is_known → Sorted records → answer_over (records, base) (J.history journal).now.reads ≡ Err place)
-        (FaultCounted (J.faults journal) (J.faults refused.disk)) refused.fault) }
-    ensures exact { IfOk result (λ f. f.journal.faults ≡ J.faults journal) }
-    ensures uncounted { IfErr result (λ refused. UnlessFault refused.fault (J.faults refused.disk ≡ J.faults journal)) }
-    ensures later { IfErr result (λ refused. J.faults journal ≤ J.faults refused.disk) }
+        (λ place. IsTrue J.is_known → IsTrue P.is_known
+        → answer_over (file_entries (P.history seq.old.disk).now.reads, base) (J.history journal).now.reads ≡ Err place)
+        (OneRose (J.faults journal) (J.faults refused.disk) (P.faults seq.old.disk) (P.faults seq.new.disk)) refused.fault) }
+    ensures most { seq.new.pool.most ≡ seq.old.pool.most }
+    ensures pages_same { IsTrue P.is_known → P.history seq.new.disk ≡ P.history seq.old.disk }
+    ensures counts { MatchResult result
+        (λ f. (f.journal.faults ≡ J.faults journal) × (P.faults seq.new.disk ≡ P.faults seq.old.disk))
+        (λ refused. RiseOnlyAtFault refused.fault (J.faults journal) (J.faults refused.disk) (P.faults seq.old.disk) (P.faults seq.new.disk)) }
 {
     match Journal::open(alloc, journal) {
-        Ok((journal, groups)) => match follow_groups(alloc, base, records, groups) {
+        Ok((journal, groups)) => match follow_groups(alloc, seq, base, groups) {
             Ok(net) => Ok(Followed { journal, net }),
             Err(fault) => Err(OpenFault {
                 fault,
@@ -174,17 +191,25 @@ fn open_made<J: Disk>(
     }
 }
 
-/// Follows the commits of a journal over records with this base. Images aren't put into pages yet.
-fn follow_groups(
+/// Follows the commits of a journal over pages with this base. Images aren't put into pages yet.
+fn follow_groups<P: Disk + Drop>(
     alloc: Global,
+    seq: &mut PagedSeq<P>,
     base: u32,
-    records: List<(Key, Record)>,
     groups: Groups,
 ) -> Result<Net, OpenError>
+    requires held { IsTrue P.is_known → contents_of_file (P.history seq.old.disk).now.reads ≡ Ok (file_entries (P.history seq.old.disk).now.reads, base) }
     ensures commits { IfOk result (λ net. groups ≡ only_commits groups.commits) }
     ensures goes_on { IfOk result (λ net. goes_on_from (Some base) groups.commits ≡ true) }
-    ensures net { IfOk result (λ net. NetOf records base groups.commits net.layers.changes net.number) }
-    ensures damage { IfErr result (HasReason (λ place. Sorted records → groups_over (records, base) groups ≡ Err place) ⊥) }
+    ensures net { IfOk result (λ net. IsNetOf P.is_known (P.history seq.old.disk).now.reads base groups.commits net.layers.changes net.number) }
+    ensures reason { IfErr result (HasReason
+        (λ place. IsTrue P.is_known → groups_over (file_entries (P.history seq.old.disk).now.reads, base) groups ≡ Err place)
+        (FaultCounted (P.faults seq.old.disk) (P.faults seq.new.disk))) }
+    ensures most { seq.new.pool.most ≡ seq.old.pool.most }
+    ensures same { IsTrue P.is_known → P.history seq.new.disk ≡ P.history seq.old.disk }
+    ensures exact { OnOk result (P.faults seq.new.disk ≡ P.faults seq.old.disk) }
+    ensures uncounted { IfErr result (λ fault. UnlessFault fault (P.faults seq.new.disk ≡ P.faults seq.old.disk)) }
+    ensures later { P.faults seq.old.disk ≤ P.faults seq.new.disk }
 {
     if groups.images.is_some() {
         return Err(OpenError::at(File::Pages, 0));
@@ -192,7 +217,7 @@ fn follow_groups(
     if !goes_on_from(Some(base), groups.commits.as_slice()) {
         return Err(OpenError::at(File::Journal, FIRST_GATE));
     }
-    follow(alloc, records, base, groups.commits)
+    follow(alloc, seq, base, groups.commits)
 }
 
 /// Why a store isn't opened whose pages break their first rule at this place: a rule of its journal comes first, and so do images. Nothing is written.

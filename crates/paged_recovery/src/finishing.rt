@@ -3,7 +3,7 @@ ghost use Rattle.std.specs.Prelude.{◌≡◌, ◌≤◌, ◌<◌, ◌+◌, ◌*
 ghost use Rattle.outside_traits.specs.DiskPairs.{PairsLeave, pair_of};
 ghost use Rattle.outside_traits.specs.Faults.{FaultCounted, HasCause};
 ghost use Rattle.outside_traits.specs.Moments.{IsAllSynced};
-ghost use Rattle.tree_model.specs.Entries.{Sorted};
+ghost use Rattle.outside_kinds.specs.MemoryDisks.{history_of};
 ghost use Rattle.page_images.specs.Images.{AreImages as AreInstallable, Rising};
 ghost use Rattle.node_pages.specs.PageFiles.{contents_of_file};
 ghost use Rattle.node_records.specs.declared.open_error.File.TheVariants.{Pages};
@@ -15,6 +15,7 @@ ghost use Rattle.journal.specs.Refusals.{HasReason, UnlessFault};
 ghost use Rattle.journal.specs.declared.group.Groups.{Groups};
 ghost use Rattle.journal.specs.declared.group.Images.{Images};
 ghost use Rattle.paged_seq.specs.PagedFiles.{BreaksPages};
+ghost use Rattle.paged_seq.specs.PagedMaps.{file_entries};
 ghost use Rattle.store_contents.specs.Contents.{Contents, over_pages, place_in, with_images};
 ghost use Rattle.store_contents.specs.StoredTrees.{LeaveWhatStood};
 ghost use Rattle.recovery.specs.Causes.{OneRose, RiseOnlyAtFault};
@@ -34,23 +35,20 @@ use outside_kinds::MemDisk;
 use outside_traits::Disk;
 use page_images::install;
 use page_store::{PAGE_BYTES, Pool};
+use paged_seq::PagedSeq;
 use recovery::StoreFault;
 use std::alloc::Global;
-use tree_model::{Key, Record};
 
-/// The records of these bytes of pages, which break no rule, and their base.
-fn read_bytes(alloc: Global, bytes: List<u8>) -> Result<(List<(Key, Record)>, u32), OpenError>
-    ensures records { IfOk result (λ read. contents_of_file bytes ≡ Ok (read.0, read.1)) }
-    ensures sorted { IfOk result (λ read. Sorted read.0) }
+/// The map of these bytes of pages, in memory, where they break no rule of pages.
+fn read_bytes(alloc: Global, bytes: List<u8>) -> Result<PagedSeq<MemDisk>, OpenError>
+    ensures bytes { IfOk result (λ seq. (history_of seq.disk).now.reads ≡ bytes) }
+    ensures held { IfOk result (λ seq. contents_of_file bytes ≡ Ok (file_entries bytes, seq.index.base)) }
     ensures damage { IfErr result (HasReason (BreaksPages true bytes) ⊥) }
 {
     let disk = MemDisk::new(bytes, List::new(alloc));
     let pool = Pool::new(alloc, 1)?;
     match hold(alloc, disk, pool) {
-        Ok(held) => {
-            let base = held.seq.number();
-            Ok((held.records, base))
-        }
+        Ok(seq) => Ok(seq),
         Err(refused) => Err(memory_alone(refused.fault)),
     }
 }
@@ -71,10 +69,14 @@ fn hold_tree(alloc: Global, bytes: List<u8>) -> Result<(), OpenError>
     ensures damage { IfErr result (HasReason (λ place. over_pages [] (contents_of_file bytes) ≡ Err place) ⊥) }
 {
     match read_bytes(alloc, bytes) {
-        Ok((records, base)) => match follow(alloc, records, base, List::new(alloc)) {
-            Ok(_net) => Ok(()),
-            Err(fault) => Err(fault),
-        },
+        Ok(seq) => {
+            let mut seq = seq;
+            let base = seq.number();
+            match follow(alloc, &mut seq, base, List::new(alloc)) {
+                Ok(_net) => Ok(()),
+                Err(fault) => Err(memory_alone(fault)),
+            }
+        }
         Err(fault) => Err(fault),
     }
 }
@@ -280,6 +282,7 @@ fn put_groups<J: Disk, P: Disk>(
 }
 
 /// Finishes a checkpoint whose images are open in the journal. The files were refused at the first page, as they are where images are open.
+/// It has the bytes of all pages in memory meanwhile; only an opening behind a crash in a checkpoint comes here.
 pub fn finish<J: Disk, P: Disk + Drop>(
     alloc: Global,
     journal: J,

@@ -18,5 +18,6 @@ mod opening;
 mod over;
 mod page_zero;
 mod syncing;
+mod walking;
 
 pub use opening::{Opened, open_store};

@@ -1,90 +1,44 @@
-// A map with changes made on it, in one pass over both.
-ghost use Rattle.std.specs.Prelude.{◌≡◌, ◌++◌, ◌∷◌, IfOk, OnOk, MatchOption, option_copied};
+// Changes with rising keys are made on records as these are tested, in one pass over both.
+ghost use Rattle.std.specs.Prelude.{◌≡◌, ◌++◌, IfOk, OnOk, option_copied};
 ghost use Rattle.tree_model.specs.Changes.{Rising};
-ghost use Rattle.tree_model.specs.Entries.{Entries, Sorted, changed};
-ghost use Rattle.paged_recovery.specs.inside.Merging.{AreBehind, NoneBefore, begins_at, comes_before, rises_above, standing};
+ghost use Rattle.tree_model.specs.Entries.{Entries};
+ghost use Rattle.tree_rules.specs.Testing.{HasTaken};
+ghost use Rattle.paged_recovery.specs.inside.Merging.{HasMade, HasMerged, NoneBefore, begins_at, comes_before, standing};
 
-use dewey_labels::{Copied, List, NoMemory};
+use dewey_labels::NoMemory;
 use std::alloc::Global;
 use tree_model::{Change, Key, Record};
+use tree_rules::Tester;
 
-/// How many records stand up to the first with a key that isn't below the one behind it.
-pub fn falls_at(records: &[(Key, Record)]) -> Option<usize>
-    ensures { MatchOption result (Sorted records.now) (λ _. Sorted records.now → ⊥) }
-{
-    let mut rest = records;
-    let mut at = 0;
-    while let Some((entry, behind)) = rest.split_first() {
-        at += 1;
-        if !rises_above(&entry.0, behind) {
-            return Some(at);
-        }
-        rest = behind;
-    }
-    None
-}
-
-/// Whether the first of these records, if there is one, stands above the key.
-fn rises_above(key: &Key, records: &[(Key, Record)]) -> bool
-    ensures { result ≡ rises_above key.now records.now }
-{
-    match records.first() {
-        Some(entry) => key.cmp(&entry.0).is_lt(),
-        None => true,
-    }
-}
-
-/// The records after the changes, in the order of their keys. It goes through both once; a record that stays is moved, one that is put is copied.
-pub fn with_changes(
-    alloc: Global,
-    records: List<(Key, Record)>,
-    changes: &[Change],
-) -> Result<Vec<(Key, Record)>, NoMemory>
-    requires sorted { Sorted records }
-    requires rising { Rising changes.now }
-    ensures entries { IfOk result (λ made. made.items ≡ changed changes.now records) }
-{
-    if changes.is_empty() {
-        return Ok(records.into_vec());
-    }
-    let mut made = Vec::with_capacity(alloc, records.len() + changes.len())?;
-    let mut left = changes;
-    for entry in records.into_vec() {
-        left = take_record(alloc, left, entry, &mut made)?;
-    }
-    let _none = put_before(alloc, left, None, &mut made)?;
-    Ok(made)
-}
-
-/// Puts what the changes below a record's key put, and the record unless a change is of its key. Answers the changes that are left.
-fn take_record<'c>(
+/// Tests what the changes below a record's key put, and the record unless a change is of its key. Answers the changes that are left.
+pub fn take_record<'c>(
     alloc: Global,
     changes: &'c [Change],
-    entry: (Key, Record),
-    made: &mut Vec<(Key, Record)>,
+    entry: &(Key, Record),
+    tester: &mut Tester,
 ) -> Result<&'c [Change], NoMemory>
     requires rising { Rising changes.now }
-    ensures taken { IfOk result (λ left. (es : Entries) → Sorted (entry ∷ es) → made.new.items ++ changed left.now es ≡ made.old.items ++ changed changes.now (entry ∷ es)) }
+    ensures taken { IfOk result (λ left. (taken : Entries) → HasTaken tester.old taken → HasMerged entry.now changes.now left.now taken tester.new) }
     ensures rising { IfOk result (λ left. Rising left.now) }
 {
-    let left = put_before(alloc, changes, Some(&entry.0), made)?;
+    let left = put_before(alloc, changes, Some(&entry.0), tester)?;
     if begins_at(left, &entry.0) {
         return Ok(left);
     }
-    made.push(entry)?;
+    tester.take(alloc, &entry.0, &entry.1)?;
     Ok(left)
 }
 
-/// Puts what the changes that come before a limit put, and answers the others.
-fn put_before<'c>(
+/// Tests what the changes that come before a limit put, and answers the others.
+pub fn put_before<'c>(
     alloc: Global,
     changes: &'c [Change],
     limit: Option<&Key>,
-    made: &mut Vec<(Key, Record)>,
+    tester: &mut Tester,
 ) -> Result<&'c [Change], NoMemory>
     requires rising { Rising changes.now }
-    ensures put { IfOk result (λ left. (es : Entries) → AreBehind (option_copied limit.entry) es
-        → made.new.items ++ changed left.now es ≡ made.old.items ++ changed changes.now es) }
+    ensures put { IfOk result (λ left. (taken : Entries) → HasTaken tester.old taken
+        → HasMade (option_copied limit.entry) changes.now left.now taken tester.new) }
     ensures rising { IfOk result (λ left. Rising left.now) }
     ensures none { IfOk result (λ left. NoneBefore (option_copied limit.entry) left.now) }
 {
@@ -93,7 +47,7 @@ fn put_before<'c>(
         if !comes_before(&change.key, limit) {
             return Ok(left);
         }
-        put_copy(alloc, change, made)?;
+        put_one(alloc, change, tester)?;
         left = behind;
     }
     Ok(left)
@@ -109,15 +63,17 @@ fn comes_before(key: &Key, limit: Option<&Key>) -> bool
     }
 }
 
-/// Puts a copy of the record that a change puts, if it puts one.
-fn put_copy(alloc: Global, change: &Change, made: &mut Vec<(Key, Record)>) -> Result<(), NoMemory>
-    ensures { OnOk result (made.new.items ≡ made.old.items ++ standing change.entry.now.key change.entry.now.now) }
+/// Tests the record that a change puts, if it puts one.
+fn put_one(alloc: Global, change: &Change, tester: &mut Tester) -> Result<(), NoMemory>
+    ensures { OnOk result ((taken : Entries) → HasTaken tester.old taken → HasTaken tester.new (taken ++ standing change.entry.now.key change.entry.now.now)) }
 {
-    if let Some(record) = &change.now {
-        let entry = (change.key.copy(alloc)?, record.copy(alloc)?);
-        made.push(entry)?;
+    match &change.now {
+        Some(record) => {
+            tester.take(alloc, &change.key, record)?;
+            Ok(())
+        }
+        None => Ok(()),
     }
-    Ok(())
 }
 
 /// Whether the first of these changes is of the key.

@@ -1,23 +1,27 @@
-// What commits make of the records that the pages hold: the whole map is tested, and the net changes are kept.
-ghost use Rattle.std.specs.Prelude.{◌≡◌, IfOk, IfErr, OnOk};
+// What commits make of the records that the pages hold: the whole map is tested as it is read, and the net changes are kept.
+ghost use Rattle.std.specs.Prelude.{◌≡◌, ◌≤◌, IsTrue, IfOk, IfErr, OnOk};
+ghost use Rattle.outside_traits.specs.Faults.{FaultCounted};
 ghost use Rattle.tree_model.specs.Changes.{Rising, laid};
 ghost use Rattle.tree_model.specs.Entries.{Entries, Sorted, changed};
-ghost use Rattle.tree_model.specs.StoredTree.{IsStoredTree};
-ghost use Rattle.journal.specs.Refusals.{HasReason};
+ghost use Rattle.journal.specs.Refusals.{HasReason, UnlessFault};
 ghost use Rattle.node_seq.specs.ChangeLists.{IsChangeList};
+ghost use Rattle.paged_seq.specs.PagedMaps.{file_entries};
 ghost use Rattle.store_contents.specs.Contents.{after_commits, last_of};
-ghost use Rattle.paged_recovery.specs.inside.Nets.{IsMisfit, NetOf, as_changes};
+ghost use Rattle.paged_recovery.specs.inside.Nets.{IsMisfit, IsNetOf, MakeTree, MisfitRead, as_changes};
 
-use crate::merging::{falls_at, with_changes};
+use crate::counting::told;
+use crate::holding::fault_of;
+use crate::walking::broken_at;
 use dewey_labels::{List, NoMemory};
 use journal::Group;
 use node_records::{File, OpenError};
-use node_seq::SortedSeq;
+use node_seq::NodeRead;
+use outside_traits::Disk;
 use overlays::{Layers, Overlay};
+use paged_seq::PagedSeq;
 use std::alloc::Global;
 use std::collections::BTreeMap;
 use tree_model::{Change, Changes, Key, Record};
-use tree_rules::broken_at;
 
 /// The net changes of commits as one layer, and the number of the last of them.
 #[derive(Drop)]
@@ -26,46 +30,64 @@ pub struct Net {
     pub number: u32,
 }
 
-/// Follows commits over the records of pages, whose number this is. Records that aren't in order are damage.
-/// The net changes cost a logarithm of steps for each change, whatever the pages hold. The map that they make is gone through once, and tested.
-/// A record that stays is moved, and a change of which it is told twice, in the layer and in the map, is copied.
-pub fn follow(
+/// Follows commits over the records of pages, whose number this is.
+/// The net changes cost a logarithm of steps for each change, whatever the pages hold. The map that they make is gone through once, and tested:
+/// each data page is read once, and no record is kept.
+pub fn follow<P: Disk + Drop>(
     alloc: Global,
-    records: List<(Key, Record)>,
+    seq: &mut PagedSeq<P>,
     base: u32,
     commits: List<Group>,
 ) -> Result<Net, OpenError>
-    ensures net { IfOk result (λ net. NetOf records base commits net.layers.changes net.number) }
-    ensures damage { IfErr result (HasReason (λ place. Sorted records → IsMisfit (after_commits commits records) place) ⊥) }
+    requires sorted { IsTrue P.is_known → Sorted (file_entries (P.history seq.old.disk).now.reads) }
+    ensures net { IfOk result (λ net. IsNetOf P.is_known (P.history seq.old.disk).now.reads base commits net.layers.changes net.number) }
+    ensures reason { IfErr result (HasReason
+        (λ place. IsTrue P.is_known → IsMisfit (after_commits commits (file_entries (P.history seq.old.disk).now.reads)) place)
+        (FaultCounted (P.faults seq.old.disk) (P.faults seq.new.disk))) }
+    ensures most { seq.new.pool.most ≡ seq.old.pool.most }
+    ensures same { IsTrue P.is_known → P.history seq.new.disk ≡ P.history seq.old.disk }
+    ensures exact { OnOk result (P.faults seq.new.disk ≡ P.faults seq.old.disk) }
+    ensures uncounted { IfErr result (λ fault. UnlessFault fault (P.faults seq.new.disk ≡ P.faults seq.old.disk)) }
+    ensures later { P.faults seq.old.disk ≤ P.faults seq.new.disk }
 {
-    in_order(records.as_slice())?;
-    let (changes, number) = net_changes(alloc, base, commits)?;
-    let made = with_changes(alloc, records, changes.as_slice())?;
-    let whole = SortedSeq::from_sorted(made);
-    is_tree(alloc, &whole)?;
-    let layers = layer_of(alloc, changes)?;
-    Ok(Net { layers, number })
-}
-
-/// The records of pages are in the order of their keys.
-fn in_order(records: &[(Key, Record)]) -> Result<(), OpenError>
-    ensures order { OnOk result (Sorted records.now) }
-    ensures damage { IfErr result (HasReason (λ _. Sorted records.now → ⊥) ⊥) }
-{
-    match falls_at(records) {
-        None => Ok(()),
-        Some(at) => Err(OpenError::at(File::Tree, at as u64)),
+    let net = match net_changes(alloc, base, commits) {
+        Ok(net) => net,
+        Err(NoMemory) => return Err(OpenError::NoMemory),
+    };
+    let (changes, number) = net;
+    match is_tree(alloc, seq, changes.as_slice()) {
+        Ok(()) => match layer_of(alloc, changes) {
+            Ok(layers) => Ok(Net { layers, number }),
+            Err(NoMemory) => Err(OpenError::NoMemory),
+        },
+        Err(fault) => Err(fault),
     }
 }
 
-/// The map is that of a tree.
-fn is_tree(alloc: Global, whole: &SortedSeq) -> Result<(), OpenError>
-    ensures tree { OnOk result (IsStoredTree whole.now) }
-    ensures damage { IfErr result (HasReason (IsMisfit whole.now) ⊥) }
+/// What the changes make of the records of pages is a tree's map.
+fn is_tree<P: Disk + Drop>(
+    alloc: Global,
+    seq: &mut PagedSeq<P>,
+    changes: &[Change],
+) -> Result<(), OpenError>
+    requires rising { Rising changes.now }
+    requires sorted { IsTrue P.is_known → Sorted (file_entries (P.history seq.old.disk).now.reads) }
+    ensures tree { OnOk result (MakeTree P.is_known (P.history seq.old.disk).now.reads changes.now) }
+    ensures reason { IfErr result (HasReason (MisfitRead P.is_known (P.history seq.old.disk).now.reads changes.now)
+        (FaultCounted (P.faults seq.old.disk) (P.faults seq.new.disk))) }
+    ensures most { seq.new.pool.most ≡ seq.old.pool.most }
+    ensures same { IsTrue P.is_known → P.history seq.new.disk ≡ P.history seq.old.disk }
+    ensures exact { OnOk result (P.faults seq.new.disk ≡ P.faults seq.old.disk) }
+    ensures uncounted { IfErr result (λ fault. UnlessFault fault (P.faults seq.new.disk ≡ P.faults seq.old.disk)) }
+    ensures later { P.faults seq.old.disk ≤ P.faults seq.new.disk }
 {
-    match broken_at(alloc, whole)? {
-        None => Ok(()),
-        Some(at) => Err(OpenError::at(File::Tree, at as u64)),
+    let before = seq.faults();
+    match broken_at(alloc, seq, changes) {
+        Ok(found) => match found {
+            None => Ok(()),
+            Some(at) => Err(OpenError::at(File::Tree, at)),
+        },
+        Err(fault) => Err(told(fault_of(fault), before, seq.faults())),
     }
 }
 

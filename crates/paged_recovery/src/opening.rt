@@ -37,9 +37,11 @@ pub struct Opened<J: Disk, P: Disk + Drop> {
     pub number: u32,
 }
 
-/// Opens a store, with so many pages kept in memory. It reads the journal once and each page at most twice, and has all records in memory while it tests them.
+/// Opens a store, with so many pages kept in memory. It reads the journal once and each page at most twice, and keeps no record of them: beside the
+/// frames it has in memory where each data page begins, the journal's changes, the nodes down to the record in hand, and the catalogue's labels.
 /// It begins with a sync of both disks. Nothing is written behind that but a new journal, where there is none yet, and what a checkpoint has left to be done:
-/// images of pages that are open in the journal are tested with the pages in memory, put into the page file, and let go; then all is read once more.
+/// images of pages that are open in the journal are tested with the bytes of all pages in memory, put into the page file, and let go; then all is
+/// read once more.
 pub fn open_store<J: Disk, P: Disk + Drop>(
     alloc: Global,
     journal: J,

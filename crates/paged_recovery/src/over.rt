@@ -1,9 +1,8 @@
 // The journal is opened over pages that were read, the files being synced.
 ghost use Rattle.std.specs.Prelude.{◌≡◌, ◌⊎◌, [], Ok, Some, IsTrue, IfOk, IfErr, MatchResult};
 ghost use Rattle.outside_traits.specs.DiskPairs.{pair_of};
-ghost use Rattle.outside_traits.specs.Faults.{FaultCounted};
 ghost use Rattle.outside_traits.specs.Moments.{IsAllSynced};
-ghost use Rattle.tree_model.specs.Entries.{Entries, Sorted};
+ghost use Rattle.tree_model.specs.Entries.{Entries};
 ghost use Rattle.tree_model.specs.StoredTree.{IsStoredTree};
 ghost use Rattle.node_pages.specs.PageFiles.{contents_of_file};
 ghost use Rattle.node_records.specs.declared.open_error.OpenError.TheVariants as errors;
@@ -11,7 +10,7 @@ ghost use Rattle.journal.specs.Journals.{is_fresh};
 ghost use Rattle.journal.specs.Refusals.{HasReason, UnlessFault};
 ghost use Rattle.overlays.specs.Views.{contents_after};
 ghost use Rattle.paged_seq.specs.PagedFiles.{BreaksPages};
-ghost use Rattle.paged_seq.specs.PagedMaps.{map_of_file};
+ghost use Rattle.paged_seq.specs.PagedMaps.{file_entries, map_of_file};
 ghost use Rattle.store_contents.specs.StoredTrees.{LeaveWhatStood};
 ghost use Rattle.recovery.specs.Causes.{OneRose, RiseOnlyAtFault};
 ghost use Rattle.recovery.specs.Openings.{AreOpened, KeepsFiles, TakesBehind};
@@ -19,13 +18,14 @@ ghost use Rattle.paged_recovery.specs.Openings.{OpensPages};
 ghost use Rattle.paged_recovery.specs.inside.Over.{IsRefused, IsRefusedAt};
 
 use crate::behind::{Followed, look_at_journal, open_behind};
-use crate::holding::{Held, Unheld, hold};
+use crate::holding::{Unheld, hold};
 use crate::opening::Opened;
 use crate::page_zero::base_in;
 use journal::OpenFault;
 use node_records::{OpenError, Place};
 use outside_traits::Disk;
 use page_store::Pool;
+use paged_seq::PagedSeq;
 use recovery::StoreFault;
 use std::alloc::Global;
 
@@ -64,7 +64,7 @@ pub fn open_synced<J: Disk, P: Disk + Drop>(
         (λ refused. RiseOnlyAtFault refused.fault (J.faults journal) (J.faults refused.journal) (P.faults pages) (P.faults refused.pages)) }
 {
     match hold(alloc, pages, pool) {
-        Ok(held) => open_over(alloc, journal, held, fresh),
+        Ok(seq) => open_over(alloc, journal, seq, fresh),
         Err(Unheld { fault, disk }) => Err(refuse(alloc, journal, disk, fault, fresh)),
     }
 }
@@ -73,41 +73,40 @@ pub fn open_synced<J: Disk, P: Disk + Drop>(
 fn open_over<J: Disk, P: Disk + Drop>(
     alloc: Global,
     journal: J,
-    held: Held<P>,
+    seq: PagedSeq<P>,
     fresh: bool,
 ) -> Result<Opened<J, P>, StoreFault<J, P>>
     requires journal { IsTrue J.is_known → IsAllSynced (J.history journal) }
-    requires pages { IsTrue P.is_known → IsAllSynced (P.history held.seq.disk) }
+    requires pages { IsTrue P.is_known → IsAllSynced (P.history seq.disk) }
     requires fresh { IsTrue J.is_known → fresh ≡ is_fresh (J.history journal).now.reads }
-    requires held { IsTrue P.is_known → contents_of_file (P.history held.seq.disk).now.reads ≡ Ok (held.records, held.seq.index.base) }
-    requires sorted { IsTrue P.is_known → Sorted held.records }
+    requires held { IsTrue P.is_known → contents_of_file (P.history seq.disk).now.reads ≡ Ok (file_entries (P.history seq.disk).now.reads, seq.index.base) }
     ensures opens { IfOk result (λ store. IsTrue J.is_known → IsTrue P.is_known → (es : Entries)
         → contents_after store.layers.changes (map_of_file P.is_known (P.history store.base.disk).now.reads) ≡ Some es
-        → OpensPages (pair_of (J.history journal) (P.history held.seq.disk)) (pair_of store.journal.history (P.history store.base.disk)) es store.number) }
+        → OpensPages (pair_of (J.history journal) (P.history seq.disk)) (pair_of store.journal.history (P.history store.base.disk)) es store.number) }
     ensures tree { IfOk result (λ store. (es : Entries)
         → contents_after store.layers.changes (map_of_file P.is_known (P.history store.base.disk).now.reads) ≡ Some es → IsStoredTree es) }
-    ensures most { IfOk result (λ store. store.base.pool.most ≡ held.seq.pool.most) }
+    ensures most { IfOk result (λ store. store.base.pool.most ≡ seq.pool.most) }
     ensures synced { IfOk result (λ store. AreOpened J.is_known P.is_known
-        (pair_of (J.history journal) (P.history held.seq.disk)) (pair_of store.journal.history (P.history store.base.disk))) }
+        (pair_of (J.history journal) (P.history seq.disk)) (pair_of store.journal.history (P.history store.base.disk))) }
     ensures next { IfOk result (λ store. TakesBehind store.journal store.number) }
     ensures any_moment { IsTrue J.is_known → IsTrue P.is_known → MatchResult result
-        (λ store. LeaveWhatStood (pair_of (J.history journal) (P.history held.seq.disk)) (pair_of store.journal.history (P.history store.base.disk)))
-        (λ refused. LeaveWhatStood (pair_of (J.history journal) (P.history held.seq.disk)) (pair_of (J.history refused.journal) (P.history refused.pages))) }
+        (λ store. LeaveWhatStood (pair_of (J.history journal) (P.history seq.disk)) (pair_of store.journal.history (P.history store.base.disk)))
+        (λ refused. LeaveWhatStood (pair_of (J.history journal) (P.history seq.disk)) (pair_of (J.history refused.journal) (P.history refused.pages))) }
     ensures reason { IfErr result (λ refused. HasReason
         (λ place. IsTrue J.is_known → IsTrue P.is_known
-        → IsRefused (pair_of (J.history journal) (P.history held.seq.disk)) (pair_of (J.history refused.journal) (P.history refused.pages)) place)
-        (FaultCounted (J.faults journal) (J.faults refused.journal)) refused.fault) }
+        → IsRefused (pair_of (J.history journal) (P.history seq.disk)) (pair_of (J.history refused.journal) (P.history refused.pages)) place)
+        (OneRose (J.faults journal) (J.faults refused.journal) (P.faults seq.disk) (P.faults refused.pages)) refused.fault) }
     ensures kept { IfErr result (λ refused. UnlessFault refused.fault (KeepsFiles J.is_known P.is_known
-        (pair_of (J.history journal) (P.history held.seq.disk)) (pair_of (J.history refused.journal) (P.history refused.pages)))) }
+        (pair_of (J.history journal) (P.history seq.disk)) (pair_of (J.history refused.journal) (P.history refused.pages)))) }
     ensures counts { MatchResult result
-        (λ store. (store.journal.faults ≡ J.faults journal) × (P.faults store.base.disk ≡ P.faults held.seq.disk))
-        (λ refused. RiseOnlyAtFault refused.fault (J.faults journal) (J.faults refused.journal) (P.faults held.seq.disk) (P.faults refused.pages)) }
+        (λ store. (store.journal.faults ≡ J.faults journal) × (P.faults store.base.disk ≡ P.faults seq.disk))
+        (λ refused. RiseOnlyAtFault refused.fault (J.faults journal) (J.faults refused.journal) (P.faults seq.disk) (P.faults refused.pages)) }
 {
-    let Held { seq, records } = held;
+    let mut seq = seq;
     // The journal's disk says that a read gives what a crash may leave.
     let _faults = journal.faults();
     let base = seq.number();
-    match open_behind(alloc, journal, base, records, fresh) {
+    match open_behind(alloc, journal, &mut seq, base, fresh) {
         Ok(Followed { journal, net }) => Ok(Opened {
             journal,
             base: seq,

@@ -1,2 +1,4 @@
 mod CatalogueLaws
-mod StandLaws
+mod PathLaws
+mod TakenLaws
+mod TestLaws

@@ -1,2 +1,3 @@
 -- Words that only private functions and the proofs use.
 pub mod Named
+pub mod Paths

@@ -1,8 +1,10 @@
-//! The rules of a tree, tested record by record in a map: whether it is a tree's, or the place of the first record that breaks a rule.
+//! The rules of a tree, tested record by record in the order of their keys: whether they are a tree's, or the place of the first that breaks
+//! a rule. The records themselves aren't kept.
 #![tactic(auto)]
 
 mod catalogue;
+mod path;
 mod records;
-mod rules;
+mod tester;
 
-pub use rules::broken_at;
+pub use tester::Tester;

@@ -1,16 +1,15 @@
 // Tests of one record, or of a label, by itself.
-ghost use Rattle.std.specs.Prelude.{◌≡◌, IfOk, option_copied};
+ghost use Rattle.std.specs.Prelude.{◌≡◌, Some, IfOk};
 ghost use Rattle.dewey_labels.specs.Labels.{IsLabel};
 ghost use Rattle.dewey_labels.specs.Lists.{is_empty};
 ghost use Rattle.tree_model.specs.Places.{is_root};
-ghost use Rattle.tree_model.specs.StoredTree.{is_value, is_element_record, is_document_record, label_in};
-ghost use Rattle.tree_model.specs.ValidTrees.{may_stand};
+ghost use Rattle.tree_model.specs.StoredTree.{is_document_record, is_value, label_in};
 
 use dewey_labels::{Label, LabelTextError, NoMemory};
 use std::alloc::Global;
 use tree_model::{Key, Record};
 
-pub fn is_root(label: &Label) -> bool
+pub(crate) fn is_root(label: &Label) -> bool
     ensures root { result ≡ is_root label.now }
     ensures label { IsLabel label.now }
 {
@@ -18,14 +17,14 @@ pub fn is_root(label: &Label) -> bool
 }
 
 /// Whether it is a node's key.
-pub fn is_node(key: &Key) -> bool
+pub(crate) fn is_node(key: &Key) -> bool
     ensures { result ≡ is_empty key.now.name }
 {
     key.name.as_str().is_empty()
 }
 
 /// The label whose text an attribute's value is.
-pub fn label_in(alloc: Global, value: &Record) -> Result<Option<Label>, NoMemory>
+pub(crate) fn label_in(alloc: Global, value: &Record) -> Result<Option<Label>, NoMemory>
     ensures { IfOk result (λ found. found ≡ label_in value.now) }
 {
     let Record::Attr(text) = value else {
@@ -39,7 +38,7 @@ pub fn label_in(alloc: Global, value: &Record) -> Result<Option<Label>, NoMemory
 }
 
 /// Whether it is a value that isn't too long.
-pub fn is_value(value: &Record) -> bool
+pub(crate) fn is_value(value: &Record) -> bool
     ensures { result ≡ is_value value.now }
 {
     match value {
@@ -48,26 +47,8 @@ pub fn is_value(value: &Record) -> bool
     }
 }
 
-/// Whether a node with this record may stand below one with that record, or below the root.
-pub fn may_stand(parent: Option<&Record>, value: &Record) -> bool
-    ensures { result ≡ may_stand (option_copied parent.entry) value.now }
+pub(crate) fn is_document(value: &Record) -> bool
+    ensures { result ≡ is_document_record (Some value.now) }
 {
-    match (parent, value) {
-        (None, Record::Document) => true,
-        (Some(Record::Document), Record::Element(_)) => true,
-        (Some(Record::Element(_)), Record::Element(_) | Record::Text(_)) => true,
-        _ => false,
-    }
-}
-
-pub fn is_element(value: Option<&Record>) -> bool
-    ensures { result ≡ is_element_record (option_copied value.entry) }
-{
-    matches!(value, Some(Record::Element(_)))
-}
-
-pub fn is_document(value: Option<&Record>) -> bool
-    ensures { result ≡ is_document_record (option_copied value.entry) }
-{
-    matches!(value, Some(Record::Document))
+    matches!(value, Record::Document)
 }

@@ -1,17 +1,14 @@
--- A pass over a map and changes with rising keys.
-use Rattle.std.specs.Prelude.{◌≡◌, Bool, true, false, List, [], ◌∷◌, Option, Some, None}
+-- A pass over records and changes with rising keys, which takes to a tester what the changes make of the records.
+use Rattle.std.specs.Prelude.{◌≡◌, Bool, true, false, List, [], ◌∷◌, ◌++◌, Option, Some, None}
 use Rattle.std.specs.List.{AllByRecursion}
 use Rattle.std.specs.Ordering.{is_lt, is_eq}
-use Rattle.tree_model.specs.Entries.{Entries, Above}
+use Rattle.tree_model.specs.Entries.{Entries, Above, Sorted, changed}
 use Rattle.tree_model.specs.Keys.{key_cmp}
 use Rattle.tree_model.specs.declared.change.Change.{Change}
 use Rattle.tree_model.specs.declared.key.Key.{Key}
 use Rattle.tree_model.specs.declared.record.Record.{Record}
-
--- the first of these entries, if there is one, stands above the key
-abbrev pub rises_above : Key → Entries → Bool
-rises_above k [] = true
-rises_above k (e ∷ es) = is_lt (key_cmp k e.0)
+use Rattle.tree_rules.specs.Testing.{HasTaken}
+use Rattle.tree_rules.specs.declared.tester.Tester.{Tester}
 
 -- a key comes before a limit; each does where there is none
 abbrev pub comes_before : Key → Option Key → Bool
@@ -36,3 +33,15 @@ begins_at (c ∷ cs) k = is_eq (key_cmp c.key k)
 abbrev pub standing : Key → Option Record → Entries
 standing k None = []
 standing k (Some r) = (k, r) ∷ []
+
+-- behind these entries the tester has taken what the changes put that aren't left; they came before the limit
+pub record HasMade (limit : Option Key) (changes left : List Change) (taken : Entries) (t : Tester) : Type 0 where
+  pub made : Entries
+  pub has : HasTaken t made
+  pub all : (es : Entries) → AreBehind limit es → made ++ changed left es ≡ taken ++ changed changes es
+
+-- the same of a record too, and the changes up to its key
+pub record HasMerged (entry : Key × Record) (changes left : List Change) (taken : Entries) (t : Tester) : Type 0 where
+  pub made : Entries
+  pub has : HasTaken t made
+  pub all : (es : Entries) → Sorted (entry ∷ es) → made ++ changed left es ≡ taken ++ changed changes (entry ∷ es)

@@ -1,5 +1,5 @@
 -- The net changes of commits over the records that pages hold (docs/DECISIONS.md, "Commits over pages are one layer").
-use Rattle.std.specs.Prelude.{◌≡◌, ℕ, List, [], ◌∷◌, Option, Some}
+use Rattle.std.specs.Prelude.{◌≡◌, ℕ, Bool, List, [], ◌∷◌, Option, Some}
 use Rattle.tree_model.specs.Entries.{Entries, changed}
 use Rattle.tree_model.specs.StoredTree.{IsStoredTree, broken_at}
 use Rattle.tree_model.specs.declared.change.Change.{Change}
@@ -10,6 +10,7 @@ use Rattle.node_records.specs.declared.open_error.File.TheVariants.{Tree}
 use Rattle.journal.specs.declared.group.Group.{Group}
 use Rattle.paged_seq.specs.PagedMaps.{valid_entries}
 use Rattle.store_contents.specs.Contents.{after_commits, last_of, place_in}
+use Rattle.paged_recovery.specs.inside.Walking.{AreRead}
 
 -- what is said of keys, as changes
 abbrev pub as_changes : List (Key × Option Record) → List Change
@@ -22,6 +23,24 @@ pub record NetOf (records : Entries) (base : ℕ) (commits : List Group) (change
   pub map : changed changes (valid_entries records) ≡ after_commits commits records
   pub tree : IsStoredTree (after_commits commits records)
 
+-- the same of records that were read of a file
+pub record IsNetOf (is_known : Bool) (file : List ℕ) (base : ℕ) (commits : List Group) (changes : List Change) (number : ℕ) : Type 0 where
+  pub records : Entries
+  pub are : AreRead is_known file records
+  pub net : NetOf records base commits changes number
+
+-- with these changes made they are a tree's map
+pub record MakeTree (is_known : Bool) (file : List ℕ) (changes : List Change) : Type 0 where
+  pub records : Entries
+  pub are : AreRead is_known file records
+  pub tree : IsStoredTree (changed changes records)
+
 -- the place of the first of these entries that breaks a rule of the tree
 abbrev pub IsMisfit : Entries → Place → Type 0
 IsMisfit es place = (n : ℕ) × (broken_at es ≡ Some n) × (place ≡ place_in Tree n)
+
+-- the same of records that were read of a file, with these changes made
+pub record MisfitRead (is_known : Bool) (file : List ℕ) (changes : List Change) (place : Place) : Type 0 where
+  pub records : Entries
+  pub are : AreRead is_known file records
+  pub misfit : IsMisfit (changed changes records) place

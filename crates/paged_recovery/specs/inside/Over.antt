@@ -17,6 +17,7 @@ use Rattle.journal.specs.declared.group.Groups.{Groups}
 use Rattle.store_contents.specs.Contents.{Contents, checked, contents_of_files, first_broken, goes_on_from, place_in, with_commits}
 use Rattle.paged_recovery.specs.Openings.{HasImages}
 use Rattle.paged_recovery.specs.inside.Nets.{NetOf}
+use Rattle.paged_recovery.specs.inside.Walking.{AreRead}
 
 -- no group at all
 abbrev pub has_none : Groups → Bool
@@ -53,6 +54,12 @@ pub record FollowsOver (is_known : Bool) (records : Entries) (base : ℕ) (old n
   pub goes_on : goes_on_from (Some base) commits ≡ true
   pub net : NetOf records base commits changes number
   pub opens : IsTrue is_known → Opens old new (only_commits commits)
+
+-- the same beside the pages of a file
+pub record FollowsPages (journal_known pages_known : Bool) (file : List ℕ) (base : ℕ) (old new : History) (changes : List Change) (number : ℕ) : Type 0 where
+  pub records : Entries
+  pub are : AreRead pages_known file records
+  pub follows : FollowsOver journal_known records base old new changes number
 
 -- ---- a store that isn't opened at first
 

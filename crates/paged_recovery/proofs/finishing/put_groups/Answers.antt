@@ -1,4 +1,4 @@
-use Rattle.std.proofs.Common.{Option, refl, sym, ap, ◌∙◌}
+use Rattle.std.proofs.Common.{Option, refl, ap}
 use Rattle.std.specs.Prelude.{is_some}
 use Rattle.outside_traits.specs.DiskPairs.{pair_of}
 use Rattle.outside_traits.proofs.PairLaws.{none}

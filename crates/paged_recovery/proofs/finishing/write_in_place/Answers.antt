@@ -1,4 +1,3 @@
-use Rattle.std.proofs.Common.{◌∙◌}
 use Rattle.page_images.specs.Images.{written_over}
 use Rattle.paged_recovery.proofs.FinishLaws.{after_pages, after_reset, alone_opens, synced_again}
 use Rattle.paged_recovery.proofs.finishing.write_in_place.Goals as goal

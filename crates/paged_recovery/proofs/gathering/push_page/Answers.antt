@@ -1,4 +1,4 @@
-use Rattle.std.proofs.Common.{ℕ, ◌*◌, List, take, drop, sym, ap, ◌∙◌, arith}
+use Rattle.std.proofs.Common.{ℕ, ◌*◌, take, drop, sym, ap, ◌∙◌, arith}
 use Rattle.paged_recovery.proofs.GatherLaws.{long_page, none_pushed, one_pushed, short_page}
 use Rattle.paged_recovery.proofs.gathering.push_page.Goals as goal
 

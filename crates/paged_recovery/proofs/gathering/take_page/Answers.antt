@@ -1,6 +1,6 @@
-use Rattle.std.proofs.Common.{◌≡◌, ℕ, ◌==◌, true, List, ◌++◌, drop, length, sym, ap, ◌∙◌, arith}
+use Rattle.std.proofs.Common.{◌≡◌, ℕ, ◌==◌, true, List, ◌++◌, drop, length, sym, ap, ◌∙◌}
 use Rattle.std.proofs.lemmas.Bool.{eq-eqb}
-use Rattle.paged_recovery.specs.inside.Finishing.{begins_with, if_whole, page_here}
+use Rattle.paged_recovery.specs.inside.Finishing.{begins_with, if_whole}
 use Rattle.paged_recovery.proofs.GatherLaws.{here_next, here_other, left_next, left_other, next_within, on_ok_always, on_ok_then, one_pushed, whole_next}
 use Rattle.paged_recovery.proofs.PagedSteps.{ok_then}
 use Rattle.paged_recovery.proofs.gathering.take_page.Goals as goal

@@ -1,10 +1,16 @@
-use Rattle.std.proofs.Common.{◌≡◌, true, ◌++◌, ◌∷◌, List, option_copied, sym, ap, subst, ◌∙◌}
+use Rattle.std.proofs.Common.{◌≡◌, true, ◌++◌, ◌∷◌, List, option_copied, refl, sym, ap, subst, ◌∙◌}
 use Rattle.tree_model.specs.Changes.{Rising}
 use Rattle.tree_model.specs.Entries.{changed}
 use Rattle.tree_model.specs.declared.change.Change.{Change}
-use Rattle.paged_recovery.specs.inside.Merging.{NoneBefore, comes_before}
+use Rattle.paged_recovery.specs.inside.Merging.{NoneBefore, comes_before, standing}
 use Rattle.paged_recovery.proofs.MergeLaws.{one_put}
 use Rattle.paged_recovery.proofs.merging.put_before.Goals as goal
+
+pub loop-change-init : goal.loop-change-init
+loop-change-init c = record {
+  rising = c.requires.rising;
+  put = λ taken has. record { made = taken; has = has; all = λ es behind. refl };
+}
 
 pub loop-change-preserved : goal.loop-change-preserved
 loop-change-preserved c =
@@ -17,8 +23,14 @@ loop-change-preserved c =
     let before : comes_before change.key limit ≡ true = sym c.comes_before.ensures ∙ c.if-not-comes_before.false in
     record {
       rising = rising.1;
-      put = λ es h. one_put limit change behind c.loop-change.made.items c.put_copy.new.made.items es (c.args.made.now.items ++ changed c.args.changes.now es) rising before c.in_ok-put_copy.ensures h
-          (ap (λ (cs : List Change). c.loop-change.made.items ++ changed cs es) (sym is) ∙ inv.put es h);
+      put = λ taken has.
+          let put = inv.put taken has in
+          record {
+            made = put.made ++ standing change.key change.now;
+            has = c.in_ok-put_one.ensures put.made put.has;
+            all = λ es h. one_put limit change behind put.made (put.made ++ standing change.key change.now) es (taken ++ changed c.args.changes.now es) rising before refl h
+                (ap (λ (cs : List Change). put.made ++ changed cs es) (sym is) ∙ put.all es h);
+          };
     }
 
 pub returns-then-not-comes_before-clause-none : goal.returns-then-not-comes_before-clause-none

@@ -1,13 +1,14 @@
-use Rattle.std.proofs.Common.{◌≡◌, ◌++◌, length, option_copied}
+use Rattle.std.proofs.Common.{length, option_copied}
 use Rattle.tree_model.specs.Changes.{Rising}
-use Rattle.tree_model.specs.Entries.{Entries, changed}
-use Rattle.paged_recovery.specs.inside.Merging.{AreBehind}
+use Rattle.tree_model.specs.Entries.{Entries}
+use Rattle.tree_rules.specs.Testing.{HasTaken}
+use Rattle.paged_recovery.specs.inside.Merging.{HasMade}
 use Rattle.paged_recovery.proofs.merging.put_before.Given as goal
 
 abbrev pub invariant-loop-change : goal.invariant-loop-change
 invariant-loop-change l = record {
   rising : Rising l.left;
-  put : (es : Entries) → AreBehind (option_copied l.limit) es → l.made.items ++ changed l.left es ≡ l.fn.made.items ++ changed l.changes es;
+  put : (taken : Entries) → HasTaken l.fn.tester taken → HasMade (option_copied l.limit) l.changes l.left taken l.tester;
 }
 
 abbrev pub decreases-loop-change : goal.decreases-loop-change

@@ -1,58 +1,37 @@
-use Rattle.std.proofs.Common.{◌≡◌, List, sym, ap, subst, ◌∙◌}
+use Rattle.std.proofs.Common.{List, refl, sym, ap, subst, ◌∙◌}
 use Rattle.tree_model.specs.Changes.{Rising}
-use Rattle.tree_model.specs.Entries.{Entries, Sorted, changed}
+use Rattle.tree_model.specs.Entries.{Entries, changed}
 use Rattle.tree_model.specs.StoredTree.{IsStoredTree}
 use Rattle.tree_model.specs.declared.change.Change.{Change}
-use Rattle.tree_model.proofs.Entries.{sorted_changed}
-use Rattle.node_records.specs.declared.open_error.Place.{Place}
-use Rattle.journal.specs.Refusals.{HasReason}
-use Rattle.paged_seq.proofs.OpenLaws.{err_out}
 use Rattle.store_contents.specs.Contents.{after_commits}
 use Rattle.paged_recovery.specs.inside.Nets.{IsMisfit, NetOf}
-use Rattle.paged_recovery.proofs.NetLaws.{net_is, net_list, reason_on}
+use Rattle.paged_recovery.proofs.NetLaws.{net_is, net_list}
+use Rattle.paged_recovery.proofs.PagedSteps.{reason_leads}
 use Rattle.paged_recovery.proofs.netting.follow.Goals as goal
 
-pub with_changes-requires : goal.with_changes-requires
-with_changes-requires c = record {
-  sorted = subst Sorted c.as_slice.ensures c.in_ok-in_order.ensures.order;
-  rising = subst Rising (sym c.as_slice-2.ensures) c.in_ok-changes.ensures.rising;
-}
-
-pub from_sorted-whole-requires : goal.from_sorted-whole-requires
-from_sorted-whole-requires c = record {
-  rising = subst Sorted (sym c.in_ok-made.ensures.entries) (sorted_changed c.as_slice-2.result.now c.args.records (subst Sorted c.as_slice.ensures c.in_ok-in_order.ensures.order));
-}
+pub is_tree-requires-clause-rising : goal.is_tree-requires-clause-rising
+is_tree-requires-clause-rising g c = subst Rising (sym c.as_slice.ensures) c.in-Ok.ensures.rising
 
 pub layer_of-requires : goal.layer_of-requires
-layer_of-requires c =
-    let changes = c.in_ok-changes.changes in
-    let records = c.args.records in
-    let sorted : Sorted records = subst Sorted c.as_slice.ensures c.in_ok-in_order.ensures.order in
-    let whole : c.from_sorted-whole.result ≡ changed changes records = c.from_sorted-whole.ensures ∙ c.in_ok-made.ensures.entries ∙ ap (λ (cs : List Change). changed cs records) c.as_slice-2.ensures in
-    record { list = net_list changes records c.in_ok-changes.ensures.rising sorted (subst IsStoredTree whole c.in_ok-is_tree.ensures.tree) }
+layer_of-requires g c =
+    let changes = c.in-Ok.net.0 in
+    let made = c.in-Ok-is_tree.ensures.tree in
+    record { list = net_list changes made.records c.in-Ok.ensures.rising made.are.sorted (subst (λ (cs : List Change). IsStoredTree (changed cs made.records)) c.as_slice.ensures made.tree) }
 
-pub returns-in_err-in_order-clause-damage : goal.returns-in_err-in_order-clause-damage
-returns-in_err-in_order-clause-damage c =
-    let x = c.in_err-in_order.field-0.0 in
-    let misfit = λ (place : Place). Sorted c.args.records → IsMisfit (after_commits c.args.commits c.args.records) place in
-    err_out _ c.from_residual.result (HasReason misfit ⊥) x c.from_residual.ensures.1
-    (reason_on (λ _. Sorted c.as_slice.result.now → ⊥) misfit x (λ place no s. absurd (no (subst Sorted (sym c.as_slice.ensures) s))) c.in_err-in_order.ensures.damage)
+pub returns-in-Ok-layer_of-clause-net : goal.returns-in-Ok-layer_of-clause-net
+returns-in-Ok-layer_of-clause-net g c =
+    let changes = c.in-Ok.net.0 in
+    let made = c.in-Ok-is_tree.ensures.tree in
+    let stored : IsStoredTree (changed changes made.records) = subst (λ (cs : List Change). IsStoredTree (changed cs made.records)) c.as_slice.ensures made.tree in
+    record {
+      records = made.records;
+      are = made.are;
+      net = subst (λ (cs : List Change). NetOf made.records c.args.base c.args.commits cs c.in-Ok.net.1) (sym c.in-Ok-layer_of.ensures)
+          (net_is made.records c.args.base c.args.commits changes c.in-Ok.net.1 (changed changes made.records) made.are.sorted c.in-Ok.ensures.rising c.in-Ok.ensures.effect c.in-Ok.ensures.number refl stored);
+    }
 
-pub returns-in_err-is_tree-clause-damage : goal.returns-in_err-is_tree-clause-damage
-returns-in_err-is_tree-clause-damage c =
-    let x = c.in_err-is_tree.field-0.0 in
-    let changes = c.in_ok-changes.changes in
-    let records = c.args.records in
-    let misfit = λ (place : Place). Sorted records → IsMisfit (after_commits c.args.commits records) place in
-    let whole : c.from_sorted-whole.result ≡ changed changes records = c.from_sorted-whole.ensures ∙ c.in_ok-made.ensures.entries ∙ ap (λ (cs : List Change). changed cs records) c.as_slice-2.ensures in
-    err_out _ c.from_residual-in_err-is_tree.result (HasReason misfit ⊥) x c.from_residual-in_err-is_tree.ensures.1
-    (reason_on (IsMisfit c.from_sorted-whole.result) misfit x (λ place is s. subst (λ (es : Entries). IsMisfit es place) (whole ∙ c.in_ok-changes.ensures.effect records s) is) c.in_err-is_tree.ensures.damage)
-
-pub returns-clause-net : goal.returns-clause-net
-returns-clause-net c =
-    let changes = c.in_ok-changes.changes in
-    let records = c.args.records in
-    let sorted : Sorted records = subst Sorted c.as_slice.ensures c.in_ok-in_order.ensures.order in
-    let whole : c.from_sorted-whole.result ≡ changed changes records = c.from_sorted-whole.ensures ∙ c.in_ok-made.ensures.entries ∙ ap (λ (cs : List Change). changed cs records) c.as_slice-2.ensures in
-    subst (λ (cs : List Change). NetOf records c.args.base c.args.commits cs c.in_ok-changes.number) (sym c.in_ok-layers.ensures)
-    (net_is records c.args.base c.args.commits changes c.in_ok-changes.number c.from_sorted-whole.result sorted c.in_ok-changes.ensures.rising c.in_ok-changes.ensures.effect c.in_ok-changes.ensures.number whole c.in_ok-is_tree.ensures.tree)
+pub returns-in-Err-is_tree-clause-reason : goal.returns-in-Err-is_tree-clause-reason
+returns-in-Err-is_tree-clause-reason g c = reason_leads _ _ _ _ c.in-Err-is_tree.fault
+    (λ place found known. subst (λ (es : Entries). IsMisfit es place)
+    (ap (λ (cs : List Change). changed cs found.records) c.as_slice.ensures ∙ c.in-Ok.ensures.effect found.records found.are.sorted ∙ ap (after_commits c.args.commits) (found.are.all known)) found.misfit)
+    (λ rose. rose) c.in-Err-is_tree.ensures.reason

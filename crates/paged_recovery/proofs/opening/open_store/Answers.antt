@@ -1,7 +1,6 @@
 use Rattle.std.proofs.Common.{◌≡◌, ℕ, ◌∙◌, IsTrue, true, false, sym, ap, subst}
 use Rattle.outside_traits.specs.DiskPairs.{pair_of}
 use Rattle.outside_traits.specs.Disks.{DiskState, all_synced}
-use Rattle.node_records.specs.declared.open_error.OpenError.TheVariants.{Damaged}
 use Rattle.node_records.specs.declared.open_error.File.TheVariants.{Pages}
 use Rattle.store_contents.specs.Contents.{place_in}
 use Rattle.recovery.specs.Causes.{OneRose, RiseOnlyAtFault}

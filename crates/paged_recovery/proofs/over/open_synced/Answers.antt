@@ -4,8 +4,9 @@ use Rattle.outside_traits.specs.Disks.{all_synced}
 use Rattle.outside_traits.specs.Moments.{History, IsAllSynced}
 use Rattle.page_store.specs.Pages.{ArePagesOf}
 use Rattle.node_pages.specs.PageFiles.{contents_of_file}
+use Rattle.paged_seq.specs.PagedMaps.{file_entries}
 use Rattle.store_contents.specs.StoredTrees.{LeaveWhatStood}
-use Rattle.recovery.specs.Causes.{RiseOnlyAtFault}
+use Rattle.recovery.specs.Causes.{OneRose, RiseOnlyAtFault}
 use Rattle.paged_recovery.specs.Openings.{OpensPages}
 use Rattle.paged_recovery.specs.inside.Over.{IsRefused, IsRefusedAt}
 use Rattle.paged_recovery.proofs.AnswerLaws.{unless_of, unless_then}
@@ -21,7 +22,7 @@ pub open_over-requires-clause-pages : goal.open_over-requires-clause-pages
 open_over-requires-clause-pages g c tp = subst IsAllSynced (sym (c.in-Ok.ensures.same tp)) (c.requires.pages tp)
 
 pub open_over-requires-clause-held : goal.open_over-requires-clause-held
-open_over-requires-clause-held g c tp = subst (λ (h : History). contents_of_file h.now.reads ≡ Ok (c.in-Ok.held.records, c.in-Ok.held.seq.index.base)) (sym (c.in-Ok.ensures.same tp)) (c.in-Ok.ensures.held tp)
+open_over-requires-clause-held g c tp = subst (λ (h : History). contents_of_file h.now.reads ≡ Ok (file_entries h.now.reads, c.in-Ok.seq.index.base)) (sym (c.in-Ok.ensures.same tp)) (c.in-Ok.ensures.held tp)
 
 pub refuse-requires-clause-breaks : goal.refuse-requires-clause-breaks
 refuse-requires-clause-breaks g c = reason_leads _ _ _ _ c.in-Err.field-0.fault
@@ -57,7 +58,7 @@ returns-in-Ok-clause-reason g c =
     let j = g.J.Disk.history c.args.journal in
     err_then c.open_over.result _ _ (λ refused reason. reason_leads _ _ _ _ refused.fault
     (λ place refuses tj tp. subst (λ (p : History). IsRefused (pair_of j p) (pair_of (g.J.Disk.history refused.journal) (g.P.Disk.history refused.pages)) place) (c.in-Ok.ensures.same tp) (refuses tj tp))
-    (λ rose. inl rose) reason) c.open_over.ensures.reason
+    (λ rose. subst (λ (n : ℕ). OneRose (g.J.Disk.faults c.args.journal) (g.J.Disk.faults refused.journal) n (g.P.Disk.faults refused.pages)) c.in-Ok.ensures.exact rose) reason) c.open_over.ensures.reason
 
 pub returns-in-Ok-clause-kept : goal.returns-in-Ok-clause-kept
 returns-in-Ok-clause-kept g c = err_then c.open_over.result _ _ (λ refused kept. unless_then _ _ refused.fault (λ keeps. record {
