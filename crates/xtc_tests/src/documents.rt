@@ -1,5 +1,5 @@
 //! The commands of one document: each with its input, over a store, and how it ends.
-use crate::tests::{CUT, Case, NEW, NO_DOCUMENT, PLAIN, SIXTY, run_cases};
+use crate::cases::{CUT, Case, NEW, NO_DOCUMENT, PLAIN, SIXTY, run_cases};
 use std::test::Fail;
 
 /// The sixty bytes, and behind them the commit of document y with the element b.

@@ -1,5 +1,5 @@
 //! The command `gen`: over which stores it runs, what it writes, and what it leaves of the files. Its counts are worked by hand from docs/PROFILE.md, "The generator".
-use crate::tests::{CUT, Case, NEW, Outcome, PLAIN, SIXTY, listed, run_case, run_cases, words_of};
+use crate::cases::{CUT, Case, NEW, Outcome, PLAIN, SIXTY, listed, run_case, run_cases, words_of};
 use dewey_labels::List;
 use outside_kinds::{MemDisk, MemSink, MemSource, NoGate};
 use std::alloc::{AllocError, Global};

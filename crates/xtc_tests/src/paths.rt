@@ -1,7 +1,7 @@
 //! Paths through the whole program: `find` in scripts of several sessions, and the command `query`.
 //! What is found, refused and waited for is worked by hand from docs/PROFILE.md, "Paths", "Requests of calls" and "Lock modes".
+use crate::cases::{CUT, Case, NEW, PLAIN, run_case, run_case_on, words_of, written_out};
 use crate::sessions::{Row, run_rows};
-use crate::tests::{CUT, Case, NEW, PLAIN, run_case, run_case_on, words_of, written_out};
 use std::alloc::{AllocError, Global};
 use std::process::Abort;
 use std::sync::Wait;

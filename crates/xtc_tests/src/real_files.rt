@@ -1,5 +1,5 @@
 //! The whole program over the real files of a store, which are opened anew for each command.
-use crate::tests::{SIXTY, listed, told, words_of};
+use crate::cases::{SIXTY, listed, told, words_of};
 use dewey_labels::List;
 use outside_kinds::{MemSink, MemSource, NoGate};
 use outside_traits::Disk;

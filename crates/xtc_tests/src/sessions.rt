@@ -1,5 +1,5 @@
 //! Scripts of several sessions through the whole program: the replies to each line, and what the store that is left answers then.
-use crate::tests::{Case, Outcome, PLAIN, run_case};
+use crate::cases::{Case, Outcome, PLAIN, run_case};
 use std::alloc::{AllocError, Global};
 use std::process::Abort;
 use std::sync::Wait;

@@ -1,5 +1,5 @@
 //! Whole scripts by workers through the whole program: what is written, and what the store that is left holds.
-use crate::tests::{
+use crate::cases::{
     Case, NEW, Outcome, PLAIN, SIXTY, behind_opening, listed, run, run_cases, told, words_of,
 };
 use dewey_labels::List;
