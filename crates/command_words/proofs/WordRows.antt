@@ -9,7 +9,11 @@ asks ws c = option_map (λ w. w.command) (words_of_texts ws) ≡ c
 
 -- a command with its frames
 abbrev asks_over : List Word → Command → ℕ → Type 0
-asks_over ws c frames = words_of_texts ws ≡ Some (record { command = c; frames = frames })
+asks_over ws c frames = words_of_texts ws ≡ Some (record { command = c; frames = frames; checkpoint = 0 })
+
+-- a command with its checkpoints
+abbrev asks_often : List Word → Command → ℕ → Type 0
+asks_often ws c checkpoint = words_of_texts ws ≡ Some (record { command = c; frames = 256; checkpoint = checkpoint })
 
 -- with options `frames` and `checkpoint`
 abbrev has : List Word → Option Parts → Type 0
@@ -35,9 +39,25 @@ module _ where
   unfolding parts_from
   workers_with_a_word = refl
 
-  no_such_option : asks (codes "run" ∷ codes "--checkpoint" ∷ codes "1" ∷ []) None
+  no_such_option : asks (codes "run" ∷ codes "--lock-depth" ∷ codes "1" ∷ []) None
   unfolding parts_from
   no_such_option = refl
+
+  a_checkpoint_behind_each_commit : asks_often (codes "run" ∷ codes "--checkpoint" ∷ codes "1" ∷ []) run 1
+  unfolding parts_from
+  a_checkpoint_behind_each_commit = refl
+
+  no_checkpoint : asks_often (codes "get" ∷ codes "--checkpoint=0" ∷ codes "x" ∷ []) (get (codes "x")) 0
+  unfolding parts_from
+  no_checkpoint = refl
+
+  the_most_commits : asks_often (codes "workers" ∷ codes "--checkpoint=1000000" ∷ []) workers 1000000
+  unfolding parts_from
+  the_most_commits = refl
+
+  too_many_commits : asks (codes "run" ∷ codes "--checkpoint" ∷ codes "1000001" ∷ []) None
+  unfolding parts_from
+  too_many_commits = refl
 
   frames_unsaid : asks_over (codes "get" ∷ codes "x" ∷ []) (get (codes "x")) 256
   unfolding parts_from

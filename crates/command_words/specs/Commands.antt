@@ -70,32 +70,45 @@ commands =
 abbrev pub command_by : Word → List Word → Option Command
 command_by w plain = option_and_then (λ row. row.1 plain) (find (λ row. bytes_eq row.0 w) commands)
 
--- ---- the option, which every command takes
+-- ---- the options, which every command takes
 
 -- `--frames N`
 abbrev pub frames_name : Word
 frames_name = codes "frames"
 
+-- `--checkpoint N`
+abbrev pub checkpoint_name : Word
+checkpoint_name = codes "checkpoint"
+
 abbrev pub option_names : List Word
-option_names = frames_name ∷ []
+option_names = frames_name ∷ checkpoint_name ∷ []
 
 -- the frames that the option's text tells, from 1 to 65,536; 256 where the option isn't given
 abbrev pub frames_in : Option Word → Option ℕ
 frames_in (Some text) = number_in 1 65536 text
 frames_in None = Some 256
 
+-- behind how many commits a checkpoint is made, by the option's text, at most 1,000,000; 0, which is behind none, where the option isn't given
+abbrev pub checkpoint_in : Option Word → Option ℕ
+checkpoint_in (Some text) = number_in 0 1000000 text
+checkpoint_in None = Some 0
+
 -- ---- the words
 
--- a command, and the most pages of the page file that are kept in memory meanwhile
+-- a command, the most pages of the page file that are kept in memory meanwhile, and behind how many commits a checkpoint is made
 pub record Words : Type 0 where
   pub command : Command
   pub frames : ℕ
+  pub checkpoint : ℕ
 
-abbrev pub with_frames : Command → Option ℕ → Option Words
-with_frames c frames = option_map (λ n. record { command = c; frames = n }) frames
+abbrev pub with_checkpoint : Command → Option ℕ → ℕ → Option Words
+with_checkpoint c checkpoint frames = option_map (λ n. record { command = c; frames = frames; checkpoint = n }) checkpoint
+
+abbrev pub with_options : Option ℕ → Option ℕ → Command → Option Words
+with_options frames checkpoint c = option_and_then (with_checkpoint c checkpoint) frames
 
 abbrev pub of_parts : Word → Parts → Option Words
-of_parts w parts = option_and_then (λ c. with_frames c (frames_in (text_of frames_name parts))) (command_by w parts.plain)
+of_parts w parts = option_and_then (with_options (frames_in (text_of frames_name parts)) (checkpoint_in (text_of checkpoint_name parts))) (command_by w parts.plain)
 
 -- what words ask for: the first is the command's; None where they aren't of the grammar
 abbrev pub words_of_texts : List Word → Option Words
@@ -113,6 +126,10 @@ command_of words = option_map (λ w. w.command) (words_of words)
 abbrev pub frames_of : List (String Global) → Option ℕ
 frames_of words = option_map (λ w. w.frames) (words_of words)
 
+-- behind how many commits they ask for a checkpoint
+abbrev pub checkpoint_of : List (String Global) → Option ℕ
+checkpoint_of words = option_map (λ w. w.checkpoint) (words_of words)
+
 -- ---- what was read
 
 -- a command that was read
@@ -126,4 +143,4 @@ meant (asked.Gen seed count) = gen seed count
 
 -- words that were read
 abbrev pub told : Read → Words
-told words = record { command = meant words.command; frames = words.frames }
+told words = record { command = meant words.command; frames = words.frames; checkpoint = words.checkpoint }

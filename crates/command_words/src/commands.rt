@@ -1,7 +1,7 @@
-//! The words of a command: its own word, then what it takes, with the option anywhere behind its own.
-ghost use Rattle.std.specs.Prelude.{◌≡◌, ◌≤◌, map, None, Some, Err, IfOk, IfSome, option_map};
+//! The words of a command: its own word, then what it takes, with the options anywhere behind its own.
+ghost use Rattle.std.specs.Prelude.{◌≡◌, ◌≤◌, ◌∷◌, map, None, Some, Err, IfOk, IfSome, option_map, string_bytes};
 ghost use Rattle.command_words.specs.Arguments.{Parts, text_of};
-ghost use Rattle.command_words.specs.Commands.{IsInRange, both, command_by, command_of, frames_in, frames_name, frames_of, meant, no_words, of_parts, only, seed_and_count, told};
+ghost use Rattle.command_words.specs.Commands.{IsInRange, both, checkpoint_in, checkpoint_name, checkpoint_of, command_by, command_of, frames_in, frames_name, frames_of, meant, no_words, of_parts, only, seed_and_count, told, words_of_texts};
 ghost use Rattle.command_words.specs.Found.{TellsParts};
 
 use crate::arguments::{Arguments, read_arguments};
@@ -11,20 +11,26 @@ use crate::words::Words;
 use crate::words_error::WordsError;
 use std::alloc::Global;
 
-/// The option's name.
+/// The options' names.
 const FRAMES: &str = "frames";
 
-const OPTIONS: [&str; 1] = [FRAMES];
+const CHECKPOINT: &str = "checkpoint";
+
+const OPTIONS: [&str; 2] = [FRAMES, CHECKPOINT];
 
 const MOST_FRAMES: u32 = 65_536;
 
 /// As many frames are meant where the words tell no number.
 const USUAL_FRAMES: u32 = 256;
 
+/// The most commits between two checkpoints.
+const MOST_COMMITS: u32 = 1_000_000;
+
 /// What the words after the program's name ask for.
 pub fn read_words<'a>(alloc: Global, words: &'a Vec<String>) -> Result<Words<'a>, WordsError>
     ensures command { IfOk result (λ read. command_of words.entry.now.items ≡ Some (meant read.command)) }
     ensures frames { IfOk result (λ read. frames_of words.entry.now.items ≡ Some read.frames) }
+    ensures checkpoint { IfOk result (λ read. checkpoint_of words.entry.now.items ≡ Some read.checkpoint) }
     ensures usage { result ≡ Err WordsError.Usage → command_of words.entry.now.items ≡ None }
     ensures ranges { IfOk result (λ read. IsInRange (meant read.command)) }
     ensures frames_range { IfOk result (λ read. (1 ≤ read.frames) × (read.frames ≤ 65536)) }
@@ -32,14 +38,28 @@ pub fn read_words<'a>(alloc: Global, words: &'a Vec<String>) -> Result<Words<'a>
     let [word, rest @ ..] = words.as_slice() else {
         return Err(WordsError::Usage);
     };
+    words_behind(alloc, word.as_str(), rest)
+}
+
+/// What a command's word and these words behind it ask for.
+fn words_behind<'a>(
+    alloc: Global,
+    word: &'a str,
+    rest: &'a [String],
+) -> Result<Words<'a>, WordsError>
+    ensures words { IfOk result (λ read. words_of_texts (word.entry.now ∷ map string_bytes rest.entry.now) ≡ Some (told read)) }
+    ensures usage { result ≡ Err WordsError.Usage → words_of_texts (word.entry.now ∷ map string_bytes rest.entry.now) ≡ None }
+    ensures ranges { IfOk result (λ read. IsInRange (meant read.command)) }
+    ensures frames_range { IfOk result (λ read. (1 ≤ read.frames) × (read.frames ≤ 65536)) }
+{
     let arguments = read_arguments(alloc, &OPTIONS, rest)?;
-    match words_in(word.as_str(), &arguments) {
+    match words_in(word, &arguments) {
         Some(read) => Ok(read),
         None => Err(WordsError::Usage),
     }
 }
 
-/// The command with this word and what was read behind it, and its frames.
+/// The command with this word and what was read behind it, and its options.
 fn words_in<'a>(word: &'a str, arguments: &Arguments<'a>) -> Option<Words<'a>>
     ensures words { (parts : Parts) → TellsParts arguments.now parts → option_map told result ≡ of_parts word.entry.now parts }
     ensures ranges { IfSome result (λ read. IsInRange (meant read.command)) }
@@ -47,7 +67,12 @@ fn words_in<'a>(word: &'a str, arguments: &Arguments<'a>) -> Option<Words<'a>>
 {
     let command = command_in(word, arguments)?;
     let frames = frames_in(arguments)?;
-    Some(Words { command, frames })
+    let checkpoint = checkpoint_in(arguments)?;
+    Some(Words {
+        command,
+        frames,
+        checkpoint,
+    })
 }
 
 /// The frames of the option, where it was given.
@@ -58,6 +83,16 @@ fn frames_in(arguments: &Arguments<'_>) -> Option<u32>
     match arguments.text(FRAMES) {
         Some(text) => number_in(text, 1, MOST_FRAMES),
         None => Some(USUAL_FRAMES),
+    }
+}
+
+/// How many commits lie between two checkpoints, by the option, where it was given.
+fn checkpoint_in(arguments: &Arguments<'_>) -> Option<u32>
+    ensures { (parts : Parts) → TellsParts arguments.now parts → result ≡ checkpoint_in (text_of checkpoint_name parts) }
+{
+    match arguments.text(CHECKPOINT) {
+        Some(text) => number_in(text, 0, MOST_COMMITS),
+        None => Some(0),
     }
 }
 

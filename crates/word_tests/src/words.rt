@@ -25,11 +25,17 @@ fn command(alloc: Global, words: &str) -> Result<String, Fail> {
     }
 }
 
-/// The command with the frames that the words ask for.
+/// The command with the options that the words ask for.
 fn command_over(alloc: Global, words: &str) -> Result<String, Fail> {
     let words = all_words(alloc, words)?;
     match read_words(alloc, &words) {
-        Ok(Words { command, frames }) => Ok(format!(in alloc; "{command:?} {frames}")?),
+        Ok(
+            Words {
+                command,
+                frames,
+                checkpoint,
+            },
+        ) => Ok(format!(in alloc; "{command:?} {frames} {checkpoint}")?),
         Err(why) => Ok(format!(in alloc; "{why:?}")?),
     }
 }
@@ -50,7 +56,7 @@ const COMMANDS: [(&str, &str); 58] = [
     ("workers --", "Workers"),
     ("workers 2", "Usage"),
     ("worker", "Usage"),
-    ("run --checkpoint=0", "Usage"),
+    ("run --checkpoint=0", "Run"),
     ("--frames 8 run", "Usage"),
     ("run --help", "Usage"),
     ("run -h", "Usage"),
@@ -96,7 +102,7 @@ const COMMANDS: [(&str, &str); 58] = [
     ("gen", "Usage"),
     ("gen 7", "Usage"),
     ("gen 7 1 1", "Usage"),
-    ("gen 7 1 --checkpoint 1", "Usage"),
+    ("gen 7 1 --checkpoint 1", "Gen { seed: 7, count: 1 }"),
 ];
 
 #[test]
@@ -108,21 +114,21 @@ fn words_ask_for_a_command_or_are_refused(rt: HostRuntime) -> Result<(), Fail> {
     Ok(())
 }
 
-/// Words, and the command and the frames that they ask for.
-const FRAMES: [(&str, &str); 26] = [
-    ("run", "Run 256"),
-    ("gen 7 1", "Gen { seed: 7, count: 1 } 256"),
-    ("run --frames 1", "Run 1"),
-    ("run --frames=7", "Run 7"),
-    ("workers --frames 65536", "Workers 65536"),
-    ("put --frames 64 x", "Put(\"x\") 64"),
-    ("get x --frames=64", "Get(\"x\") 64"),
-    ("query x --frames 2 //a", "Query(\"x\", \"//a\") 2"),
-    ("gen 7 --frames=3 1", "Gen { seed: 7, count: 1 } 3"),
-    ("run --frames 0000000009", "Run 9"),
-    ("run --frames 9 --", "Run 9"),
-    ("get -- --frames", "Get(\"--frames\") 256"),
-    ("get --frames 5 -- --frames", "Get(\"--frames\") 5"),
+/// Words, and the command and the options that they ask for: frames, and the commits between two checkpoints.
+const WITH_OPTIONS: [(&str, &str); 38] = [
+    ("run", "Run 256 0"),
+    ("gen 7 1", "Gen { seed: 7, count: 1 } 256 0"),
+    ("run --frames 1", "Run 1 0"),
+    ("run --frames=7", "Run 7 0"),
+    ("workers --frames 65536", "Workers 65536 0"),
+    ("put --frames 64 x", "Put(\"x\") 64 0"),
+    ("get x --frames=64", "Get(\"x\") 64 0"),
+    ("query x --frames 2 //a", "Query(\"x\", \"//a\") 2 0"),
+    ("gen 7 --frames=3 1", "Gen { seed: 7, count: 1 } 3 0"),
+    ("run --frames 0000000009", "Run 9 0"),
+    ("run --frames 9 --", "Run 9 0"),
+    ("get -- --frames", "Get(\"--frames\") 256 0"),
+    ("get --frames 5 -- --frames", "Get(\"--frames\") 5 0"),
     ("run --frames 0", "Usage"),
     ("run --frames 65537", "Usage"),
     ("run --frames 4294967297", "Usage"),
@@ -136,11 +142,26 @@ const FRAMES: [(&str, &str); 26] = [
     ("run --frames 8 --frames=8", "Usage"),
     ("run --frames --frames 8", "Usage"),
     ("run -- --frames 8", "Usage"),
+    ("run --checkpoint 1", "Run 256 1"),
+    ("run --checkpoint=1000000", "Run 256 1000000"),
+    (
+        "gen --checkpoint 2000 7 2000",
+        "Gen { seed: 7, count: 2000 } 256 2000",
+    ),
+    ("workers --checkpoint 0", "Workers 256 0"),
+    ("put x --checkpoint 5", "Put(\"x\") 256 5"),
+    ("run --frames 8 --checkpoint=3", "Run 8 3"),
+    ("run --checkpoint=3 --frames 8", "Run 8 3"),
+    ("run --checkpoint 1000001", "Usage"),
+    ("run --checkpoint", "Usage"),
+    ("run --checkpoint -1", "Usage"),
+    ("run --checkpoint 1 --checkpoint 1", "Usage"),
+    ("run --checkpoint 00000000001", "Usage"),
 ];
 
 #[test]
-fn every_command_takes_a_number_of_frames(rt: HostRuntime) -> Result<(), Fail> {
-    for (words, want) in FRAMES {
+fn every_command_takes_frames_and_checkpoints(rt: HostRuntime) -> Result<(), Fail> {
+    for (words, want) in WITH_OPTIONS {
         let text = command_over(rt.alloc(), words)?;
         assert_eq!(rt; text.as_str(), want, "at {words:?}");
     }
