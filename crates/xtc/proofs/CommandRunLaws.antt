@@ -1,5 +1,5 @@
 -- What a command that ran over a store that was opened leaves, by what its parts leave.
-use Rattle.std.proofs.Common.{List, ◌≡◌, ◌≤◌, ◌+◌, ◌-◌, ℕ, Bool, [], refl, sym, ap, subst, ◌∙◌, add-zero, arith, length}
+use Rattle.std.proofs.Common.{List, ◌≡◌, ◌≤◌, ◌+◌, ◌-◌, ℕ, Bool, false, [], refl, sym, ap, subst, ◌∙◌, add-zero, arith, length}
 use Rattle.std.specs.Prelude.{Option, Some, Result, Ok, Err, IfOk, IfErr, IfSome, OnOk, IsTrue}
 use Rattle.outside_kinds.specs.Bounds.{input_limit}
 use Rattle.outside_traits.specs.DiskPairs.{Pair}
@@ -13,15 +13,17 @@ use Rattle.script_runs.specs.Whole.{piece}
 use Rattle.script_runs.specs.declared.halt.Halt.TheVariants as halt
 use Rattle.script_runs.specs.declared.running.End.{End}
 use Rattle.script_runs.specs.declared.running.End.TheVariants as end
-use Rattle.command_words.specs.Commands.{Command, run, workers, put, get, query, gen}
+use Rattle.command_words.specs.Commands.{Command, run}
 use Rattle.xtc.specs.Commands.{reads_input}
 use Rattle.xtc.specs.Statuses.{status_of_end}
-use Rattle.xtc.specs.TopCall.{IsOfOpened, IsSilent, ScriptRan, tx_limit, whole_limit}
+use Rattle.xtc.specs.TopCall.{CommandRan, IsOfOpened, IsSilent, Outcome, tx_limit, whole_limit}
 use Rattle.xtc.specs.declared.status.Status.{Status}
 use Rattle.xtc.specs.declared.status.Status.TheVariants.{Done, Usage, LineTooLong, Damaged, ReadFault, WriteFault, DiskFault, NoMemory, NotJsonMl, DocumentRefused}
-use Rattle.xtc.specs.inside.Asking.{IsUnwritten, IsWriteEnd}
-use Rattle.xtc.specs.inside.CommandRuns.{Input, Output, Disks, RanOver, RunsCommand, StandSettled}
-use Rattle.xtc.proofs.StatusLaws.{EndsUndamaged, of_workers, script_not_silent, script_opened}
+use Rattle.xtc.specs.inside.Asking.{IsQuiet, IsUnwritten, IsWriteEnd}
+use Rattle.xtc.specs.inside.CommandRuns.{Input, Output, Disks, RanOver, RanWith, RunsCommand, StandSettled}
+use Rattle.node_records.specs.declared.open_error.Place.{Place}
+use Rattle.xtc.specs.Checkpoints.{may_lose, tries}
+use Rattle.xtc.proofs.StatusLaws.{LosesOnly, of_document, of_workers, script_not_silent, script_opened, silent_damaged}
 
 -- ---- the counts of faults
 
@@ -82,33 +84,33 @@ disk_end (end.Halted halt.NoMemory) it = absurd cc
 disk_end (end.Halted (halt.Damaged place)) it = absurd cc
 
 -- the script's end is the status
-pub script_runs : (journal_known pages_known : Bool) (map : Option Entries) (number : ℕ) (e : End) (input input_now : Input) (output output_now : Output) (disks disks_now : Disks)
-    → RanOver journal_known pages_known map number run (status_of_end e) input input_now output output_now disks.files disks_now.files
+pub script_runs : (journal_known pages_known : Bool) (map : Option Entries) (number every : ℕ) (e : End) (input input_now : Input) (output output_now : Output) (disks disks_now : Disks)
+    → RanOver journal_known pages_known map number run every (status_of_end e) input input_now output output_now disks.files disks_now.files
     → (e ≡ end.Done → IfSome input_now.left (λ rest. rest ≡ []))
     → input_now.given ≤ input.given + input_limit
     → ReadCountedWhere (e ≡ end.ReadFault) input_limit input.faults input_now.faults input.given input_now.given
     → CountedWhere (e ≡ end.WriteFault) output.faults output_now.faults
     → DisksCountedWhere (e ≡ end.Halted halt.DiskFault) disks.faults disks_now.faults
-    → EndsUndamaged e
-    → RunsCommand journal_known pages_known map number run (status_of_end e) input input_now output output_now disks disks_now
-script_runs journal_known pages_known map number e input input_now output output_now disks disks_now ran whole bound read write disk undamaged = record {
+    → LosesOnly (may_lose (Some run) every pages_known) e
+    → RunsCommand journal_known pages_known map number run every (status_of_end e) input input_now output output_now disks disks_now
+script_runs journal_known pages_known map number every e input input_now output output_now disks disks_now ran whole bound read write disk loses = record {
   ran = ran;
   whole = λ reads is. whole (done_end e is);
   bound = bound;
-  silent = script_not_silent e _ undamaged;
-  opened = script_opened e undamaged;
+  silent = script_not_silent (may_lose (Some run) every pages_known) e _ loses;
+  opened = script_opened (may_lose (Some run) every pages_known) e loses;
   read = read_counted_as (read_end e) (ap status_of_end) _ _ _ _ _ read;
   write = counted_as (write_end e) (ap status_of_end) _ _ write;
   disk = disks_counted_as (disk_end e) (ap status_of_end) _ _ disk;
 }
 
 -- there was no memory to begin, and nothing was read or written
-pub nothing_runs : (journal_known pages_known : Bool) (map : Option Entries) (number : ℕ) (input : Input) (output : Output) (disks disks_now : Disks)
+pub nothing_runs : (journal_known pages_known : Bool) (map : Option Entries) (number every : ℕ) (input : Input) (output : Output) (disks disks_now : Disks)
     → (IsTrue journal_known → IsTrue pages_known → (t : Tree) → StandsFor map t → StandSettled disks.files t number → (old : Pair)
-    → ScriptRan t number tx_limit NoMemory disks.files (record { read = []; asked = input.asked - input.given; left = input.left; before = output.held; now = output.held; old = old; new = disks_now.files }))
+    → RanWith t number tx_limit run every NoMemory disks.files (record { read = []; asked = input.asked - input.given; left = input.left; before = output.held; now = output.held; old = old; new = disks_now.files }))
     → disks_now.faults ≡ disks.faults
-    → RunsCommand journal_known pages_known map number run NoMemory input input output output disks disks_now
-nothing_runs journal_known pages_known map number input output disks disks_now ran same = record {
+    → RunsCommand journal_known pages_known map number run every NoMemory input input output output disks disks_now
+nothing_runs journal_known pages_known map number every input output disks disks_now ran same = record {
   ran = ([], gave_none input.left, sym (add-zero input.given), ran);
   whole = λ reads is. absurd cc;
   bound = omega arith;
@@ -122,79 +124,94 @@ nothing_runs journal_known pages_known map number input output disks disks_now r
 -- ---- a command of one document
 
 -- an answer that there is no text
-abbrev as_error : (T : Type 0) → Status → Result T Status
+abbrev pub as_error : (T : Type 0) → Status → Result T Status
 as_error T e = Err e
 
 -- where nothing was written
-silent_as : (c : Command) (status : Status) (P : Type 0) → P → IsSilent (Some c) status P
-silent_as c Done P p = tt
-silent_as c WriteFault P p = tt
-silent_as c DiskFault P p = of_workers (Some c) P p
-silent_as c NoMemory P p = of_workers (Some c) P p
-silent_as c Usage P p = p
-silent_as c (Damaged place) P p = p
-silent_as c (NotJsonMl why) P p = p
-silent_as c (DocumentRefused why) P p = p
-silent_as run (LineTooLong line) P p = tt
-silent_as workers (LineTooLong line) P p = p
-silent_as (put name) (LineTooLong line) P p = p
-silent_as (get name) (LineTooLong line) P p = p
-silent_as (query name path) (LineTooLong line) P p = p
-silent_as (gen seed count) (LineTooLong line) P p = p
-silent_as run ReadFault P p = tt
-silent_as workers ReadFault P p = p
-silent_as (put name) ReadFault P p = p
-silent_as (get name) ReadFault P p = p
-silent_as (query name path) ReadFault P p = p
-silent_as (gen seed count) ReadFault P p = p
+silent_as : (c : Command) (lost : Bool) (status : Status) (P : Type 0) → P → IsSilent (Some c) lost status P
+silent_as c lost Done P p = tt
+silent_as c lost WriteFault P p = tt
+silent_as c lost DiskFault P p = of_workers (Some c) P p
+silent_as c lost NoMemory P p = of_workers (Some c) P p
+silent_as c lost Usage P p = p
+silent_as c lost (Damaged place) P p = silent_damaged (Some c) lost place P p
+silent_as c lost (NotJsonMl why) P p = p
+silent_as c lost (DocumentRefused why) P p = p
+silent_as c lost (LineTooLong line) P p = of_document (Some c) P p
+silent_as c lost ReadFault P p = of_document (Some c) P p
 
 -- a status with which writing ends asks for no silence, and a store was opened
-write_end_is : (c : Command) (status : Status) (P : Type 0) → IsWriteEnd status → IsSilent (Some c) status P × IsOfOpened status
-write_end_is c Done P is = (tt, tt)
-write_end_is c WriteFault P is = (tt, tt)
-write_end_is c Usage P is = absurd is
-write_end_is c (LineTooLong line) P is = absurd is
-write_end_is c (Damaged place) P is = absurd is
-write_end_is c ReadFault P is = absurd is
-write_end_is c DiskFault P is = absurd is
-write_end_is c NoMemory P is = absurd is
-write_end_is c (NotJsonMl why) P is = absurd is
-write_end_is c (DocumentRefused why) P is = absurd is
+write_end_is : (c : Command) (lost : Bool) (status : Status) (P : Type 0) → IsWriteEnd status → IsSilent (Some c) lost status P × IsOfOpened lost status
+write_end_is c lost Done P is = (tt, tt)
+write_end_is c lost WriteFault P is = (tt, tt)
+write_end_is c lost Usage P is = absurd is
+write_end_is c lost (LineTooLong line) P is = absurd is
+write_end_is c lost (Damaged place) P is = absurd is
+write_end_is c lost ReadFault P is = absurd is
+write_end_is c lost DiskFault P is = absurd is
+write_end_is c lost NoMemory P is = absurd is
+write_end_is c lost (NotJsonMl why) P is = absurd is
+write_end_is c lost (DocumentRefused why) P is = absurd is
 
-unwritten_opened : (status : Status) → IsUnwritten status → IsOfOpened status
-unwritten_opened Done is = tt
-unwritten_opened WriteFault is = tt
-unwritten_opened Usage is = is
-unwritten_opened (Damaged place) is = is
-unwritten_opened (LineTooLong line) is = tt
-unwritten_opened ReadFault is = tt
-unwritten_opened DiskFault is = tt
-unwritten_opened NoMemory is = tt
-unwritten_opened (NotJsonMl why) is = tt
-unwritten_opened (DocumentRefused why) is = tt
+-- a status with which there is nothing to write is one of a store that was opened
+unwritten_opened : (lost : Bool) (status : Status) → IsQuiet status → ((place : Place) → status ≡ Damaged place → IsTrue lost) → IsOfOpened lost status
+unwritten_opened lost Done is loses = tt
+unwritten_opened lost WriteFault is loses = tt
+unwritten_opened lost Usage is loses = is
+unwritten_opened lost (Damaged place) is loses = loses place refl
+unwritten_opened lost (LineTooLong line) is loses = tt
+unwritten_opened lost ReadFault is loses = tt
+unwritten_opened lost DiskFault is loses = tt
+unwritten_opened lost NoMemory is loses = tt
+unwritten_opened lost (NotJsonMl why) is loses = tt
+unwritten_opened lost (DocumentRefused why) is loses = tt
 
 -- how a command ends, by the text that there is to write: as writing it ends, or as there is none
 abbrev pub EndsBy : {T : Type 0} → Result T Status → Status → Type 0 → Type 0
 EndsBy (Ok text) status silent = IsWriteEnd status
-EndsBy (Err why) status silent = IsUnwritten why × (status ≡ why) × silent
+EndsBy (Err why) status silent = IsQuiet why × (status ≡ why) × silent
 
 pub ends_by : {T : Type 0} (r : Result T Status) (status : Status) (silent : Type 0) (W : T → Type 0)
-    → IfErr r IsUnwritten → IfOk r (λ text. IsWriteEnd status × W text) → IfErr r (λ why. (status ≡ why) × silent) → EndsBy r status silent
+    → IfErr r IsQuiet → IfOk r (λ text. IsWriteEnd status × W text) → IfErr r (λ why. (status ≡ why) × silent) → EndsBy r status silent
 ends_by (Ok text) status silent W unwritten written none = written.0
 ends_by (Err why) status silent W unwritten written none = (unwritten, none.0, none.1)
 
-ends_silent : {T : Type 0} (c : Command) (r : Result T Status) (status : Status) (P : Type 0) → EndsBy r status P → IsSilent (Some c) status P
-ends_silent c (Ok text) status P is = (write_end_is c status P is).0
-ends_silent c (Err why) status P is = silent_as c status P is.2
+ends_silent : {T : Type 0} (c : Command) (lost : Bool) (r : Result T Status) (status : Status) (P : Type 0) → EndsBy r status P → IsSilent (Some c) lost status P
+ends_silent c lost (Ok text) status P is = (write_end_is c lost status P is).0
+ends_silent c lost (Err why) status P is = silent_as c lost status P is.2
 
-ends_opened : {T : Type 0} (c : Command) (r : Result T Status) (status : Status) (P : Type 0) → EndsBy r status P → IsOfOpened status
-ends_opened c (Ok text) status P is = (write_end_is c status P is).1
-ends_opened c (Err why) status P is = subst IsOfOpened (sym is.1) (unwritten_opened why is.0)
+-- it ends as damage only where a file may be lost
+abbrev pub LosesOnlyAt : {T : Type 0} → Bool → Result T Status → Type 0
+LosesOnlyAt {T} lost r = (place : Place) → r ≡ as_error T (Damaged place) → IsTrue lost
+
+ends_opened : {T : Type 0} (c : Command) (lost : Bool) (r : Result T Status) (status : Status) (P : Type 0) → EndsBy r status P → LosesOnlyAt lost r → IsOfOpened lost status
+ends_opened c lost (Ok text) status P is loses = (write_end_is c lost status P is).1
+ends_opened {T} c lost (Err why) status P is loses = subst (IsOfOpened lost) (sym is.1) (unwritten_opened lost why is.0 (λ place it. loses place (ap (as_error T) it)))
+
+-- what is unwritten is quiet, and no damage
+quiet : (status : Status) → IsUnwritten status → IsQuiet status
+quiet Done is = is
+quiet WriteFault is = is
+quiet Usage is = is
+quiet (Damaged place) is = tt
+quiet (LineTooLong line) is = tt
+quiet ReadFault is = tt
+quiet DiskFault is = tt
+quiet NoMemory is = tt
+quiet (NotJsonMl why) is = tt
+quiet (DocumentRefused why) is = tt
+
+pub quiets : {T : Type 0} (r : Result T Status) → IfErr r IsUnwritten → IfErr r IsQuiet
+quiets (Ok text) is = tt
+quiets (Err why) is = quiet why is
+
+pub not_lost : {T : Type 0} (r : Result T Status) → IfErr r IsUnwritten → (place : Place) → r ≡ as_error T (Damaged place) → ⊥
+not_lost {T} r is place it = let no : IfErr (as_error T (Damaged place)) IsUnwritten = subst (λ (x : Result T Status). IfErr x IsUnwritten) it is in no
 
 -- what holds where there is a text holds at the end of the command
 ends_done : {T : Type 0} (r : Result T Status) (status : Status) (P W : Type 0) → EndsBy r status P → OnOk r W → status ≡ Done → W
 ends_done (Ok text) status P W is holds done = holds
-ends_done (Err why) status P W is holds done = absurd (subst IsUnwritten (sym is.1 ∙ done) is.0)
+ends_done (Err why) status P W is holds done = absurd (subst IsQuiet (sym is.1 ∙ done) is.0)
 
 error_of : {T : Type 0} {e f : Status} → as_error T e ≡ as_error T f → e ≡ f
 error_of it = cc
@@ -216,25 +233,43 @@ put_within given given_now read sum within = omega (arith, sum, within)
 pub by_count : {P : Type 0} (most before now given given_now : ℕ) → CountedWhere P before now → ReadCountedWhere P most before now given given_now
 by_count most before now given given_now c = record { cause = λ p. counted (c.counted p); exact = c.exact }
 
-pub document_runs : {T : Type 0} (journal_known pages_known : Bool) (map : Option Entries) (number : ℕ) (c : Command) (r : Result T Status) (status : Status)
+pub document_runs : {T : Type 0} (journal_known pages_known : Bool) (map : Option Entries) (number : ℕ) (c : Command) (every : ℕ) (r : Result T Status) (status : Status)
     (input input_now : Input) (output output_now : Output) (disks disks_now : Disks)
     → EndsBy r status (output_now.held ≡ output.held)
-    → RanOver journal_known pages_known map number c status input input_now output output_now disks.files disks_now.files
+    → LosesOnlyAt (may_lose (Some c) every pages_known) r
+    → RanOver journal_known pages_known map number c every status input input_now output output_now disks.files disks_now.files
     → (IsTrue (reads_input (Some c)) → OnOk r (IfSome input_now.left (λ rest. rest ≡ [])))
     → input_now.given ≤ input.given + input_limit
     → ReadCountedWhere (r ≡ Err ReadFault) input_limit input.faults input_now.faults input.given input_now.given
     → CountedWhere (status ≡ WriteFault) output.faults output_now.faults
     → DisksCountedWhere (r ≡ Err DiskFault) disks.faults disks_now.faults
-    → RunsCommand journal_known pages_known map number c status input input_now output output_now disks disks_now
-document_runs journal_known pages_known map number c r status input input_now output output_now disks disks_now ends ran whole bound read write counts =
+    → RunsCommand journal_known pages_known map number c every status input input_now output output_now disks disks_now
+document_runs journal_known pages_known map number c every r status input input_now output output_now disks disks_now ends loses ran whole bound read write counts =
     let P : Type 0 = output_now.held ≡ output.held in
+    let lost : Bool = may_lose (Some c) every pages_known in
     record {
       ran = ran;
       whole = λ reads is. ends_done r status P _ ends (whole reads) is;
       bound = bound;
-      silent = ends_silent c r status P ends;
-      opened = ends_opened c r status P ends;
+      silent = ends_silent c lost r status P ends;
+      opened = ends_opened c lost r status P ends loses;
       read = read_counted_as (ends_there r status ReadFault P (λ no. no) ends) (ends_back r status ReadFault P ends) _ _ _ _ _ read;
       write = write;
       disk = disks_counted_as (ends_there r status DiskFault P (λ no. no) ends) (ends_back r status DiskFault P ends) _ _ counts;
     }
+
+-- ---- a command that makes no checkpoints
+
+-- nothing is lost, and the pages aren't written
+pub without_checkpoints : (t : Tree) (n limit : ℕ) (c : Command) (every : ℕ) (status : Status) (opening : Pair) (o : Outcome) → tries (Some c) every ≡ false → CommandRan t n limit (Some c) status opening o → IsOfOpened false status → o.new.pages ≡ opening.pages
+    → RanWith t n limit c every status opening o
+without_checkpoints t n limit c every status opening o none ran opened still = record {
+  ran = ran;
+  undamaged = opened;
+  pages = λ no. still;
+  made = λ done some. absurd (let no : IsTrue false = subst IsTrue none some in cc);
+}
+
+-- the end of such a command is no damage
+pub ends_undamaged : {T : Type 0} (c : Command) (r : Result T Status) (status : Status) (P : Type 0) → EndsBy r status P → ((place : Place) → r ≡ as_error T (Damaged place) → ⊥) → IsOfOpened false status
+ends_undamaged c r status P ends sound = ends_opened c false r status P ends (λ place it. absurd (sound place it))

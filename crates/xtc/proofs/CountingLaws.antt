@@ -1,5 +1,5 @@
 -- Lines of the generator's script, one behind another: what they ask, what is counted of them, and what they leave of a store.
-use Rattle.std.proofs.Common.{◌≡◌, ◌≢◌, ◌==◌, ℕ, Bool, true, false, List, [], ◌∷◌, ◌++◌, length, Less, is_lt, nat_cmp, inl, refl, sym, ap, subst, ◌∙◌, append-nil, arith}
+use Rattle.std.proofs.Common.{◌≡◌, ◌≢◌, ◌==◌, ℕ, Bool, false, List, [], ◌∷◌, ◌++◌, length, Less, is_lt, nat_cmp, inl, refl, sym, ap, subst, ◌∙◌, append-nil, arith}
 use Rattle.std.specs.Prelude.{Option, None, Some, Result, Ok, Err, OnOk, cond, is_some, not, option_map}
 use Rattle.std.specs.Result.{IsErrAnd}
 use Rattle.std.proofs.lemmas.Bool.{ne_eqb}
@@ -15,11 +15,11 @@ use Rattle.tree_model.specs.Keys.{node_key}
 use Rattle.tree_model.specs.Names.{Name}
 use Rattle.tree_model.specs.Tree.{Catalogue, Tree, entries_of, map_of}
 use Rattle.tree_model.specs.ValidTrees.{IsValidTree, NamesRise}
-use Rattle.tree_model.specs.declared.refusal.Refusal.TheVariants.{DocumentExists}
 use Rattle.tree_model.proofs.Lists.{all_append}
 use Rattle.tree_model.proofs.WholeTree.{catalogue_entries, documents_above}
 use Rattle.node_seq.specs.Reads.{key_above}
-use Rattle.call_contract.specs.States.{State, start}
+use Rattle.call_contract.specs.Books.{Book}
+use Rattle.call_contract.specs.States.{State}
 use Rattle.command_lines.specs.declared.command.StoreCall.{StoreCall}
 use Rattle.command_lines.specs.declared.line_reply.LineReply.{LineReply}
 use Rattle.session_driver.specs.Lines.{Asked, IsValidDoing, after_line as after_asked_line}
@@ -32,36 +32,33 @@ use Rattle.workload_gen.specs.Summaries.{after_line}
 use Rattle.workload_gen.specs.declared.line.Line.{Line}
 use Rattle.workload_gen.specs.declared.summary.Summary.{Summary}
 use Rattle.command_words.specs.Commands.{gen}
-use Rattle.durable_sessions.specs.Asked.{LeadsTo, LeavesEither}
+use Rattle.durable_sessions.specs.Asked.{GrowsByOne, LeadsTo, LeavesEither}
 use Rattle.durable_sessions.specs.InTurn.{AllAnswered, stop_of}
 use Rattle.durable_sessions.specs.Reasons.{first_reason, limit_of}
 use Rattle.durable_sessions.specs.Standing.{Stands}
 use Rattle.durable_sessions.specs.declared.halt.Halt.{Halt}
-use Rattle.durable_sessions.specs.declared.in_turn.Stop.{Stop}
 use Rattle.durable_sessions.specs.declared.in_turn.Stop.TheVariants.{Refused}
-use Rattle.durable_sessions.proofs.InTurnLists.{after_on, said_on}
-use Rattle.durable_sessions.proofs.InTurnLaws.{answered_on, image_holds, none_asked, step_moments, step_lines, step_stopped, stopped_on, stopped_wider}
-use Rattle.xtc.specs.Documents.{asks_of, end_of, gen_asks_of, has_documents}
+use Rattle.durable_sessions.proofs.InTurnLists.{after_on}
+use Rattle.durable_sessions.proofs.InTurnLaws.{image_holds, none_asked, step_moments, step_lines, step_stopped}
+use Rattle.xtc.specs.Book.{after_asked}
+use Rattle.xtc.specs.Documents.{asks_of, gen_asks_of, has_documents}
 use Rattle.xtc.specs.Generated.{asked_in, counted, generated, generated_line}
 use Rattle.xtc.specs.ScriptLine.{Line as Read, line_of}
 use Rattle.durable_sessions.specs.declared.reasons.Reason.{Reason}
-use Rattle.durable_sessions.specs.declared.reasons.Reason.TheVariants as reason
-use Rattle.xtc.specs.declared.status.Status.TheVariants.{DocumentRefused}
-use Rattle.xtc.specs.inside.Asking.{AreValidAsks, DocumentWent, LeavesFirst, Stopped, after, said}
-use Rattle.xtc.specs.inside.Counting.{AllCounted, AskedLine, HasRun, Made, RanLines}
-use Rattle.xtc.proofs.DocumentLaws.{nothing_asked}
+use Rattle.xtc.specs.inside.Asking.{AreValidAsks, LeavesFirst, Stopped, after, said}
+use Rattle.xtc.specs.inside.Counting.{AskedLine, Made}
 
 -- ---- lists
 
-generated_on : (xs ys : List Line) → generated (xs ++ ys) ≡ generated xs ++ generated ys
+pub generated_on : (xs ys : List Line) → generated (xs ++ ys) ≡ generated xs ++ generated ys
 generated_on [] ys = refl
 generated_on (x ∷ xs) ys =
     ap (λ (l : List (Asked StoreCall)). generated_line x ++ l) (generated_on xs ys) ∙ sym (append_assoc (generated_line x) (generated xs) (generated ys))
 
-generated_one : (front : List Line) (line : Line) → generated (front ++ line ∷ []) ≡ generated front ++ generated_line line
+pub generated_one : (front : List Line) (line : Line) → generated (front ++ line ∷ []) ≡ generated front ++ generated_line line
 generated_one front line = generated_on front (line ∷ []) ∙ ap (λ (l : List (Asked StoreCall)). generated front ++ l) (append-nil (generated_line line))
 
-counted_on : (s : State StoreCall) (before : Summary) (xs ys : List Line) → counted s before (xs ++ ys) ≡ counted (after s (generated xs)) (counted s before xs) ys
+pub counted_on : (s : State StoreCall) (before : Summary) (xs ys : List Line) → counted s before (xs ++ ys) ≡ counted (after s (generated xs)) (counted s before xs) ys
 counted_on s before [] ys = refl
 counted_on s before (x ∷ xs) ys =
     let first : Summary = after_line before x.step (said s (generated_line x)) in
@@ -139,75 +136,23 @@ module _ {B : Type 0} (contents : B → Option Entries) where
         cause = (ap (first_reason limit_of) (sym made.replies) ∙ refused, refl);
       }
 
-  -- ---- one line behind others
+  -- ---- the book
 
-  -- the replies before don't matter
-  behind_others : (is_known : Bool) (s : State StoreCall) (all : List (Asked StoreCall)) (old : History) (core : CoreView StoreCall B) (new : History) (before now others : List LineReply)
-      → AllAnswered IsValidStoreCall store_meaning contents limit_of is_known s all old core new before now → AllAnswered IsValidStoreCall store_meaning contents limit_of is_known s all old core new others (others ++ said s all)
-  behind_others is_known s all old core new before now others h = record {
-    valid = h.valid;
-    leads = h.leads;
-    moments = h.moments;
-    still = h.still;
-    replies = refl;
-    unrefused = h.unrefused;
-  }
+  -- its entries are those of what is asked
+  pub book_asked : {T : Type 0} (r : Result T Halt) (line : Line) (a : Asked StoreCall) (first core : CoreView StoreCall B) → a ∷ [] ≡ generated_line line
+      → OnOk r ((u : State StoreCall) → Stands store_meaning contents first u → core.book ≡ first.book ++ (after_asked_line store_meaning u a).book)
+      → OnOk r ((u : State StoreCall) → Stands store_meaning contents first u → core.book ≡ first.book ++ (after_asked u (generated_line line)).book)
+  book_asked (Ok x) line a first core is book = λ u stands.
+      subst (λ (l : List (Asked StoreCall)). core.book ≡ first.book ++ (after_asked u l).book) is
+      (book u stands ∙ ap (λ (b : Book StoreCall). first.book ++ b) (sym (append-nil (after_asked_line store_meaning u a).book)))
+  book_asked (Err e) line a first core is book = tt
 
-  pub none_run : (is_known : Bool) (s : State StoreCall) (lines : List Line) (core : CoreView StoreCall B) (journal : History) (summary : Summary) → Stands store_meaning contents core s → HasRun contents is_known s lines lines journal core journal summary summary
-  none_run is_known s lines core journal summary stands = record {
-    front = [];
-    parts = refl;
-    done = record { answered = none_asked IsValidStoreCall store_meaning contents limit_of is_known s core journal [] stands; counts = refl };
-  }
+  -- where nothing is asked there are none
+  pub book_unasked : (line : Line) (core : CoreView StoreCall B) → [] ≡ generated_line line → (u : State StoreCall) → Stands store_meaning contents core u → core.book ≡ core.book ++ (after_asked u (generated_line line)).book
+  book_unasked line core is u stands = subst (λ (l : List (Asked StoreCall)). core.book ≡ core.book ++ (after_asked u l).book) is (sym (append-nil core.book))
 
-module _ {B : Type 0} (contents : B → Option Entries) (is_known : Bool) (s : State StoreCall) (lines rest : List Line) (line : Line) (old mid : History) (core : CoreView StoreCall B) (before now : Summary)
-    (run : HasRun contents is_known s lines (line ∷ rest) old core mid before now) where
-  -- the state in which the line is asked
-  abbrev pub here : State StoreCall
-  here = after s (generated run.front)
-
-  pub here_stands : Stands store_meaning contents core here
-  here_stands = run.done.answered.leads.stands
-
-  pub run_on : (last : CoreView StoreCall B) (new : History) (replies : List LineReply) (later : Summary) → AllAnswered IsValidStoreCall store_meaning contents limit_of is_known here (generated_line line) mid last new [] replies
-      → later ≡ after_line now line.step replies → HasRun contents is_known s lines rest old last new before later
-  run_on last new replies later two counts =
-      let front : List (Asked StoreCall) = generated run.front in
-      let both : AllAnswered IsValidStoreCall store_meaning contents limit_of is_known s (front ++ generated_line line) old last new [] (said s front ++ said here (generated_line line)) =
-      answered_on IsValidStoreCall store_meaning contents limit_of is_known s front (generated_line line) old mid core [] (said s front) run.done.answered last new (said s front ++ said here (generated_line line))
-      (behind_others contents is_known here (generated_line line) mid last new [] replies (said s front) two) in
-      record {
-        front = run.front ++ line ∷ [];
-        parts = append_assoc run.front (line ∷ []) rest ∙ run.parts;
-        done = record {
-          answered = subst (λ (l : List (Asked StoreCall)). AllAnswered IsValidStoreCall store_meaning contents limit_of is_known s l old last new [] (said s l)) (sym (generated_one run.front line))
-              (subst (AllAnswered IsValidStoreCall store_meaning contents limit_of is_known s (front ++ generated_line line) old last new []) (sym (said_on store_meaning s front (generated_line line))) both);
-          counts = counts ∙ ap (λ (x : Summary × List LineReply). after_line x.0 line.step x.1) (λ i. (run.done.counts i, two.replies i)) ∙ sym (counted_on s before run.front (line ∷ []));
-        };
-      }
-
-  pub run_stops : (new : History) (stop : Stop) → Stopped limit_of is_known here (generated_line line) mid new stop → Stopped limit_of is_known s (generated lines) old new stop
-  run_stops new stop two =
-      let front : List (Asked StoreCall) = generated run.front in
-      let all : (front ++ generated_line line) ++ generated rest ≡ generated lines =
-      append_assoc front (generated_line line) (generated rest) ∙ sym (generated_on run.front (line ∷ rest)) ∙ ap generated run.parts in
-      subst (λ (l : List (Asked StoreCall)). Stopped limit_of is_known s l old new stop) all
-      (stopped_wider IsValidStoreCall store_meaning limit_of is_known s (front ++ generated_line line) (generated rest) old new stop
-      (stopped_on IsValidStoreCall store_meaning contents limit_of is_known s front (generated_line line) old mid core [] (said s front) run.done.answered new stop two))
-
-module _ {B : Type 0} (contents : B → Option Entries) where
-  -- nothing is left
-  pub run_ends : (is_known : Bool) (s : State StoreCall) (lines rest : List Line) (old new : History) (core : CoreView StoreCall B) (before now : Summary) → HasRun contents is_known s lines rest old core new before now → rest ≡ []
-      → AllCounted contents is_known s lines old core new before now
-  run_ends is_known s lines rest old new core before now run none =
-      let all : run.front ≡ lines = sym (append-nil run.front) ∙ ap (λ (l : List Line). run.front ++ l) (sym none) ∙ run.parts in
-      subst (λ (l : List Line). AllCounted contents is_known s l old core new before now) all run.done
-
-  -- it stopped
-  pub ran_err : {T : Type 0} (r : Result T Stop) (stop : Stop) (is_known : Bool) (s : State StoreCall) (lines : List Line) (old : History) (core : CoreView StoreCall B) (new : History) (before now : Summary)
-      → IsErrAnd r (λ e. e ≡ stop) → Stopped limit_of is_known s (generated lines) old new stop → RanLines contents is_known s lines old core new before now r
-  ran_err (Ok x) stop is_known s lines old core new before now none stopped = absurd none
-  ran_err (Err e) stop is_known s lines old core new before now is stopped = subst (Stopped limit_of is_known s (generated lines) old new) (sym is) stopped
+  pub grows_by_none : (core : CoreView StoreCall B) → GrowsByOne core core
+  grows_by_none core = record { opening = refl; number = refl; limit = refl; more = []; book = sym (append-nil core.book); one = omega arith }
 
 -- ---- a store with documents
 
@@ -232,13 +177,6 @@ first_is k (e ∷ es) all = ap (λ (o : Ordering). is_some (option_map (λ x. x.
 -- so a store has documents exactly where it has a key above the root's
 pub documents_seen : (t : Tree) → IsValidTree t → is_some (key_above (node_key root) (map_of t)) ≡ has_documents t
 documents_seen t valid = first_is (node_key root) (map_of t) (all_above t valid)
-
--- then nothing is asked
-pub documents_refused : (is_known : Bool) (t : Tree) (n limit seed count : ℕ) (journal : History) → has_documents t ≡ true
-    → DocumentWent is_known (start t n limit) (gen seed count) [] journal journal (DocumentRefused (reason.Call DocumentExists))
-documents_refused is_known t n limit seed count journal some =
-    nothing_asked is_known (start t n limit) (gen seed count) [] journal (DocumentRefused (reason.Call DocumentExists))
-    (ap (λ (b : Bool). end_of (gen seed count) (start t n limit) (gen_asks_of b seed count)) some) (omega arith)
 
 pub script_asked : (s : State StoreCall) (seed count : ℕ) → has_documents s.tree ≡ false → asks_of (gen seed count) s [] ≡ Ok (generated (script seed count))
 script_asked s seed count none = ap (λ (b : Bool). gen_asks_of b seed count) none

@@ -54,7 +54,7 @@ use Rattle.xtc.proofs.StoreMachineLaws.{image_same}
 abbrev no_element : Status → Result Fragment Status
 no_element e = Err e
 
-none_first : (r : Result (List (Asked StoreCall)) Status) → AreFirst [] r
+pub none_first : (r : Result (List (Asked StoreCall)) Status) → AreFirst [] r
 none_first (Ok asks) = (asks, refl)
 none_first (Err why) = refl
 
@@ -107,12 +107,12 @@ module _ (is_known : Bool) (s : State StoreCall) (c : Command) (read : List ℕ)
   nothing_judged whole journal status end short judged = record { went = nothing_asked journal status end short; judged = judged }
 
   module _ (all : List (Asked StoreCall)) (is : asks_of c s read ≡ Ok all) (short : length read ≤ whole_limit) (old new : History) where
-    few_by : (why : Stop) (lines : List LineReply) (more : List (Asked StoreCall)) → StopsBy (stops_at c) why lines more → length more ≤ 1 → length more ≤ slack (status_of_stop why)
+    pub few_by : (why : Stop) (lines : List LineReply) (more : List (Asked StoreCall)) → StopsBy (stops_at c) why lines more → length more ≤ 1 → length more ≤ slack (status_of_stop why)
     few_by (stop.Refused reason) lines more cause one = let none : length more ≡ 0 = ap length cause.1 in omega (arith, none)
     few_by stop.DiskFault lines more cause one = one
     few_by stop.NoMemory lines more cause one = one
 
-    end_is : (why : Stop) (answered more rest : List (Asked StoreCall)) → answered ++ (more ++ rest) ≡ all → StopsBy (stops_at c) why (said s answered) more → IsDocumentEnd c s read (status_of_stop why) (answered ++ more)
+    pub end_is : (why : Stop) (answered more rest : List (Asked StoreCall)) → answered ++ (more ++ rest) ≡ all → StopsBy (stops_at c) why (said s answered) more → IsDocumentEnd c s read (status_of_stop why) (answered ++ more)
     end_is (stop.Refused reason) answered more rest parts cause =
         ap (end_of c s) is
         ∙ ap (λ (l : List (Asked StoreCall)). end_by (first_reason (stops_at c) (said s l))) (sym parts)
@@ -218,7 +218,7 @@ module _ (t : Tree) (n limit : ℕ) (formed : IsValidTree t) where
   abbrev s : State StoreCall
   s = start t n limit
 
-  opens_first : (least : ℕ) (asked first rest : List (Asked StoreCall)) (journal pages bytes : List ℕ) → AreValidAsks asked → first ++ rest ≡ asked → least ≤ length first → pages ≡ bytes → HoldState (after s first) journal bytes
+  pub opens_first : (least : ℕ) (asked first rest : List (Asked StoreCall)) (journal pages bytes : List ℕ) → AreValidAsks asked → first ++ rest ≡ asked → least ≤ length first → pages ≡ bytes → HoldState (after s first) journal bytes
       → OpenAfterAsked t n limit least asked journal pages
   opens_first least asked first rest journal pages bytes valid parts enough same holds =
       let taken : take (length first) asked ≡ first = ap (take (length first)) (sym parts) ∙ take-append_seam first rest in
@@ -266,7 +266,6 @@ module _ (t : Tree) (n limit : ℕ) (formed : IsValidTree t) where
         });
         left = left;
         reads = left o.new.journal.now.reads o.new.pages.now.reads of_journal of_pages;
-        pages = still;
       }
 
 -- ---- results

@@ -1,8 +1,8 @@
 -- A store that was opened may be asked, and its files hold what is committed.
-use Rattle.std.proofs.Common.{◌≡◌, ℕ, ◌+◌, Bool, ◌&&◌, IsTrue, refl, sym, ap, subst, ◌∙◌, add-zero}
-use Rattle.std.specs.Prelude.{Option}
+use Rattle.std.proofs.Common.{◌≡◌, ℕ, ◌+◌, Bool, ◌&&◌, IsTrue, refl, sym, ap, subst, ◌∙◌, add-zero, arith}
+use Rattle.std.specs.Prelude.{Option, None}
 use Rattle.outside_traits.specs.DiskPairs.{pair_of}
-use Rattle.outside_traits.specs.Moments.{History}
+use Rattle.outside_traits.specs.Moments.{History, IsAllSynced}
 use Rattle.tree_model.specs.Entries.{Entries}
 use Rattle.tree_model.specs.Tree.{Tree}
 use Rattle.node_seq.specs.Trees.{StandsFor}
@@ -18,8 +18,11 @@ use Rattle.call_contract.specs.States.{start}
 use Rattle.command_lines.specs.declared.command.StoreCall.{StoreCall}
 use Rattle.store_calls.specs.StoreCalls.{store_meaning}
 use Rattle.tx_core.specs.Cores.{CoreView, next_number, opened_over}
-use Rattle.xtc.specs.StoreMachine.{Held, KeptStore, pages_of, store_machine, told}
-use Rattle.xtc.specs.inside.CommandRuns.{StandSettled}
+use Rattle.checkpoint.specs.Bases.{contents_of}
+use Rattle.checkpoint.specs.declared.base.Base.TheVariants.{Paged}
+use Rattle.xtc.specs.StoreMachine.{Booked, HasRested, Held, IsBooked, KeptStore, begun_at, pages_of, store_machine, told}
+use Rattle.xtc.specs.inside.CommandRuns.{HasTree, StandSettled}
+use Rattle.xtc.proofs.SoundBooks.{empty_legal}
 use Rattle.xtc.proofs.StoreMachineLaws.{settled_out}
 
 -- the files of a store that was opened hold what is committed at the start
@@ -52,17 +55,39 @@ module _ {B : Type 0} (contents : B → Option Entries) (base : B) (n limit : �
   counts_from {Q} count new out same journal journal_now counts =
       subst (λ (x : B × B). DisksCountedWhere Q (record { journal = journal; pages = count x.0 }) (record { journal = journal_now; pages = count x.1 })) (λ i. (base_is i, sym same i)) counts
 
-module _ {P : Type 0} (journal_known pages_known : Bool) (history : P → History) (faults : P → ℕ) (base : Held P) (n limit : ℕ) (core : CoreView StoreCall (Held P)) (journal : JournalView)
-    (is : core ≡ opened_over base (told pages_known history base) n limit) where
-  abbrev opened : KeptStore P
-  opened = record { core = core; journal = journal }
+-- ---- a store before its first line
 
-  held_is : core.base ≡ base
-  held_is = ap (λ (v : CoreView StoreCall (Held P)). v.base) is
+module _ {P : Type 0} (journal_known pages_known makes : Bool) (history : P → History) (faults : P → ℕ) (base : Held P) (n limit every : ℕ) (journal : JournalView) where
+  abbrev pub first : KeptStore P
+  first = record { core = opened_over (Paged base) (told pages_known history base) n limit; journal = journal; checkpoints = record { every = every; opened = n; seen = 0; pages = None } }
+
+  -- it may be asked a line
+  pub first_rested : TakesBehind journal n → (IsTrue pages_known → IsAllSynced (pages_of history base)) → (IsTrue pages_known → HasTree (told pages_known history base)) → HasRested pages_known history first
+  first_rested takes synced tree =
+      let next : TakesNext first.core journal = takes_begin (contents_of pages_known history) (Paged base) n limit first.core refl journal takes in
+      record {
+        answered = record {
+          stands = λ known. let has = tree known in (start has.tree n limit, record { tree = has.tree; opened = has.stands; state = refl });
+          may = record { opened = refl; paged = refl; synced = synced; usable = next.usable; next = next.next };
+          inside = refl;
+          legal = λ t stands. empty_legal t n limit stands.valid;
+          opened = refl;
+          seen = omega arith;
+          last = omega arith;
+          made = λ known some t stands. tt;
+        };
+        all = refl;
+      }
+
+  -- and stands in the state of the opening, without an entry
+  abbrev begun : Tree → Booked P
+  begun t = begun_at (start t n limit) (Paged base) n every
+
+  pub first_stands : (t : Tree) → StandsFor (told pages_known history base) t → IsBooked pages_known history first (begun t)
+  first_stands t stands = record { stands = record { tree = t; opened = stands; state = refl }; book = refl; opening = refl; number = refl; every = refl }
 
   pub opened_settled : (t : Tree) → StandsFor (told pages_known history base) t → IsTrue (journal_known && pages_known) → StandSettled (pair_of journal.history (pages_of history base)) t n
-      → IsSettled (store_machine journal_known pages_known history faults) opened (start t n limit)
+      → IsSettled (store_machine journal_known pages_known makes history faults) first (begun t)
   opened_settled t stands known files =
-      let here : StandSettled (pair_of journal.history (pages_of history core.base)) t n = subst (λ (b : Held P). StandSettled (pair_of journal.history (pages_of history b)) t n) (sym held_is) files in
-      settled_out journal_known pages_known history faults opened (start t n limit) known (core_stands (told pages_known history) base n limit core is t stands)
-      (opening_holds t n limit journal.history (pages_of history core.base) here) here.pages
+      settled_out journal_known pages_known makes history faults first (begun t) known (first_stands t stands).stands
+      (opening_holds t n limit journal.history (pages_of history base) files) files.pages

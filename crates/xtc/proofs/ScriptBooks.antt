@@ -1,5 +1,5 @@
 -- The lines of a script as lines of sessions: what they do, that it is sound, and what files stand for after them.
-use Rattle.std.proofs.Common.{◌≡◌, ℕ, ◌+◌, List, [], ◌∷◌, ◌++◌, Bool, length, Ok, refl, sym, ap, subst, ◌∙◌}
+use Rattle.std.proofs.Common.{◌≡◌, ℕ, ◌+◌, List, [], ◌∷◌, ◌++◌, Bool, length, Ok, refl, sym, ap, subst, ◌∙◌, append_assoc, append-nil}
 use Rattle.std.specs.List.{AllByRecursion}
 use Rattle.std.proofs.lemmas.Grind.{flat_map-append}
 use Rattle.outside_traits.specs.Moments.{History}
@@ -24,39 +24,55 @@ use Rattle.session_driver.proofs.Waiters.{nobody_waits_in_vain}
 use Rattle.xtc.specs.Book.{IsValidLine, done_by, done_from, script_of, replies_text}
 use Rattle.durable_sessions.specs.Durable.{HoldState}
 use Rattle.xtc.specs.ScriptLine.{Line, nothing, bad, asked, line_of}
-use Rattle.xtc.specs.StoreMachine.{store_machine}
+use Rattle.script_runs.specs.Machine.{Machine}
+use Rattle.xtc.specs.StoreMachine.{Booked, KeptStore, store_machine, with_done}
 use Rattle.xtc.specs.TopCall.{OpenAfter, IsSound}
 use Rattle.xtc.proofs.CommitCounts.{commits_counted}
 use Rattle.xtc.proofs.SoundBooks.{sound_book}
 
 -- ---- what a store's machine does and answers
 
--- the state that a line leaves doesn't depend on its number
+-- the state that a line leaves, and its entries, don't depend on its number
 state_alone : (st : State StoreCall) (n k : ℕ) (line : Line) → (done_by st n line).state ≡ (done_by st k line).state
 state_alone st n k nothing = refl
 state_alone st n k (bad why) = refl
 state_alone st n k (asked a) = refl
 
-module _ {P : Type 0} (journal_known pages_known : Bool) (history : P → History) (faults : P → ℕ) where
-  state_from : (st : State StoreCall) (n : ℕ) (lines : List (List ℕ)) → state_after (store_machine journal_known pages_known history faults) st lines ≡ (done_from st n lines).state
-  state_from st n [] = refl
-  state_from st n (line ∷ lines) =
-      ap (λ (u : State StoreCall). state_after (store_machine journal_known pages_known history faults) u lines) (state_alone st 0 (n + 1) (line_of line))
-      ∙ state_from (done_by st (n + 1) (line_of line)).state (n + 1) lines
+book_alone : (st : State StoreCall) (n k : ℕ) (line : Line) → (done_by st n line).book ≡ (done_by st k line).book
+book_alone st n k nothing = refl
+book_alone st n k (bad why) = refl
+book_alone st n k (asked a) = refl
 
-  pub state_is : (st : State StoreCall) (lines : List (List ℕ)) → state_after (store_machine journal_known pages_known history faults) st lines ≡ (script_of st lines).state
-  state_is st lines = state_from st 0 lines
+module _ {P : Type 0} (journal_known pages_known makes : Bool) (history : P → History) (faults : P → ℕ) where
+  abbrev machine : Machine (KeptStore P)
+  machine = store_machine journal_known pages_known makes history faults
 
-  answers_are : (st : State StoreCall) (n : ℕ) (lines : List (List ℕ)) → answers (store_machine journal_known pages_known history faults) st n lines ≡ replies_text (done_from st n lines).lines
-  answers_are st n [] = refl
-  answers_are st n (line ∷ lines) =
-      let first : Progress StoreCall = done_by st (n + 1) (line_of line) in
-      ap (λ (u : State StoreCall). replies_text first.lines ++ answers (store_machine journal_known pages_known history faults) u (n + 1) lines) (state_alone st 0 (n + 1) (line_of line))
-      ∙ ap (λ (text : List ℕ). replies_text first.lines ++ text) (answers_are first.state (n + 1) lines)
+  next_alone : (b : Booked P) (n : ℕ) (line : List ℕ) → machine.next b line ≡ with_done b (done_by b.state n (line_of line))
+  next_alone b n line = λ i. record b { state = state_alone b.state 0 n (line_of line) i; book = b.book ++ book_alone b.state 0 n (line_of line) i }
+
+  state_from : (b : Booked P) (n : ℕ) (lines : List (List ℕ)) → state_after machine b lines ≡ with_done b (done_from b.state n lines)
+  state_from b n [] = λ i. record b { book = sym (append-nil b.book) i }
+  state_from b n (line ∷ lines) =
+      let first : Progress StoreCall = done_by b.state (n + 1) (line_of line) in
+      let rest : Progress StoreCall = done_from first.state (n + 1) lines in
+      ap (λ (c : Booked P). state_after machine c lines) (next_alone b (n + 1) line)
+      ∙ state_from (with_done b first) (n + 1) lines
+      ∙ (λ i. record b { state = rest.state; book = append_assoc b.book first.book rest.book i })
+
+  -- lines lead to the state of their script, and to its book
+  pub state_is : (b : Booked P) (lines : List (List ℕ)) → state_after machine b lines ≡ with_done b (script_of b.state lines)
+  state_is b lines = state_from b 0 lines
+
+  answers_are : (b : Booked P) (n : ℕ) (lines : List (List ℕ)) → answers machine b n lines ≡ replies_text (done_from b.state n lines).lines
+  answers_are b n [] = refl
+  answers_are b n (line ∷ lines) =
+      let first : Progress StoreCall = done_by b.state (n + 1) (line_of line) in
+      ap (λ (c : Booked P). replies_text first.lines ++ answers machine c (n + 1) lines) (next_alone b (n + 1) line)
+      ∙ ap (λ (text : List ℕ). replies_text first.lines ++ text) (answers_are (with_done b first) (n + 1) lines)
       ∙ sym (flat_map-append reply_text first.lines (done_from first.state (n + 1) lines).lines)
 
-  pub text_is : (st : State StoreCall) (lines : List (List ℕ)) → answers (store_machine journal_known pages_known history faults) st 0 lines ≡ replies_text (script_of st lines).lines
-  text_is st lines = answers_are st 0 lines
+  pub text_is : (b : Booked P) (lines : List (List ℕ)) → answers machine b 0 lines ≡ replies_text (script_of b.state lines).lines
+  text_is b lines = answers_are b 0 lines
 
 -- ---- the lines that ask a session something
 

@@ -13,7 +13,7 @@ use Rattle.outside_traits.proofs.PairLaws.{pairs_weaker}
 use Rattle.tree_model.specs.Tree.{Tree, map_of}
 use Rattle.tree_model.specs.ValidTrees.{IsValidTree}
 use Rattle.script_runs.specs.Lines.{ended, lines_of, line_limit}
-use Rattle.script_runs.specs.Machine.{IsSettled}
+use Rattle.script_runs.specs.Machine.{IsSettled, Machine}
 use Rattle.script_runs.specs.Runs.{Ran, HoldsFrom, slack_at, IsExact as IsExactRun, TookAtLeast}
 use Rattle.script_runs.specs.Texts.{state_after, text_of}
 use Rattle.script_runs.specs.declared.halt.Halt.TheVariants as halt
@@ -33,9 +33,9 @@ use Rattle.xtc.specs.Book.{IsValidLine, done_by, script_of, replies_text}
 use Rattle.durable_sessions.specs.Durable.{HoldState}
 use Rattle.xtc.specs.ScriptLine.{Line, nothing, bad, asked, line_of}
 use Rattle.xtc.specs.Statuses.{status_of_end}
-use Rattle.xtc.specs.StoreMachine.{KeptStore, pages_of, store_machine}
+use Rattle.xtc.specs.StoreMachine.{Booked, KeptStore, begun_at, file_in, store_machine, with_done}
+use Rattle.checkpoint.specs.declared.base.Base.{Base}
 use Rattle.xtc.specs.TopCall.{OpenAfterLines, slack, IsExact, ScriptRan}
-use Rattle.xtc.proofs.StoreMachineLaws.{same_known, second_known}
 use Rattle.xtc.proofs.ScriptBooks.{AreValidLines, state_is, text_is, script_sound, opens_after}
 
 slack_is : (e : End) → slack_at e ≡ slack (status_of_end e)
@@ -91,17 +91,23 @@ kept_or_valid st n (asked a) = go a.doing
 held_still : (st u : State StoreCall) (journal pages : List ℕ) → SameCommitted st u → HoldState u journal pages → HoldState st journal pages
 held_still st u journal pages same holds = holds ∙ (λ i. Ok (record { entries = map_of (same.tree i); number = same.number i }))
 
-module _ {P : Type 0} (journal_known pages_known : Bool) (history : P → History) (faults : P → ℕ) (t : Tree) (n limit : ℕ) (formed : IsValidTree t) where
+module _ {P : Type 0} (journal_known pages_known makes : Bool) (history : P → History) (faults : P → ℕ) (t : Tree) (n limit : ℕ) (formed : IsValidTree t) (base : Base P) (every : ℕ) where
   abbrev s : State StoreCall
   s = start t n limit
 
+  abbrev b : Booked P
+  b = begun_at s base n every
+
+  abbrev machine : Machine (KeptStore P)
+  machine = store_machine journal_known pages_known makes history faults
+
   -- what files hold after some of the lines, by the book
-  opens_some : (least most : ℕ) (lines : List (List ℕ)) (journal pages : List ℕ) → AreValidLines (take most lines) → HoldsFrom (store_machine journal_known pages_known history faults) least most s lines journal pages
+  opens_some : (least most : ℕ) (lines : List (List ℕ)) (journal pages : List ℕ) → AreValidLines (take most lines) → HoldsFrom machine least most b lines journal pages
       → OpenAfterLines t n limit least (take most lines) journal pages
   opens_some least most lines journal pages valid h =
       let first : take h.count (take most lines) ≡ take h.count lines = take-take h.count most lines h.bound in
       let held : HoldState (script_of s (take h.count (take most lines))).state journal pages
-      = subst (λ (u : State StoreCall). HoldState u journal pages) (state_is journal_known pages_known history faults s (take h.count lines) ∙ ap (λ (ls : List (List ℕ)). (script_of s ls).state) (sym first)) h.holds in
+      = subst (λ (u : State StoreCall). HoldState u journal pages) (ap (λ (c : Booked P). c.state) (state_is journal_known pages_known makes history faults b (take h.count lines)) ∙ ap (λ (ls : List (List ℕ)). (script_of s ls).state) (sym first)) h.holds in
       record {
         count = h.count;
         enough = h.enough;
@@ -117,10 +123,10 @@ module _ {P : Type 0} (journal_known pages_known : Bool) (history : P → Histor
     further : ℕ
     at_most : further ≤ most
     valid : AreValidLines (take (done + further) lines)
-    opens : (least : ℕ) (journal pages : List ℕ) → least ≤ done → HoldsFrom (store_machine journal_known pages_known history faults) least (done + most) s lines journal pages → OpenAfterLines t n limit least (take (done + further) lines) journal pages
+    opens : (least : ℕ) (journal pages : List ℕ) → least ≤ done → HoldsFrom machine least (done + most) b lines journal pages → OpenAfterLines t n limit least (take (done + further) lines) journal pages
 
   counted_done : (most done : ℕ) (lines : List (List ℕ)) → AreValidLines (take done lines)
-      → ((least : ℕ) (journal pages : List ℕ) → least ≤ done → HoldsFrom (store_machine journal_known pages_known history faults) least (done + most) s lines journal pages → HoldsFrom (store_machine journal_known pages_known history faults) least done s lines journal pages)
+      → ((least : ℕ) (journal pages : List ℕ) → least ≤ done → HoldsFrom machine least (done + most) b lines journal pages → HoldsFrom machine least done b lines journal pages)
       → Counted most done lines
   counted_done most done lines valid fewer =
       let none : take (done + 0) lines ≡ take done lines = ap (λ k. take k lines) (let sum : done + 0 ≡ done = omega arith in sum) in
@@ -134,22 +140,22 @@ module _ {P : Type 0} (journal_known pages_known : Bool) (history : P → Histor
   -- the line behind those that were done leaves what is committed
   without_next : (most done : ℕ) (line : List ℕ) (lines rest : List (List ℕ)) → most ≤ 1 → done ≤ length lines → drop done lines ≡ line ∷ rest
       → SameCommitted (script_of s (take done lines)).state (done_by (script_of s (take done lines)).state 0 (line_of line)).state
-      → (least : ℕ) (journal pages : List ℕ) → least ≤ done → HoldsFrom (store_machine journal_known pages_known history faults) least (done + most) s lines journal pages → HoldsFrom (store_machine journal_known pages_known history faults) least done s lines journal pages
+      → (least : ℕ) (journal pages : List ℕ) → least ≤ done → HoldsFrom machine least (done + most) b lines journal pages → HoldsFrom machine least done b lines journal pages
   without_next most done line lines rest small within is same least journal pages le h = go (nat_le h.count done) refl
     where
-      at_done : State StoreCall
-      at_done = state_after (store_machine journal_known pages_known history faults) s (take done lines)
+      at_done : Booked P
+      at_done = state_after machine b (take done lines)
 
-      here : at_done ≡ (script_of s (take done lines)).state
-      here = state_is journal_known pages_known history faults s (take done lines)
+      here : at_done.state ≡ (script_of s (take done lines)).state
+      here = ap (λ (c : Booked P). c.state) (state_is journal_known pages_known makes history faults b (take done lines))
 
-      one_more : h.count ≡ done + 1 → state_after (store_machine journal_known pages_known history faults) s (take h.count lines) ≡ (done_by at_done 0 (line_of line)).state
+      one_more : h.count ≡ done + 1 → state_after machine b (take h.count lines) ≡ with_done at_done (done_by at_done.state 0 (line_of line))
       one_more count =
-          ap (λ k. state_after (store_machine journal_known pages_known history faults) s (take k lines)) count
-          ∙ ap (state_after (store_machine journal_known pages_known history faults) s) (first_more done 1 lines (line ∷ rest) within is)
-          ∙ state_after_on (store_machine journal_known pages_known history faults) s (take done lines) (line ∷ [])
+          ap (λ k. state_after machine b (take k lines)) count
+          ∙ ap (state_after machine b) (first_more done 1 lines (line ∷ rest) within is)
+          ∙ state_after_on machine b (take done lines) (line ∷ [])
 
-      go : (b : Bool) → nat_le h.count done ≡ b → HoldsFrom (store_machine journal_known pages_known history faults) least done s lines journal pages
+      go : (is_few : Bool) → nat_le h.count done ≡ is_few → HoldsFrom machine least done b lines journal pages
       go true few = record { count = h.count; enough = h.enough; bound = below few; within = h.within; holds = h.holds }
         where
           below : nat_le h.count done ≡ true → h.count ≤ done
@@ -159,9 +165,9 @@ module _ {P : Type 0} (journal_known pages_known : Bool) (history : P → Histor
         enough = le;
         bound = omega arith;
         within = within;
-        holds = held_still at_done (done_by at_done 0 (line_of line)).state journal pages
+        holds = held_still at_done.state (done_by at_done.state 0 (line_of line)).state journal pages
             (subst (λ (u : State StoreCall). SameCommitted u (done_by u 0 (line_of line)).state) (sym here) same)
-            (subst (λ (u : State StoreCall). HoldState u journal pages) (one_more (above many h.bound)) h.holds);
+            (subst (λ (c : Booked P). HoldState c.state journal pages) (one_more (above many h.bound)) h.holds);
       }
         where
           above : nat_le h.count done ≡ false → h.count ≤ done + most → h.count ≡ done + 1
@@ -197,11 +203,11 @@ module _ {P : Type 0} (journal_known pages_known : Bool) (history : P → Histor
           }
 
   -- the text of all lines that were done, as the machine gives it, is that of their replies
-  whole_text : (before now : Option (List ℕ)) (lines : List (List ℕ)) (script : Progress StoreCall) → script ≡ script_of s lines → Took before now (text_of (store_machine journal_known pages_known history faults) s lines) → Took before now (replies_text script.lines)
-  whole_text before now lines script is took = subst (Took before now) (text_is journal_known pages_known history faults s lines ∙ ap (λ (p : Progress StoreCall). replies_text p.lines) (sym is)) took
+  whole_text : (before now : Option (List ℕ)) (lines : List (List ℕ)) (script : Progress StoreCall) → script ≡ script_of s lines → Took before now (text_of machine b lines) → Took before now (replies_text script.lines)
+  whole_text before now lines script is took = subst (Took before now) (text_is journal_known pages_known makes history faults b lines ∙ ap (λ (p : Progress StoreCall). replies_text p.lines) (sym is)) took
 
   exact_is : (e : End) (read : List ℕ) (before now : Option (List ℕ)) (lines : List (List ℕ)) (done : ℕ) (script : Progress StoreCall) → (slack_at e ≡ 0 → script ≡ script_of s (take done lines))
-      → IsExactRun (store_machine journal_known pages_known history faults) line_limit s e read before now lines done → IsExact (status_of_end e) read lines done (Took before now (replies_text script.lines))
+      → IsExactRun machine line_limit b e read before now lines done → IsExact (status_of_end e) read lines done (Took before now (replies_text script.lines))
   exact_is end.Done read before now lines done script is x =
       let all : take done lines ≡ lines_of read = ap (λ k. take k lines) x.0 ∙ take-length lines ∙ x.1 in
       (x.0, x.1, whole_text before now (lines_of read) script (is refl ∙ ap (script_of s) all) x.2)
@@ -215,35 +221,36 @@ module _ {P : Type 0} (journal_known pages_known : Bool) (history : P → Histor
   exact_is (end.Halted (halt.Damaged place)) read before now lines done script is x = tt
 
   -- over a store that was opened
-  pub script_ran : (e : End) (read : List ℕ) (before_read : ℕ) (rest before now : Option (List ℕ)) (k m : KeptStore P) (old new : Pair) → IsSettled (store_machine journal_known pages_known history faults) k s → new ≡ pair_of m.journal.history (pages_of history m.core.base)
-      → IsImage new.journal.now new.journal.now.reads → IsImage new.pages.now new.pages.now.reads → Ran (store_machine journal_known pages_known history faults) line_limit s e read before_read rest before now k m
-      → ScriptRan t n limit (status_of_end e) (pair_of k.journal.history (pages_of history k.core.base)) (record { read = read; asked = before_read; left = rest; before = before; now = now; old = old; new = new })
-  script_ran e read before_read rest before now k m old new settled same of_journal of_pages ran =
-      let opening : Pair = pair_of k.journal.history (pages_of history k.core.base) in
+  pub script_ran : (e : End) (read : List ℕ) (before_read : ℕ) (rest before now : Option (List ℕ)) (k m : KeptStore P) (opening old new : Pair) → pair_of k.journal.history (file_in history k) ≡ opening → IsSettled machine k b → new ≡ pair_of m.journal.history (file_in history m)
+      → IsImage new.journal.now new.journal.now.reads → IsImage new.pages.now new.pages.now.reads → (ran : Ran machine line_limit b e read before_read rest before now k m)
+      → (sr : ScriptRan t n limit (status_of_end e) opening (record { read = read; asked = before_read; left = rest; before = before; now = now; old = old; new = new })) × (sr.lines ≡ ran.lines)
+  script_ran e read before_read rest before now k m opening old new begun settled same of_journal of_pages ran =
+      let here : Pair = pair_of k.journal.history (file_in history k) in
       let counts = counted (slack_at e) ran.done ran.lines (drop ran.done ran.lines) (slack_small e) ran.within ran.valid refl in
       let counting : List (List ℕ) = take (ran.done + counts.further) ran.lines in
       let script : Progress StoreCall = script_of s counting in
       let only : slack_at e ≡ 0 → script ≡ script_of s (take ran.done ran.lines)
       = λ none. ap (λ x. script_of s (take x ran.lines)) (let sum : ran.done + counts.further ≡ ran.done = omega (arith, none, counts.at_most) in sum) in
       let left : PairsHave (OpenAfterLines t n limit ran.done counting) new = subst (PairsHave (OpenAfterLines t n limit ran.done counting)) (sym same) (λ journal pages is_journal is_pages.
-      counts.opens ran.done journal pages (omega arith) (ran.left settled journal pages is_journal is_pages)) in
-      record {
-        lines = ran.lines;
-        asked_for = ran.asked_for;
-        done = ran.done;
-        within = ran.within;
-        short = ran.short;
-        further = counts.further;
-        at_most = subst (λ x. counts.further ≤ x) (slack_is e) counts.at_most;
-        script = script;
-        is = refl;
-        sound = script_sound t n limit formed counting counts.valid;
-        wrote = subst (TookPrefix before now) (text_is journal_known pages_known history faults s (take ran.done ran.lines)) ran.wrote;
-        exact = exact_is e read before now ran.lines ran.done script only ran.exact;
-        prompt = subst (TookAtLeast before now) (text_is journal_known pages_known history faults s (ended [] (take before_read read))) ran.prompt.wrote;
-        not_past = ran.prompt.short;
-        any_moment = subst (PairsLeave (OpenAfterLines t n limit 0 counting) opening) (sym same) (pairs_weaker _ _ (λ journal pages h. counts.opens 0 journal pages (omega arith) h) opening _ (ran.any_moment settled));
-        left = left;
-        reads = left new.journal.now.reads new.pages.now.reads of_journal of_pages;
-        pages = ap (λ p. p.pages) same ∙ same_known pages_known (pages_of history m.core.base) (pages_of history k.core.base) (second_known journal_known pages_known settled.is_known) ran.fixed;
-      }
+      counts.opens ran.done journal pages (omega arith) (ran.left settled journal pages is_journal is_pages)) in (
+        record {
+          lines = ran.lines;
+          asked_for = ran.asked_for;
+          done = ran.done;
+          within = ran.within;
+          short = ran.short;
+          further = counts.further;
+          at_most = subst (λ x. counts.further ≤ x) (slack_is e) counts.at_most;
+          script = script;
+          is = refl;
+          sound = script_sound t n limit formed counting counts.valid;
+          wrote = subst (TookPrefix before now) (text_is journal_known pages_known makes history faults b (take ran.done ran.lines)) ran.wrote;
+          exact = exact_is e read before now ran.lines ran.done script only ran.exact;
+          prompt = subst (TookAtLeast before now) (text_is journal_known pages_known makes history faults b (ended [] (take before_read read))) ran.prompt.wrote;
+          not_past = ran.prompt.short;
+          any_moment = subst (λ (p : Pair × Pair). PairsLeave (OpenAfterLines t n limit 0 counting) p.0 p.1) (λ i. (begun i, sym same i)) (pairs_weaker _ _ (λ journal pages h. counts.opens 0 journal pages (omega arith) h) here _ (ran.any_moment settled));
+          left = left;
+          reads = left new.journal.now.reads new.pages.now.reads of_journal of_pages;
+        },
+        refl,
+      )

@@ -1,6 +1,7 @@
 -- A legal book of the store's calls is sound.
 use Rattle.std.proofs.Common.{◌≡◌, ℕ, [], ◌∷◌, ◌++◌, sym, ap, subst, ◌∙◌}
 use Rattle.tree_model.specs.Tree.{Tree}
+use Rattle.tree_model.specs.ValidTrees.{IsValidTree}
 use Rattle.call_contract.specs.Books.{Book, IsAnswer, IsBookFrom, IsRun, last, state_of}
 use Rattle.call_contract.specs.Ends.{LeavesAllElse}
 use Rattle.call_contract.specs.States.{State, start}
@@ -15,6 +16,10 @@ use Rattle.store_calls.specs.StoreCalls.{store_meaning, IsValidStoreCall}
 use Rattle.store_calls.proofs.StoreCallLaws.{store_laws}
 use Rattle.xtc.specs.TopCall.{IsSoundBook}
 use Rattle.xtc.proofs.LiveLaws.{live_stand}
+
+-- a book without entries is legal
+pub empty_legal : (t : Tree) (n limit : ℕ) → IsValidTree t → IsBookFrom IsValidStoreCall store_meaning t n limit []
+empty_legal t n limit formed = record { valid_tree = formed; valid_calls = tt; legal = record { run = tt; faults = tt } }
 
 module _ (t : Tree) (n limit : ℕ) (book : Book StoreCall) (legal : IsBookFrom IsValidStoreCall store_meaning t n limit book) where
   abbrev opened : State StoreCall

@@ -13,7 +13,9 @@ use Rattle.script_runs.specs.Counts.{Counts, DisksCountedWhere}
 use Rattle.script_runs.specs.Machine.{IsSettled, Machine, HoldsEither as EitherHolds}
 use Rattle.call_contract.specs.States.{State}
 use Rattle.command_lines.specs.declared.command.StoreCall.{StoreCall}
-use Rattle.xtc.specs.StoreMachine.{KeptStore, Stands, if_known, pages_of, store_machine, told}
+use Rattle.checkpoint.specs.Bases.{contents_of}
+use Rattle.xtc.specs.StoreMachine.{Booked, KeptStore, Stands, file_in, if_known, store_machine}
+use Rattle.xtc.specs.inside.Renewing.{StandFor, files_of}
 use Rattle.durable_sessions.specs.Durable.{HoldState, HoldsAll, HoldsEither}
 use Rattle.durable_sessions.proofs.InTurnLaws.{image_holds}
 use Rattle.durable_sessions.proofs.StandingLaws.{stands_once}
@@ -55,33 +57,42 @@ images_hold s journal pages settled synced image beside of_journal of_pages =
 pub counted_out : {There Here : Type 0} (before now : Counts) → DisksCountedWhere There before now → (Here → There) → ((Here → ⊥) → There → ⊥) → DisksCountedWhere Here before now
 counted_out before now c leads apart = record { counted = λ is. c.counted (leads is); exact = λ never. c.exact (apart never) }
 
-module _ {P : Type 0} (journal_known pages_known : Bool) (history : P → History) (faults : P → ℕ) where
+module _ {P : Type 0} (journal_known pages_known makes : Bool) (history : P → History) (faults : P → ℕ) where
   abbrev machine : Machine (KeptStore P)
-  machine = store_machine journal_known pages_known history faults
+  machine = store_machine journal_known pages_known makes history faults
 
   -- beside its pages the journal of a settled store stands for what is committed
-  pub settled_in : (k : KeptStore P) (s : State StoreCall) → Stands pages_known history k.core s → IsSettled machine k s → HoldsAll s (pages_of history k.core.base).now.reads k.journal.history
-  settled_in k s stands settled = settled.kept.holds s stands
+  pub settled_in : (k : KeptStore P) (b : Booked P) → Stands pages_known history k.core b.state → IsSettled machine k b → HoldsAll b.state (file_in history k).now.reads k.journal.history
+  settled_in k b stands settled = settled.kept.holds b.state stands
 
-  pub settled_out : (k : KeptStore P) (s : State StoreCall) → IsTrue (journal_known && pages_known) → Stands pages_known history k.core s → HoldsAll s (pages_of history k.core.base).now.reads k.journal.history
-      → IsAllSynced (pages_of history k.core.base) → IsSettled machine k s
-  settled_out k s known stands settled synced = record {
+  pub settled_out : (k : KeptStore P) (b : Booked P) → IsTrue (journal_known && pages_known) → Stands pages_known history k.core b.state → HoldsAll b.state (file_in history k).now.reads k.journal.history
+      → IsAllSynced (file_in history k) → IsSettled machine k b
+  settled_out k b known stands settled synced = record {
     is_known = known;
     kept = record {
       pages = synced;
-      holds = λ u other. subst (λ (x : State StoreCall). HoldsAll x (pages_of history k.core.base).now.reads k.journal.history)
-          (stands_once IsValidStoreCall store_meaning store_laws (told pages_known history) k.core s u stands other) settled;
+      holds = λ u other. subst (λ (x : State StoreCall). HoldsAll x (file_in history k).now.reads k.journal.history)
+          (stands_once IsValidStoreCall store_meaning store_laws (contents_of pages_known history) k.core b.state u stands other) settled;
     };
-    holds = images_hold s k.journal.history (pages_of history k.core.base) settled synced;
+    holds = images_hold b.state k.journal.history (file_in history k) settled synced;
   }
 
-  pub moments_out : (s t : State StoreCall) (old new : KeptStore P) → pages_of history new.core.base ≡ pages_of history old.core.base → IsAllSynced (pages_of history old.core.base)
-      → LeavesOnly (HoldsEither s t (pages_of history old.core.base).now.reads) old.journal.history new.journal.history → PairsLeave (EitherHolds machine s t) (machine.disks old) (machine.disks new)
-  moments_out s t old new still synced run = journal_phase _ _ _ (record {
-    leaves = weaker _ _ old.journal.history new.journal.history (λ journal either pages is. both journal pages (image_same (pages_of history old.core.base) synced pages is) either) run;
+  -- a settled store is two files that stand for its state, and the other way
+  pub standing_of : (k : KeptStore P) (b : Booked P) → Stands pages_known history k.core b.state → IsSettled machine k b → StandFor b.state (files_of history k)
+  standing_of k b stands settled =
+      let holds : HoldsAll b.state (file_in history k).now.reads k.journal.history = settled_in k b stands settled in
+      record { journal = holds.synced; pages = settled.kept.pages; holds = holds.holds }
+
+  pub settled_of : (k : KeptStore P) (b : Booked P) → IsTrue (journal_known && pages_known) → Stands pages_known history k.core b.state → StandFor b.state (files_of history k) → IsSettled machine k b
+  settled_of k b known stands files = settled_out k b known stands (record { synced = files.journal; holds = files.holds }) files.pages
+
+  pub moments_out : (b c : Booked P) (old new : KeptStore P) → file_in history new ≡ file_in history old → IsAllSynced (file_in history old)
+      → LeavesOnly (HoldsEither b.state c.state (file_in history old).now.reads) old.journal.history new.journal.history → PairsLeave (EitherHolds machine b c) (machine.disks old) (machine.disks new)
+  moments_out b c old new still synced run = journal_phase _ _ _ (record {
+    leaves = weaker _ _ old.journal.history new.journal.history (λ journal either pages is. both journal pages (image_same (file_in history old) synced pages is) either) run;
     still = still;
   })
     where
-      both : (journal pages : List ℕ) → pages ≡ (pages_of history old.core.base).now.reads → HoldsEither s t (pages_of history old.core.base).now.reads journal → EitherHolds machine s t journal pages
-      both journal pages same (inl holds) = inl (subst (HoldState s journal) (sym same) holds)
-      both journal pages same (inr holds) = inr (subst (HoldState t journal) (sym same) holds)
+      both : (journal pages : List ℕ) → pages ≡ (file_in history old).now.reads → HoldsEither b.state c.state (file_in history old).now.reads journal → EitherHolds machine b c journal pages
+      both journal pages same (inl holds) = inl (subst (HoldState b.state journal) (sym same) holds)
+      both journal pages same (inr holds) = inr (subst (HoldState c.state journal) (sym same) holds)

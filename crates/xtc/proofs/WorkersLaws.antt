@@ -1,21 +1,16 @@
 -- A script that was run by workers: what it leaves of the whole store, by its status.
-use Rattle.std.proofs.Common.{◌≡◌, ◌≤◌, ◌⊎◌, ℕ, ◌+◌, Bool, IsTrue, List, [], length, inl, inr, refl, sym, ap, subst, ◌∙◌, arith}
-use Rattle.std.specs.Prelude.{None, Result, Ok, Err, IfOk, IfErr, IfSome, OnOk}
-use Rattle.std.proofs.Math.Seq.{take-length}
+use Rattle.std.proofs.Common.{◌≡◌, ◌≤◌, ℕ, ◌+◌, Bool, false, IsTrue, List, [], length, inl, inr, refl, sym, subst, arith}
+use Rattle.std.specs.Prelude.{None, Some, Result, Ok, Err, IfOk, IfErr, IfSome, OnOk}
 use Rattle.outside_traits.specs.Bytes.{Took, TookPrefix}
 use Rattle.outside_traits.specs.CrashImages.{IsImage}
-use Rattle.outside_traits.specs.DiskPairs.{PairsHave, PairsLeave, pair_of}
-use Rattle.outside_traits.specs.Moments.{History, IsAllSynced}
-use Rattle.outside_traits.proofs.MomentLaws.{started, weaker}
-use Rattle.outside_traits.proofs.PairLaws.{journal_phase}
+use Rattle.outside_traits.specs.DiskPairs.{Pair, PairsHave}
+use Rattle.outside_traits.proofs.PairLaws.{none, pairs_now}
 use Rattle.tree_model.specs.Tree.{Tree}
 use Rattle.tree_model.specs.ValidTrees.{IsValidTree}
-use Rattle.store_contents.specs.StoredTrees.{StandFor}
 use Rattle.script_runs.specs.Whole.{piece}
-use Rattle.call_contract.specs.Books.{Book, IsBookFrom, commits}
-use Rattle.call_contract.specs.SerialRuns.{Committed, serial}
+use Rattle.call_contract.specs.Books.{Book, IsBookFrom}
 use Rattle.command_lines.specs.declared.command.StoreCall.{StoreCall}
-use Rattle.durable_books.specs.WrittenBooks.{StandAfter, StandAfterNoneOrAll}
+use Rattle.command_words.specs.Commands.{workers}
 use Rattle.store_calls.specs.StoreCalls.{IsValidStoreCall, store_meaning}
 use Rattle.workers_replies.specs.Shown.{lines_in}
 use Rattle.workers_script.specs.Entries.{Script, entries_of}
@@ -23,186 +18,171 @@ use Rattle.workers_script.specs.Limits.{IsReadScript, too_long}
 use Rattle.workers_script.specs.declared.script_error.ScriptError.{ScriptError}
 use Rattle.workers_script.specs.declared.script_error.ScriptError.TheVariants as script
 use Rattle.workers_text.specs.WorkersText.{Line}
+use Rattle.xtc.specs.Checkpoints.{AreMade, is_positive}
 use Rattle.xtc.specs.Statuses.{status_of_script}
-use Rattle.xtc.specs.TopCall.{IsWorkersEnd, IsWorkersOutput, NeedsWholeScript, OpenAfterCommits, Outcome, WorkersRan, WroteWhole, durable_at, tx_limit, whole_limit}
+use Rattle.xtc.specs.TopCall.{IsOfOpened, IsWorkersEnd, IsWorkersOutput, NeedsWholeScript, OpenAfterCommits, Outcome, WroteWhole, durable_at, tx_limit, whole_limit}
 use Rattle.xtc.specs.declared.status.Status.{Status}
 use Rattle.xtc.specs.declared.status.Status.TheVariants.{Done, Usage, LineTooLong, Damaged, ReadFault, WriteFault, DiskFault, NoMemory, NotJsonMl, DocumentRefused}
-use Rattle.xtc.specs.inside.Asking.{IsUnwritten, IsWriteEnd}
-use Rattle.xtc.specs.inside.Working.{IfWorked, InputFailed, InputWorked, IsWorkersStop, LeavesCommits, ScriptDone, Worked, WorkedAll}
-use Rattle.xtc.specs.inside.CommandRuns.{StandSettled}
-use Rattle.xtc.proofs.SoundBooks.{sound_book}
-use Rattle.xtc.proofs.StoreMachineLaws.{image_same}
-
--- ---- files
-
-module _ (t : Tree) (n : ℕ) (book : Book StoreCall) (pages : List ℕ) where
-  abbrev done : List (Committed StoreCall)
-  done = commits book
-
-  opens_none : (least : ℕ) → least ≤ 0 → (journal : List ℕ) → StandFor journal pages t n → OpenAfterCommits t n least book journal pages
-  opens_none least few journal stands = record {
-    count = 0;
-    enough = few;
-    none_or_all = inl refl;
-    opens = subst (StandFor journal pages t) (let e : n ≡ n + 0 = omega arith in e) stands;
-  }
-
-  opens_all : (least : ℕ) → least ≤ length done → (journal : List ℕ) → StandAfter store_meaning t n done journal pages → OpenAfterCommits t n least book journal pages
-  opens_all least few journal stands = record {
-    count = length done;
-    enough = few;
-    none_or_all = inr refl;
-    opens = subst (λ (ds : List (Committed StoreCall)). StandFor journal pages (serial store_meaning ds t).tree (n + length done)) (sym (take-length done)) stands;
-  }
-
-  opens_either : (journal : List ℕ) → StandAfterNoneOrAll store_meaning t n done journal pages → OpenAfterCommits t n 0 book journal pages
-  opens_either journal (inl none) = opens_none 0 (omega arith) journal none
-  opens_either journal (inr all) = opens_all 0 (omega arith) journal all
-
-  beside : (least : ℕ) (journal image : List ℕ) → image ≡ pages → OpenAfterCommits t n least book journal pages → OpenAfterCommits t n least book journal image
-  beside least journal image same opens = subst (OpenAfterCommits t n least book journal) (sym same) opens
-
--- the journal as it was leaves the opening
-stood_leaves : (t : Tree) (n : ℕ) (pages : List ℕ) (journal : History) → IsAllSynced journal → StandFor journal.now.reads pages t n → LeavesCommits t n [] pages journal journal
-stood_leaves t n pages journal synced stands = record {
-  moments = started (λ image. StandAfterNoneOrAll store_meaning t n [] image pages) journal;
-  now = λ image is. inl (subst (λ (bytes : List ℕ). StandFor bytes pages t n) (sym (image_same journal synced image is)) stands);
-}
-
--- a book without entries is legal
-pub empty_legal : (t : Tree) (n limit : ℕ) → IsValidTree t → IsBookFrom IsValidStoreCall store_meaning t n limit []
-empty_legal t n limit formed = record { valid_tree = formed; valid_calls = tt; legal = record { run = tt; faults = tt } }
+use Rattle.xtc.specs.inside.Asking.{IsQuiet, IsWriteEnd}
+use Rattle.xtc.specs.inside.CommandRuns.{RanWith, StandSettled}
+use Rattle.xtc.specs.inside.Working.{IfWorked, InputFailed, InputWorked, IsWorkersFault, IsWorkersStop, LeavesCommits, ScriptDone, Worked, WorkedAll, WorkedOrNot}
+use Rattle.xtc.proofs.CommandRunLaws.{LosesOnlyAt, as_error}
+use Rattle.xtc.proofs.SoundBooks.{empty_legal, sound_book}
+use Rattle.xtc.proofs.WorkersCommits.{images_have, opens_none}
 
 -- ---- the whole command
 
-module _ (t : Tree) (n : ℕ) (formed : IsValidTree t) (journal pages : History) (synced_pages : IsAllSynced pages) (o : Outcome) (still : o.new.pages ≡ pages)
+module _ (t : Tree) (n every : ℕ) (formed : IsValidTree t) (old : Pair) (files : StandSettled old t n) (o : Outcome)
     (of_journal : IsImage o.new.journal.now o.new.journal.now.reads) (of_pages : IsImage o.new.pages.now o.new.pages.now.reads) (short : length o.read ≤ whole_limit + piece) where
-  abbrev bytes : List ℕ
-  bytes = pages.now.reads
+  abbrev Whole : Type 0
+  Whole = IfSome o.left (λ rest. rest ≡ [])
 
-  image_now : (p : List ℕ) → IsImage o.new.pages.now p → p ≡ bytes
-  image_now p is = image_same o.new.pages (subst IsAllSynced (sym still) synced_pages) p is ∙ ap (λ (h : History). h.now.reads) still
+  abbrev Ran : Status → Type 0
+  Ran status = RanWith t n tx_limit workers every status old o
 
-  leaves_pairs : (book : Book StoreCall) → LeavesCommits t n book bytes journal o.new.journal → PairsLeave (OpenAfterCommits t n 0 book) (pair_of journal pages) o.new
-  leaves_pairs book leaves = journal_phase (OpenAfterCommits t n 0 book) (pair_of journal pages) o.new (record {
-    leaves = weaker (λ image. StandAfterNoneOrAll store_meaning t n (commits book) image bytes) (λ j. (p : List ℕ) → IsImage pages.now p → OpenAfterCommits t n 0 book j p) journal o.new.journal
-        (λ j either p is_p. beside t n book bytes 0 j p (image_same pages synced_pages p is_p) (opens_either t n book bytes j either)) leaves.moments;
-    still = still;
-  })
-
-  have_pairs : (least : ℕ) (book : Book StoreCall) → ((j : List ℕ) → IsImage o.new.journal.now j → OpenAfterCommits t n least book j bytes) → PairsHave (OpenAfterCommits t n least book) o.new
-  have_pairs least book each j p is_j is_p = beside t n book bytes least j p (image_now p is_p) (each j is_j)
+  -- a crash at the start leaves none of a book's commits
+  opening_has : (book : Book StoreCall) → PairsHave (OpenAfterCommits t n 0 book) old
+  opening_has book = images_have (OpenAfterCommits t n 0 book) old files.journal files.pages (opens_none t n book old.pages.now.reads 0 (omega arith) old.journal.now.reads files.stand)
 
   -- lines were done, and the commits are found so
-  with_book : (status : Status) (book : Book StoreCall) → IsBookFrom IsValidStoreCall store_meaning t n tx_limit book → LeavesCommits t n book bytes journal o.new.journal
-      → ((j : List ℕ) → IsImage o.new.journal.now j → OpenAfterCommits t n (durable_at status book) book j bytes)
-      → IsWorkersOutput t n tx_limit status book o.read o.before o.now → IsWorkersEnd status o.read → NeedsWholeScript status (IfSome o.left (λ rest. rest ≡ [])) → WorkersRan t n tx_limit status (pair_of journal pages) o
-  with_book status book legal leaves each output end whole =
-      let left : PairsHave (OpenAfterCommits t n (durable_at status book) book) o.new = have_pairs (durable_at status book) book each in
-      record {
-        book = book;
-        sound = sound_book t n tx_limit book legal;
-        output = output;
-        end = end;
-        whole = whole;
-        short = short;
-        any_moment = leaves_pairs book leaves;
-        left = left;
-        reads = left o.new.journal.now.reads o.new.pages.now.reads of_journal of_pages;
-        pages = still;
-      }
+  with_book : (status : Status) (book : Book StoreCall) → IsBookFrom IsValidStoreCall store_meaning t n tx_limit book → LeavesCommits t n every book old o.new → PairsHave (OpenAfterCommits t n (durable_at status book) book) o.new
+      → IsWorkersOutput t n tx_limit status book o.read o.before o.now → IsWorkersEnd status o.read → NeedsWholeScript status Whole → IsOfOpened false status
+      → (status ≡ Done → IsTrue (is_positive every) → AreMade (Some workers) every t n book o.new.journal.now.reads o.new.pages.now.reads) → Ran status
+  with_book status book legal leaves left output end whole undamaged made = record {
+    ran = record {
+      book = book;
+      sound = sound_book t n tx_limit book legal;
+      output = output;
+      end = end;
+      whole = whole;
+      short = short;
+      any_moment = leaves.moments;
+      left = left;
+      reads = left o.new.journal.now.reads o.new.pages.now.reads of_journal of_pages;
+    };
+    undamaged = undamaged;
+    pages = leaves.still;
+    made = made;
+  }
 
   -- none was done
-  with_none : (status : Status) → durable_at status [] ≡ 0 → IsWorkersOutput t n tx_limit status [] o.read o.before o.now → IsWorkersEnd status o.read → NeedsWholeScript status (IfSome o.left (λ rest. rest ≡ []))
-      → IsAllSynced journal → StandFor journal.now.reads bytes t n → o.new.journal ≡ journal → WorkersRan t n tx_limit status (pair_of journal pages) o
-  with_none status none output end whole synced stands same =
-      let leaves : LeavesCommits t n [] bytes journal o.new.journal = subst (LeavesCommits t n [] bytes journal) (sym same) (stood_leaves t n bytes journal synced stands) in
-      with_book status [] (empty_legal t n tx_limit formed) leaves
-      (λ j is. subst (λ (least : ℕ). OpenAfterCommits t n least [] j bytes) (sym none) (opens_either t n [] bytes j (leaves.now j is))) output end whole
+  with_none : (status : Status) → durable_at status [] ≡ 0 → IsWorkersOutput t n tx_limit status [] o.read o.before o.now → IsWorkersEnd status o.read → NeedsWholeScript status Whole → IsOfOpened false status → (status ≡ Done → ⊥)
+      → o.new ≡ old → Ran status
+  with_none status few output end whole undamaged other same =
+      with_book status [] (empty_legal t n tx_limit formed)
+      (subst (LeavesCommits t n every [] old) (sym same) (record { moments = none (OpenAfterCommits t n 0 []) old; still = λ no. refl }))
+      (subst (λ (least : ℕ). PairsHave (OpenAfterCommits t n least []) o.new) (sym few) (subst (PairsHave (OpenAfterCommits t n 0 [])) (sym same) (opening_has [])))
+      output end whole undamaged (λ done. absurd (other done))
 
   -- ---- by the answer
 
-  module _ (known : Bool) (is_known : IsTrue known) (files : StandSettled (pair_of journal pages) t n) where
-    abbrev lines : List (Line StoreCall)
-    lines = lines_in (entries_of o.read)
+  abbrev lines : List (Line StoreCall)
+  lines = lines_in (entries_of o.read)
 
-    all_worked : (status : Status) (text : List ℕ) → WorkedAll known t n lines journal o.new.journal text → too_long o.read ≡ None → IfSome o.left (λ rest. rest ≡ []) → IsWriteEnd status → WroteWhole status o.before o.now text
-        → WorkersRan t n tx_limit status (pair_of journal pages) o
-    all_worked Done text all fits whole is wrote =
-        with_book Done all.worked.book all.worked.legal (all.worked.leaves is_known bytes files.stand) (λ j image. opens_all t n all.worked.book bytes (length (commits all.worked.book)) (omega arith) j (all.durable is_known bytes files.stand j image))
-        (record { text = all.worked.text; shows = all.worked.shows; wrote = subst (Took o.before o.now) all.text_is wrote }) fits whole
-    all_worked WriteFault text all fits whole is wrote =
-        with_book WriteFault all.worked.book all.worked.legal (all.worked.leaves is_known bytes files.stand) (λ j image. opens_all t n all.worked.book bytes (length (commits all.worked.book)) (omega arith) j (all.durable is_known bytes files.stand j image))
-        (record { text = all.worked.text; shows = all.worked.shows; wrote = subst (TookPrefix o.before o.now) all.text_is wrote }) fits whole
-    all_worked Usage text all fits whole is wrote = absurd is
-    all_worked (LineTooLong line) text all fits whole is wrote = absurd is
-    all_worked (Damaged place) text all fits whole is wrote = absurd is
-    all_worked ReadFault text all fits whole is wrote = absurd is
-    all_worked DiskFault text all fits whole is wrote = absurd is
-    all_worked NoMemory text all fits whole is wrote = absurd is
-    all_worked (NotJsonMl why) text all fits whole is wrote = absurd is
-    all_worked (DocumentRefused why) text all fits whole is wrote = absurd is
+  all_worked : (status : Status) (text : List ℕ) → WorkedAll t n every lines old o.new text → too_long o.read ≡ None → Whole → IsWriteEnd status → WroteWhole status o.before o.now text → Ran status
+  all_worked Done text all fits whole is wrote =
+      with_book Done all.worked.book all.worked.legal all.worked.leaves all.all.durable
+      (record { text = all.worked.text; shows = all.worked.shows; wrote = subst (Took o.before o.now) all.text_is wrote }) fits whole tt (λ done some. all.all.made some)
+  all_worked WriteFault text all fits whole is wrote =
+      with_book WriteFault all.worked.book all.worked.legal all.worked.leaves all.all.durable
+      (record { text = all.worked.text; shows = all.worked.shows; wrote = subst (TookPrefix o.before o.now) all.text_is wrote }) fits whole tt (λ done. absurd cc)
+  all_worked Usage text all fits whole is wrote = absurd is
+  all_worked (LineTooLong line) text all fits whole is wrote = absurd is
+  all_worked (Damaged place) text all fits whole is wrote = absurd is
+  all_worked ReadFault text all fits whole is wrote = absurd is
+  all_worked DiskFault text all fits whole is wrote = absurd is
+  all_worked NoMemory text all fits whole is wrote = absurd is
+  all_worked (NotJsonMl why) text all fits whole is wrote = absurd is
+  all_worked (DocumentRefused why) text all fits whole is wrote = absurd is
 
-    disk_failed : Worked known t n lines journal o.new.journal ⊎ (o.new.journal ≡ journal) → too_long o.read ≡ None → IfSome o.left (λ rest. rest ≡ []) → o.now ≡ o.before → WorkersRan t n tx_limit DiskFault (pair_of journal pages) o
-    disk_failed (inl worked) fits whole silent =
-        let leaves = worked.leaves is_known bytes files.stand in
-        with_book DiskFault worked.book worked.legal leaves (λ j is. opens_either t n worked.book bytes j (leaves.now j is)) (inl (record { text = worked.text; shows = worked.shows; wrote = silent })) fits whole
-    disk_failed (inr same) fits whole silent = with_none DiskFault refl (inr (refl, silent)) fits whole files.journal files.stand same
+  -- they were done, and nothing is written
+  left_of : (worked : Worked t n every lines old o.new) → PairsHave (OpenAfterCommits t n 0 worked.book) o.new
+  left_of worked = pairs_now (OpenAfterCommits t n 0 worked.book) old o.new worked.leaves.moments (opening_has worked.book)
 
-    err_worked : (T : Type 0) (bytes : T → List ℕ) (e : Status) → InputWorked {T = T} known t n o.read journal o.new.journal bytes (Err e) → IfWorked {T = T} (Err e) (IfSome o.left (λ rest. rest ≡ [])) → o.now ≡ o.before
-        → WorkersRan t n tx_limit e (pair_of journal pages) o
-    err_worked T bytes DiskFault did whole silent = disk_failed did.1 did.0 whole silent
-    err_worked T bytes (LineTooLong line) did whole silent = with_none (LineTooLong line) refl (refl, silent) did.0 tt files.journal files.stand did.1
-    err_worked T bytes ReadFault did whole silent = with_none ReadFault refl (refl, silent) did.0 tt files.journal files.stand did.1
-    err_worked T bytes NoMemory did whole silent = with_none NoMemory refl (refl, silent) tt tt files.journal files.stand did
-    err_worked T bytes Done did whole silent = absurd did
-    err_worked T bytes Usage did whole silent = absurd did
-    err_worked T bytes (Damaged place) did whole silent = absurd did
-    err_worked T bytes WriteFault did whole silent = absurd did
-    err_worked T bytes (NotJsonMl why) did whole silent = absurd did
-    err_worked T bytes (DocumentRefused why) did whole silent = absurd did
+  disk_failed : WorkedOrNot t n every lines old o.new → too_long o.read ≡ None → Whole → o.now ≡ o.before → Ran DiskFault
+  disk_failed (inl worked) fits whole silent =
+      with_book DiskFault worked.book worked.legal worked.leaves (left_of worked) (inl (record { text = worked.text; shows = worked.shows; wrote = silent })) fits whole tt (λ done. absurd cc)
+  disk_failed (inr same) fits whole silent = with_none DiskFault refl (inr (refl, silent)) fits whole tt (λ done. cc) same
 
-    pub workers_ran : {T : Type 0} (bytes : T → List ℕ) (r : Result T Status) (status : Status) → InputWorked known t n o.read journal o.new.journal bytes r → IfWorked r (IfSome o.left (λ rest. rest ≡ []))
-        → IfOk r (λ text. IsWriteEnd status × WroteWhole status o.before o.now (bytes text)) → IfErr r (λ e. (status ≡ e) × (o.now ≡ o.before)) → WorkersRan t n tx_limit status (pair_of journal pages) o
-    workers_ran bytes (Ok text) status did whole written none = all_worked status (bytes text) did.1 did.0 whole written.0 written.1
-    workers_ran {T} bytes (Err e) status did whole written none = subst (λ (s : Status). WorkersRan t n tx_limit s (pair_of journal pages) o) (sym none.0) (err_worked T bytes e did whole none.1)
+  memory_failed : WorkedOrNot t n every lines old o.new → o.now ≡ o.before → Ran NoMemory
+  memory_failed (inl worked) silent =
+      with_book NoMemory worked.book worked.legal worked.leaves (left_of worked) (inl (record { text = worked.text; shows = worked.shows; wrote = silent })) tt tt tt (λ done. absurd cc)
+  memory_failed (inr same) silent = with_none NoMemory refl (inr (refl, silent)) tt tt tt (λ done. cc) same
+
+  err_worked : (T : Type 0) (bytes : T → List ℕ) (e : Status) → InputWorked {T = T} t n every o.read old o.new bytes (Err e) → IfWorked {T = T} (Err e) Whole → o.now ≡ o.before → Ran e
+  err_worked T bytes DiskFault did whole silent = disk_failed did.1 did.0 whole silent
+  err_worked T bytes (LineTooLong line) did whole silent = with_none (LineTooLong line) refl (refl, silent) did.0 tt tt (λ done. cc) did.1
+  err_worked T bytes ReadFault did whole silent = with_none ReadFault refl (refl, silent) did.0 tt tt (λ done. cc) did.1
+  err_worked T bytes NoMemory did whole silent = memory_failed did silent
+  err_worked T bytes Done did whole silent = absurd did
+  err_worked T bytes Usage did whole silent = absurd did
+  err_worked T bytes (Damaged place) did whole silent = absurd did
+  err_worked T bytes WriteFault did whole silent = absurd did
+  err_worked T bytes (NotJsonMl why) did whole silent = absurd did
+  err_worked T bytes (DocumentRefused why) did whole silent = absurd did
+
+  pub workers_ran : {T : Type 0} (bytes : T → List ℕ) (r : Result T Status) (status : Status) → InputWorked t n every o.read old o.new bytes r → IfWorked r Whole
+      → IfOk r (λ text. IsWriteEnd status × WroteWhole status o.before o.now (bytes text)) → IfErr r (λ e. (status ≡ e) × (o.now ≡ o.before)) → Ran status
+  workers_ran bytes (Ok text) status did whole written silent = all_worked status (bytes text) did.1 did.0 whole written.0 written.1
+  workers_ran {T} bytes (Err e) status did whole written silent = subst Ran (sym silent.0) (err_worked T bytes e did whole silent.1)
 
 -- ---- results
 
 abbrev no_script : ScriptError → Result Script ScriptError
 no_script error = Err error
 
--- why it ended wrote nothing
-stop_unwritten : (status : Status) → IsWorkersStop status → IsUnwritten status
-stop_unwritten DiskFault is = tt
-stop_unwritten NoMemory is = tt
-stop_unwritten Done is = is
-stop_unwritten Usage is = is
-stop_unwritten (LineTooLong line) is = tt
-stop_unwritten (Damaged place) is = is
-stop_unwritten ReadFault is = tt
-stop_unwritten WriteFault is = is
-stop_unwritten (NotJsonMl why) is = tt
-stop_unwritten (DocumentRefused why) is = tt
+-- damage is the only answer without a text that isn't unwritten
+fault_quiet : (lost : Bool) (status : Status) → IsWorkersFault lost status → IsQuiet status
+fault_quiet lost DiskFault is = tt
+fault_quiet lost NoMemory is = tt
+fault_quiet lost Done is = is
+fault_quiet lost Usage is = is
+fault_quiet lost (LineTooLong line) is = tt
+fault_quiet lost (Damaged place) is = tt
+fault_quiet lost ReadFault is = tt
+fault_quiet lost WriteFault is = is
+fault_quiet lost (NotJsonMl why) is = tt
+fault_quiet lost (DocumentRefused why) is = tt
 
-pub stops_unwritten : {T : Type 0} (r : Result T Status) → IfErr r IsWorkersStop → IfErr r IsUnwritten
-stops_unwritten (Ok x) is = tt
-stops_unwritten (Err e) is = stop_unwritten e is
+pub faults_quiet : {T : Type 0} (lost : Bool) (r : Result T Status) → IfErr r (IsWorkersFault lost) → IfErr r IsQuiet
+faults_quiet lost (Ok text) is = tt
+faults_quiet lost (Err why) is = fault_quiet lost why is
+
+-- and it comes only where a page file may be lost
+pub faults_lose : {T : Type 0} (lost : Bool) (r : Result T Status) → IfErr r (IsWorkersFault lost) → LosesOnlyAt lost r
+faults_lose {T} lost r is place it = let here : IfErr (as_error T (Damaged place)) (IsWorkersFault lost) = subst (λ (x : Result T Status). IfErr x (IsWorkersFault lost)) it is in here
+
+-- why it ended wrote nothing
+stop_fault : (lost : Bool) (status : Status) → IsWorkersStop lost status → IsWorkersFault lost status
+stop_fault lost DiskFault is = tt
+stop_fault lost NoMemory is = tt
+stop_fault lost Done is = is
+stop_fault lost Usage is = is
+stop_fault lost (LineTooLong line) is = tt
+stop_fault lost (Damaged place) is = is
+stop_fault lost ReadFault is = tt
+stop_fault lost WriteFault is = is
+stop_fault lost (NotJsonMl why) is = tt
+stop_fault lost (DocumentRefused why) is = tt
+
+pub stops_fault : {T : Type 0} (lost : Bool) (r : Result T Status) → IfErr r (IsWorkersStop lost) → IfErr r (IsWorkersFault lost)
+stops_fault lost (Ok x) is = tt
+stops_fault lost (Err e) is = stop_fault lost e is
 
 -- with the input that was read
-pub input_worked : {T : Type 0} (is_known : Bool) (t : Tree) (n : ℕ) (read : List ℕ) (asked : List (Line StoreCall)) (old new : History) (bytes : T → List ℕ) (r : Result T Status) → asked ≡ lines_in (entries_of read) → too_long read ≡ None → IfErr r IsWorkersStop
-    → ScriptDone is_known t n asked old new bytes r → InputWorked is_known t n read old new bytes r
-input_worked is_known t n read asked old new bytes (Ok text) same fits is did = (fits, subst (λ (ls : List (Line StoreCall)). WorkedAll is_known t n ls old new (bytes text)) same did)
-input_worked is_known t n read asked old new bytes (Err DiskFault) same fits is did = (fits, subst (λ (ls : List (Line StoreCall)). Worked is_known t n ls old new ⊎ (new ≡ old)) same did)
-input_worked is_known t n read asked old new bytes (Err NoMemory) same fits is did = did
-input_worked is_known t n read asked old new bytes (Err Done) same fits is did = did
-input_worked is_known t n read asked old new bytes (Err Usage) same fits is did = did
-input_worked is_known t n read asked old new bytes (Err (LineTooLong line)) same fits is did = absurd did
-input_worked is_known t n read asked old new bytes (Err (Damaged place)) same fits is did = did
-input_worked is_known t n read asked old new bytes (Err ReadFault) same fits is did = absurd did
-input_worked is_known t n read asked old new bytes (Err WriteFault) same fits is did = did
-input_worked is_known t n read asked old new bytes (Err (NotJsonMl why)) same fits is did = did
-input_worked is_known t n read asked old new bytes (Err (DocumentRefused why)) same fits is did = did
+pub input_worked : {T : Type 0} (t : Tree) (n every : ℕ) (read : List ℕ) (asked : List (Line StoreCall)) (old new : Pair) (bytes : T → List ℕ) (r : Result T Status) → asked ≡ lines_in (entries_of read) → too_long read ≡ None
+    → ScriptDone t n every asked old new bytes r → InputWorked t n every read old new bytes r
+input_worked t n every read asked old new bytes (Ok text) same fits did = (fits, subst (λ (ls : List (Line StoreCall)). WorkedAll t n every ls old new (bytes text)) same did)
+input_worked t n every read asked old new bytes (Err DiskFault) same fits did = (fits, subst (λ (ls : List (Line StoreCall)). WorkedOrNot t n every ls old new) same did)
+input_worked t n every read asked old new bytes (Err NoMemory) same fits did = subst (λ (ls : List (Line StoreCall)). WorkedOrNot t n every ls old new) same did
+input_worked t n every read asked old new bytes (Err Done) same fits did = did
+input_worked t n every read asked old new bytes (Err Usage) same fits did = did
+input_worked t n every read asked old new bytes (Err (LineTooLong line)) same fits did = absurd did
+input_worked t n every read asked old new bytes (Err (Damaged place)) same fits did = did
+input_worked t n every read asked old new bytes (Err ReadFault) same fits did = absurd did
+input_worked t n every read asked old new bytes (Err WriteFault) same fits did = did
+input_worked t n every read asked old new bytes (Err (NotJsonMl why)) same fits did = did
+input_worked t n every read asked old new bytes (Err (DocumentRefused why)) same fits did = did
 
 -- it was read to its end where lines were done
 pub worked_whole : {T : Type 0} (r : Result T Status) (P : Type 0) → P → IfWorked r P
@@ -223,11 +203,20 @@ whole_at_end (Ok text) P p = p
 whole_at_end (Err e) P p = tt
 
 -- no script was had
-error_of : (error : ScriptError) (is_known : Bool) (t : Tree) (n : ℕ) (read : List ℕ) (journal : History) → IsReadScript read (no_script error) → InputFailed is_known t n read journal journal (status_of_script error)
+error_of : (error : ScriptError) (t : Tree) (n every : ℕ) (read : List ℕ) (files : Pair) → IsReadScript read (no_script error) → InputFailed t n every read files files (status_of_script error)
 unfolding too_long
-error_of (script.TooLong line) is_known t n read journal is = (is, refl)
-error_of script.ReadFault is_known t n read journal is = (is, refl)
-error_of script.NoMemory is_known t n read journal is = refl
+error_of (script.TooLong line) t n every read files is = (is, refl)
+error_of script.ReadFault t n every read files is = (is, refl)
+error_of script.NoMemory t n every read files is = inr refl
 
-pub error_worked : (error : ScriptError) (status : Status) (is_known : Bool) (t : Tree) (n : ℕ) (read : List ℕ) (journal : History) → status ≡ status_of_script error → IsReadScript read (no_script error) → InputFailed is_known t n read journal journal status
-error_worked error status is_known t n read journal same is = subst (InputFailed is_known t n read journal journal) (sym same) (error_of error is_known t n read journal is)
+pub error_worked : (error : ScriptError) (status : Status) (t : Tree) (n every : ℕ) (read : List ℕ) (files : Pair) → status ≡ status_of_script error → IsReadScript read (no_script error) → InputFailed t n every read files files status
+error_worked error status t n every read files same is = subst (InputFailed t n every read files files) (sym same) (error_of error t n every read files is)
+
+-- why it isn't had
+script_fault : (lost : Bool) (error : ScriptError) → IsWorkersFault lost (status_of_script error)
+script_fault lost (script.TooLong line) = tt
+script_fault lost script.ReadFault = tt
+script_fault lost script.NoMemory = tt
+
+pub error_fault : (lost : Bool) (error : ScriptError) (status : Status) → status ≡ status_of_script error → IsWorkersFault lost status
+error_fault lost error status is = subst (IsWorkersFault lost) (sym is) (script_fault lost error)

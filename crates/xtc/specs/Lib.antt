@@ -3,6 +3,7 @@ pub mod ReadLines
 pub mod Book
 pub mod StoreMachine
 pub mod Statuses
+pub mod Checkpoints
 pub mod TopCall
 pub mod Promises
 pub mod Commands

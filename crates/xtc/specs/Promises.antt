@@ -16,43 +16,43 @@ use Rattle.xtc.specs.TopCall.{Outcome, OpenedStoreLeaves, OpenAfterAsked, OpenAf
 use Rattle.xtc.specs.declared.status.Status.{Status}
 
 -- so it is of the book: of a script's lines, of what was asked in turn, or of what workers did
-abbrev pub OfBook : (limit : ℕ) (c : Option Command) (status : Status) (o : Outcome) → OpenedStoreLeaves limit c status o → (Book StoreCall → Type 0) → Type 0
-OfBook limit (Some run) status o left P = P left.ran.script.book
-OfBook limit (Some workers) status o left P = P left.ran.book
-OfBook limit (Some (put name)) status o left P = P (after_asked (start left.tree left.number limit) left.ran.asked).book
-OfBook limit (Some (get name)) status o left P = P (after_asked (start left.tree left.number limit) left.ran.asked).book
-OfBook limit (Some (query name path)) status o left P = P (after_asked (start left.tree left.number limit) left.ran.asked).book
-OfBook limit (Some (gen seed count)) status o left P = P (after_asked (start left.tree left.number limit) left.ran.asked).book
-OfBook limit None status o left P = Unit {0}
+abbrev pub OfBook : (limit : ℕ) (c : Option Command) (every : ℕ) (status : Status) (o : Outcome) → OpenedStoreLeaves limit c every status o → (Book StoreCall → Type 0) → Type 0
+OfBook limit (Some run) every status o left P = P left.ran.script.book
+OfBook limit (Some workers) every status o left P = P left.ran.book
+OfBook limit (Some (put name)) every status o left P = P (after_asked (start left.tree left.number limit) left.ran.asked).book
+OfBook limit (Some (get name)) every status o left P = P (after_asked (start left.tree left.number limit) left.ran.asked).book
+OfBook limit (Some (query name path)) every status o left P = P (after_asked (start left.tree left.number limit) left.ran.asked).book
+OfBook limit (Some (gen seed count)) every status o left P = P (after_asked (start left.tree left.number limit) left.ran.asked).book
+OfBook limit None every status o left P = Unit {0}
 
 -- so it is of the files that hold the tree after a prefix of the commits: with every one that was answered, or with none of them for sure
-abbrev pub OfAnswered : (limit : ℕ) (c : Option Command) (status : Status) (o : Outcome) → OpenedStoreLeaves limit c status o → ((List ℕ → List ℕ → Type 0) → Type 0) → Type 0
-OfAnswered limit (Some run) status o left P = P (OpenAfterLines left.tree left.number limit left.ran.done (take (left.ran.done + left.ran.further) left.ran.lines))
-OfAnswered limit (Some workers) status o left P = P (OpenAfterCommits left.tree left.number (durable_at status left.ran.book) left.ran.book)
-OfAnswered limit (Some (put name)) status o left P = P (OpenAfterAsked left.tree left.number limit left.ran.answered left.ran.asked)
-OfAnswered limit (Some (get name)) status o left P = P (OpenAfterAsked left.tree left.number limit left.ran.answered left.ran.asked)
-OfAnswered limit (Some (query name path)) status o left P = P (OpenAfterAsked left.tree left.number limit left.ran.answered left.ran.asked)
-OfAnswered limit (Some (gen seed count)) status o left P = P (OpenAfterAsked left.tree left.number limit left.ran.answered left.ran.asked)
-OfAnswered limit None status o left P = Unit {0}
+abbrev pub OfAnswered : (limit : ℕ) (c : Option Command) (every : ℕ) (status : Status) (o : Outcome) → OpenedStoreLeaves limit c every status o → ((List ℕ → List ℕ → Type 0) → Type 0) → Type 0
+OfAnswered limit (Some run) every status o left P = P (OpenAfterLines left.tree left.number limit left.ran.done (take (left.ran.done + left.ran.further) left.ran.lines))
+OfAnswered limit (Some workers) every status o left P = P (OpenAfterCommits left.tree left.number (durable_at status left.ran.book) left.ran.book)
+OfAnswered limit (Some (put name)) every status o left P = P (OpenAfterAsked left.tree left.number limit left.ran.answered left.ran.asked)
+OfAnswered limit (Some (get name)) every status o left P = P (OpenAfterAsked left.tree left.number limit left.ran.answered left.ran.asked)
+OfAnswered limit (Some (query name path)) every status o left P = P (OpenAfterAsked left.tree left.number limit left.ran.answered left.ran.asked)
+OfAnswered limit (Some (gen seed count)) every status o left P = P (OpenAfterAsked left.tree left.number limit left.ran.answered left.ran.asked)
+OfAnswered limit None every status o left P = Unit {0}
 
-abbrev pub OfPrefix : (limit : ℕ) (c : Option Command) (status : Status) (o : Outcome) → OpenedStoreLeaves limit c status o → ((List ℕ → List ℕ → Type 0) → Type 0) → Type 0
-OfPrefix limit (Some run) status o left P = P (OpenAfterLines left.tree left.number limit 0 (take (left.ran.done + left.ran.further) left.ran.lines))
-OfPrefix limit (Some workers) status o left P = P (OpenAfterCommits left.tree left.number 0 left.ran.book)
-OfPrefix limit (Some (put name)) status o left P = P (OpenAfterAsked left.tree left.number limit 0 left.ran.asked)
-OfPrefix limit (Some (get name)) status o left P = P (OpenAfterAsked left.tree left.number limit 0 left.ran.asked)
-OfPrefix limit (Some (query name path)) status o left P = P (OpenAfterAsked left.tree left.number limit 0 left.ran.asked)
-OfPrefix limit (Some (gen seed count)) status o left P = P (OpenAfterAsked left.tree left.number limit 0 left.ran.asked)
-OfPrefix limit None status o left P = Unit {0}
+abbrev pub OfPrefix : (limit : ℕ) (c : Option Command) (every : ℕ) (status : Status) (o : Outcome) → OpenedStoreLeaves limit c every status o → ((List ℕ → List ℕ → Type 0) → Type 0) → Type 0
+OfPrefix limit (Some run) every status o left P = P (OpenAfterLines left.tree left.number limit 0 (take (left.ran.done + left.ran.further) left.ran.lines))
+OfPrefix limit (Some workers) every status o left P = P (OpenAfterCommits left.tree left.number 0 left.ran.book)
+OfPrefix limit (Some (put name)) every status o left P = P (OpenAfterAsked left.tree left.number limit 0 left.ran.asked)
+OfPrefix limit (Some (get name)) every status o left P = P (OpenAfterAsked left.tree left.number limit 0 left.ran.asked)
+OfPrefix limit (Some (query name path)) every status o left P = P (OpenAfterAsked left.tree left.number limit 0 left.ran.asked)
+OfPrefix limit (Some (gen seed count)) every status o left P = P (OpenAfterAsked left.tree left.number limit 0 left.ran.asked)
+OfPrefix limit None every status o left P = Unit {0}
 
 -- what the sink took: of a script a prefix of the text of the replies to the lines that were done, of workers a text that the book shows, of a document its text at the end and else nothing
-abbrev pub IsOutput : (limit : ℕ) (c : Option Command) (status : Status) (o : Outcome) → OpenedStoreLeaves limit c status o → Type 0
-IsOutput limit (Some run) status o left = TookPrefix o.before o.now (replies_text (script_of (start left.tree left.number limit) (take left.ran.done left.ran.lines)).lines)
-IsOutput limit (Some workers) status o left = IsWorkersOutput left.tree left.number limit status left.ran.book o.read o.before o.now
-IsOutput limit (Some (put name)) status o left = WroteWhole status o.before o.now (text_of (put name) (start left.tree left.number limit) left.ran.asked)
-IsOutput limit (Some (get name)) status o left = WroteWhole status o.before o.now (text_of (get name) (start left.tree left.number limit) left.ran.asked)
-IsOutput limit (Some (query name path)) status o left = WroteWhole status o.before o.now (text_of (query name path) (start left.tree left.number limit) left.ran.asked)
-IsOutput limit (Some (gen seed count)) status o left = WroteWhole status o.before o.now (text_of (gen seed count) (start left.tree left.number limit) left.ran.asked)
-IsOutput limit None status o left = Unit {0}
+abbrev pub IsOutput : (limit : ℕ) (c : Option Command) (every : ℕ) (status : Status) (o : Outcome) → OpenedStoreLeaves limit c every status o → Type 0
+IsOutput limit (Some run) every status o left = TookPrefix o.before o.now (replies_text (script_of (start left.tree left.number limit) (take left.ran.done left.ran.lines)).lines)
+IsOutput limit (Some workers) every status o left = IsWorkersOutput left.tree left.number limit status left.ran.book o.read o.before o.now
+IsOutput limit (Some (put name)) every status o left = WroteWhole status o.before o.now (text_of (put name) (start left.tree left.number limit) left.ran.asked)
+IsOutput limit (Some (get name)) every status o left = WroteWhole status o.before o.now (text_of (get name) (start left.tree left.number limit) left.ran.asked)
+IsOutput limit (Some (query name path)) every status o left = WroteWhole status o.before o.now (text_of (query name path) (start left.tree left.number limit) left.ran.asked)
+IsOutput limit (Some (gen seed count)) every status o left = WroteWhole status o.before o.now (text_of (gen seed count) (start left.tree left.number limit) left.ran.asked)
+IsOutput limit None every status o left = Unit {0}
 
 -- each deadlock in a book from this tree, number and limit shows a true cycle
 abbrev pub ShowTrueCycles : Tree → ℕ → ℕ → Book StoreCall → Type 0

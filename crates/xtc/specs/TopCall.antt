@@ -1,5 +1,5 @@
 -- What a run of the program leaves, by its status (docs/MANUAL.md, "Statuses").
-use Rattle.std.specs.Prelude.{◌≡◌, ◌≤◌, ◌⊎◌, ℕ, ◌+◌, List, [], ◌∷◌, ◌++◌, length, take, false, IsTrue, Option, Some, None, Result, Ok, Err, IfSome}
+use Rattle.std.specs.Prelude.{◌≡◌, ◌≤◌, ◌⊎◌, ℕ, ◌+◌, List, [], ◌∷◌, ◌++◌, length, take, Bool, false, true, IsTrue, Option, Some, None, Result, Ok, Err, IfSome}
 use Rattle.outside_kinds.specs.Bounds.{input_limit}
 use Rattle.outside_traits.specs.Bytes.{Took, TookPrefix}
 use Rattle.outside_traits.specs.DiskPairs.{Pair, PairsHave, PairsLeave}
@@ -27,6 +27,7 @@ use Rattle.command_words.specs.Commands.{Command, run, workers, put, get, query,
 use Rattle.workers_script.specs.Entries.{entries_of}
 use Rattle.workers_script.specs.Limits.{too_long}
 use Rattle.workers_replies.specs.Shown.{lines_in, IsShownBy}
+use Rattle.xtc.specs.Checkpoints.{AreMade, tries}
 use Rattle.xtc.specs.Commands.{may_commit, reads_input}
 use Rattle.durable_sessions.specs.InTurn as turn
 use Rattle.durable_sessions.specs.declared.reasons.Reason.{Reason}
@@ -125,8 +126,6 @@ pub record ScriptRan (t : Tree) (n limit : ℕ) (status : Status) (opening : Pai
   pub any_moment : PairsLeave (OpenAfterLines t n limit 0 (take (done + further) lines)) opening o.new
   pub left : PairsHave (OpenAfterLines t n limit done (take (done + further) lines)) o.new
   pub reads : OpenAfterLines t n limit done (take (done + further) lines) o.new.journal.now.reads o.new.pages.now.reads
-  -- the pages aren't written
-  pub pages : o.new.pages ≡ opening.pages
 
 -- ---- a command that asks in turn, and that ran
 
@@ -207,8 +206,6 @@ pub record DocumentRan (t : Tree) (n limit : ℕ) (c : Command) (status : Status
   pub any_moment : PairsLeave (OpenAfterAsked t n limit 0 asked) opening o.new
   pub left : PairsHave (OpenAfterAsked t n limit answered asked) o.new
   pub reads : OpenAfterAsked t n limit answered asked o.new.journal.now.reads o.new.pages.now.reads
-  -- the pages aren't written
-  pub pages : o.new.pages ≡ opening.pages
 
 -- ---- a script that was run by workers
 
@@ -229,12 +226,13 @@ pub record WroteShown (t : Tree) (n limit : ℕ) (status : Status) (book : Book 
 abbrev pub IsUndone : Book StoreCall → Option (List ℕ) → Option (List ℕ) → Type 0
 IsUndone book before now = (book ≡ []) × (now ≡ before)
 
--- The workers did all lines, and the book shows a text of them, of which nothing is written where the journal's disk failed.
--- Where that of the pages did, in one of the lines, and at any other status, all is undone.
+-- The workers did all lines, and the book shows a text of them, of which nothing is written where a disk failed behind them.
+-- So it is where memory was wanting for a checkpoint. Where a disk's fault or want of memory came before the commits were written, and at any other status, all is undone.
 abbrev pub IsWorkersOutput : Tree → ℕ → ℕ → Status → Book StoreCall → List ℕ → Option (List ℕ) → Option (List ℕ) → Type 0
 IsWorkersOutput t n limit Done book read before now = WroteShown t n limit Done book read before now
 IsWorkersOutput t n limit WriteFault book read before now = WroteShown t n limit WriteFault book read before now
 IsWorkersOutput t n limit DiskFault book read before now = WroteShown t n limit DiskFault book read before now ⊎ IsUndone book before now
+IsWorkersOutput t n limit NoMemory book read before now = WroteShown t n limit NoMemory book read before now ⊎ IsUndone book before now
 IsWorkersOutput t n limit status book read before now = IsUndone book before now
 
 -- what a status says of the input
@@ -273,8 +271,6 @@ pub record WorkersRan (t : Tree) (n limit : ℕ) (status : Status) (opening : Pa
   pub any_moment : PairsLeave (OpenAfterCommits t n 0 book) opening o.new
   pub left : PairsHave (OpenAfterCommits t n (durable_at status book) book) o.new
   pub reads : OpenAfterCommits t n (durable_at status book) book o.new.journal.now.reads o.new.pages.now.reads
-  -- the pages aren't written
-  pub pages : o.new.pages ≡ opening.pages
 
 -- a command that ran
 abbrev pub CommandRan : Tree → ℕ → ℕ → Option Command → Status → Pair → Outcome → Type 0
@@ -286,6 +282,16 @@ CommandRan t n limit (Some (query name path)) status opening o = DocumentRan t n
 CommandRan t n limit (Some (gen seed count)) status opening o = DocumentRan t n limit (gen seed count) status opening o
 CommandRan t n limit None status opening o = ⊥
 
+-- its book: of a script's lines, of what was asked in turn, or of what workers did
+abbrev pub book_of : (t : Tree) (n limit : ℕ) (c : Option Command) (status : Status) (opening : Pair) (o : Outcome) → CommandRan t n limit c status opening o → Book StoreCall
+book_of t n limit (Some run) status opening o ran = ran.script.book
+book_of t n limit (Some workers) status opening o ran = ran.book
+book_of t n limit (Some (put name)) status opening o ran = (after_asked (start t n limit) ran.asked).book
+book_of t n limit (Some (get name)) status opening o ran = (after_asked (start t n limit) ran.asked).book
+book_of t n limit (Some (query name path)) status opening o ran = (after_asked (start t n limit) ran.asked).book
+book_of t n limit (Some (gen seed count)) status opening o ran = (after_asked (start t n limit) ran.asked).book
+book_of t n limit None status opening o ran = []
+
 -- ---- by the status
 
 -- the store wasn't opened: nothing was read or written, and a crash leaves what stands for what such files stood for at the start, now and at each moment
@@ -295,33 +301,36 @@ pub record UnopenedStoreLeaves (o : Outcome) : Type 0 where
   pub any_moment : LeaveWhatStood o.old o.new
   pub left : PairsHave (StoodFor o.old) o.new
 
--- the store was opened, and the command ran
-pub record OpenedStoreLeaves (limit : ℕ) (command : Option Command) (status : Status) (o : Outcome) : Type 0 where
+-- the store was opened, and the command ran, with checkpoints behind each so many commits
+pub record OpenedStoreLeaves (limit : ℕ) (command : Option Command) (every : ℕ) (status : Status) (o : Outcome) : Type 0 where
   pub tree : Tree
   pub number : ℕ
   pub stood : StandFor o.old.journal.now.reads o.old.pages.now.reads tree number
   pub opening : Pair
   pub until_open : LeaveWhatStood o.old opening
   pub ran : CommandRan tree number limit command status opening o
+  -- without checkpoints the pages aren't written; with them, at the end, they hold the tree behind the last one
+  pub pages : tries command every ≡ false → o.new.pages ≡ opening.pages
+  pub made : status ≡ Done → IsTrue (tries command every) → AreMade command every tree number (book_of tree number limit command status opening o ran) o.new.journal.now.reads o.new.pages.now.reads
 
--- what the words' command leaves
-abbrev pub Leaves : ℕ → Option Command → Status → Outcome → Type 0
-Leaves limit command Usage o = (o.read ≡ []) × (o.now ≡ o.before) × (o.new ≡ o.old)
-Leaves limit command (Damaged place) o = UnopenedStoreLeaves o
-Leaves limit command DiskFault o = UnopenedStoreLeaves o ⊎ OpenedStoreLeaves limit command DiskFault o
-Leaves limit command NoMemory o = UnopenedStoreLeaves o ⊎ OpenedStoreLeaves limit command NoMemory o
-Leaves limit command status o = OpenedStoreLeaves limit command status o
+-- what the words' command leaves, which asks for checkpoints behind each so many commits
+abbrev pub Leaves : ℕ → Option Command → ℕ → Status → Outcome → Type 0
+Leaves limit command every Usage o = (o.read ≡ []) × (o.now ≡ o.before) × (o.new ≡ o.old)
+Leaves limit command every (Damaged place) o = UnopenedStoreLeaves o
+Leaves limit command every DiskFault o = UnopenedStoreLeaves o ⊎ OpenedStoreLeaves limit command every DiskFault o
+Leaves limit command every NoMemory o = UnopenedStoreLeaves o ⊎ OpenedStoreLeaves limit command every NoMemory o
+Leaves limit command every status o = OpenedStoreLeaves limit command every status o
 
--- so it is where nothing is read
-abbrev pub IsUnread : Status → Type 0 → Type 0
-IsUnread Usage P = P
-IsUnread (Damaged place) P = P
-IsUnread status P = Unit {0}
+-- so it is where nothing is read; `lost`: damage may have come behind the opening
+abbrev pub IsUnread : Bool → Status → Type 0 → Type 0
+IsUnread lost Usage P = P
+IsUnread false (Damaged place) P = P
+IsUnread lost status P = Unit {0}
 
 -- what a run took of its input, of so many bytes given: all of it at the end of a command that reads one, nothing where no store was opened
-pub record TookInput (command : Option Command) (status : Status) (left left_now : Option (List ℕ)) (given given_now : ℕ) : Type 0 where
+pub record TookInput (command : Option Command) (lost : Bool) (status : Status) (left left_now : Option (List ℕ)) (given given_now : ℕ) : Type 0 where
   pub whole : IsTrue (reads_input command) → status ≡ Done → IfSome left_now (λ rest. rest ≡ [])
-  pub unread : IsUnread status ((left_now ≡ left) × (given_now ≡ given))
+  pub unread : IsUnread lost status ((left_now ≡ left) × (given_now ≡ given))
   pub bound : given_now ≤ given + input_limit
 
 -- so it is in a command that isn't done line by line
@@ -338,20 +347,21 @@ abbrev pub OfWorkers : Option Command → Type 0 → Type 0
 OfWorkers (Some workers) P = P
 OfWorkers command P = Unit {0}
 
--- so it is where nothing is written
-abbrev pub IsSilent : Option Command → Status → Type 0 → Type 0
-IsSilent command Usage P = P
-IsSilent command (Damaged place) P = P
-IsSilent command (NotJsonMl why) P = P
-IsSilent command (DocumentRefused why) P = P
-IsSilent command (LineTooLong line) P = OfDocument command P
-IsSilent command ReadFault P = OfDocument command P
-IsSilent command DiskFault P = OfWorkers command P
-IsSilent command NoMemory P = OfWorkers command P
-IsSilent command status P = Unit {0}
+-- so it is where nothing is written; `lost`: damage may have come behind the opening
+abbrev pub IsSilent : Option Command → Bool → Status → Type 0 → Type 0
+IsSilent command lost Usage P = P
+IsSilent command false (Damaged place) P = P
+IsSilent command true (Damaged place) P = OfDocument command P
+IsSilent command lost (NotJsonMl why) P = P
+IsSilent command lost (DocumentRefused why) P = P
+IsSilent command lost (LineTooLong line) P = OfDocument command P
+IsSilent command lost ReadFault P = OfDocument command P
+IsSilent command lost DiskFault P = OfWorkers command P
+IsSilent command lost NoMemory P = OfWorkers command P
+IsSilent command lost status P = Unit {0}
 
 -- the statuses with which a command ends over a store that was opened
-abbrev pub IsOfOpened : Status → Type 0
-IsOfOpened Usage = ⊥
-IsOfOpened (Damaged place) = ⊥
-IsOfOpened status = Unit {0}
+abbrev pub IsOfOpened : Bool → Status → Type 0
+IsOfOpened lost Usage = ⊥
+IsOfOpened lost (Damaged place) = IsTrue lost
+IsOfOpened lost status = Unit {0}

@@ -5,3 +5,5 @@ pub mod Asking
 pub mod Showing
 pub mod Counting
 pub mod Working
+pub mod Renewing
+pub mod Generating

@@ -21,7 +21,7 @@ ghost use Rattle.jsonml_io.specs.declared.fragment_error.FragmentError.TheVarian
 ghost use Rattle.command_words.specs.Commands.{put as put_command};
 ghost use Rattle.xtc.specs.Documents.{element_in, put_asks};
 ghost use Rattle.xtc.specs.TopCall.{IsWhole, WroteWhole, tx_limit, whole_limit};
-ghost use Rattle.xtc.specs.inside.Asking.{all_asks, AreValidAsks, DocumentDone, IfJudged, InputDone, IsReadElement, IsStop, IsUnwritten, IsWriteEnd};
+ghost use Rattle.xtc.specs.inside.Asking.{all_asks, AreValidAsks, DocumentDone, IfJudged, InputDone, IsReadElement, IsStop, IsQuiet, IsUnwritten, IsWriteEnd};
 ghost use Rattle.xtc.specs.StoreMachine.{pages_of, told};
 ghost use Rattle.xtc.specs.inside.CommandRuns.{RunsCommand};
 
@@ -57,7 +57,7 @@ pub fn run_put<S: Source, K: Sink, J: Disk, P: Disk + Drop>(
     store: OpenStore<J, P>,
 ) -> Finish<J, P>
     requires next { TakesBehind store.journal store.number }
-    ensures { RunsCommand J.is_known P.is_known (told P.is_known P.history store.base) store.number (put_command name.now) result.status
+    ensures { (every : ℕ) → RunsCommand J.is_known P.is_known (told P.is_known P.history store.base) store.number (put_command name.now) every result.status
         (record { left = S.left source.old; given = S.given source.old; asked = S.asked source.old; faults = S.faults source.old })
         (record { left = S.left source.new; given = S.given source.new; asked = S.asked source.new; faults = S.faults source.new })
         (record { held = K.held sink.old; faults = K.faults sink.old }) (record { held = K.held sink.new; faults = K.faults sink.new })
@@ -81,7 +81,7 @@ pub fn run_put<S: Source, K: Sink, J: Disk, P: Disk + Drop>(
 
 /// Writes the text that there is, and answers how the command ended.
 pub fn written<K: Sink>(sink: &mut K, text: Result<Vec<u8>, Status>) -> Status
-    requires { IfErr text IsUnwritten }
+    requires { IfErr text IsQuiet }
     ensures text { IfOk text (λ text. IsWriteEnd result × WroteWhole result (K.held sink.old) (K.held sink.new) text.items) }
     ensures none { IfErr text (λ status. (result ≡ status) × (K.held sink.new ≡ K.held sink.old)) }
     ensures write { CountedWhere (result ≡ Status.WriteFault) (K.faults sink.old) (K.faults sink.new) }

@@ -1,40 +1,46 @@
 // The command that runs the generator's script over a store that was opened, and writes what is counted of its replies.
-ghost use Rattle.std.specs.Prelude.{◌≡◌, ◌≤◌, ◌++◌, ◌∷◌, [], false, None, Err, IfOk, IfErr, OnOk};
+ghost use Rattle.std.specs.Prelude.{◌≡◌, ◌≤◌, ◌&&◌, ◌++◌, ◌∷◌, [], false, not, Err, IfOk, IfErr, IsTrue, OnOk};
 ghost use Rattle.outside_traits.specs.DiskPairs.{pair_of};
 ghost use Rattle.outside_traits.specs.Faults.{HasCause};
-ghost use Rattle.tree_model.specs.Tree.{Tree};
-ghost use Rattle.node_seq.specs.Trees.{OnTree, StandsFor};
+ghost use Rattle.outside_traits.specs.Moments.{IsAllSynced};
+ghost use Rattle.node_seq.specs.Trees.{OnTree};
 ghost use Rattle.recovery.specs.Openings.{TakesBehind};
-ghost use Rattle.call_contract.specs.States.{State, start};
+ghost use Rattle.checkpoint.specs.Bases.{contents_of};
+ghost use Rattle.call_contract.specs.States.{State};
 ghost use Rattle.command_lines.specs.declared.command.StoreCall.{StoreCall};
 ghost use Rattle.command_words.specs.Commands.{gen as gen_command};
 ghost use Rattle.workload_gen.specs.LineTexts.{line_text};
 ghost use Rattle.workload_gen.specs.Summaries.{after_line, summary_text};
-ghost use Rattle.xtc.specs.Book.{IsValidLine};
-ghost use Rattle.durable_sessions.specs.Asked.{counts_of, TakesNext};
+ghost use Rattle.durable_sessions.specs.Asked.{GrowsByOne, counts_of, TakesNext};
 ghost use Rattle.durable_sessions.specs.InTurn.{AskedInTurn};
 ghost use Rattle.durable_sessions.specs.Reasons.{limit_of};
 ghost use Rattle.durable_sessions.specs.Standing.{Stands};
 ghost use Rattle.script_runs.specs.Counts.{DisksCountedWhere};
 ghost use Rattle.store_calls.specs.StoreCalls.{IsValidStoreCall, store_meaning};
+ghost use Rattle.xtc.specs.Book.{IsValidLine, after_asked};
+ghost use Rattle.xtc.specs.Checkpoints.{is_positive, may_lose};
 ghost use Rattle.xtc.specs.Documents.{has_documents};
 ghost use Rattle.xtc.specs.Generated.{generated_line};
 ghost use Rattle.xtc.specs.ReadLines.{line_in};
 ghost use Rattle.xtc.specs.ScriptLine.{line_of};
-ghost use Rattle.xtc.specs.StoreMachine.{pages_of, told};
-ghost use Rattle.xtc.specs.TopCall.{tx_limit};
-ghost use Rattle.xtc.specs.inside.Asking.{DocumentDone, IsStop};
-ghost use Rattle.xtc.specs.inside.CommandRuns.{Input, RunsCommand};
-ghost use Rattle.xtc.specs.inside.Counting.{AskedLine, RanLines};
+ghost use Rattle.xtc.specs.StoreMachine.{HasRested, faults_of, file_in, file_of, pages_of, told};
+ghost use Rattle.xtc.specs.inside.Asking.{IsQuiet};
+ghost use Rattle.xtc.specs.inside.CommandRuns.{HasTree, Input, RunsCommand};
+ghost use Rattle.xtc.specs.inside.Counting.{AskedLine, FromState, GoesOn, IsStopIf, LeftPages, RanLines};
+ghost use Rattle.xtc.specs.inside.Generating.{DoneOverFiles, FromTree, opened_with};
+ghost use Rattle.xtc.specs.inside.Renewing.{ReadsGroups, counts_in, files_of, kept};
 ghost use Rattle.xtc.specs.inside.Showing.{IsHalt};
 ghost use Rattle.xtc.specs.inside.Stores.{Counts};
+ghost use Rattle.xtc.specs.inside.Working.{IsNew};
 
+use crate::checkpoints::{Checkpoints, DoneOver};
 use crate::document::written;
 use crate::line::{ReadLine, read_line};
 use crate::showing::fault_first;
 use crate::status::Status;
 use crate::store::OpenStore;
-use crate::top_call::{Finish, Over, TX_LIMIT, with_disks};
+use crate::top_call::{Finish, TX_LIMIT, with_files};
+use checkpoint::Base;
 use command_lines::LineReply;
 use dewey_labels::{Label, NoMemory};
 use durable_sessions::{Halt, Reason, SessionBase, Stop, answer, limit_in};
@@ -52,13 +58,16 @@ pub fn run_gen<K: Sink, J: Disk, P: Disk + Drop>(
     alloc: Global,
     seed: u32,
     count: u32,
+    every: u32,
     sink: &mut K,
     store: OpenStore<J, P>,
 ) -> Finish<J, P>
     requires count { (1 ≤ count) × (count ≤ 20000) }
     requires next { TakesBehind store.journal store.number }
-    ensures { (input : Input) → RunsCommand J.is_known P.is_known (told P.is_known P.history store.base) store.number (gen_command seed count) result.status
-        input input
+    requires synced { IsTrue P.is_known → IsAllSynced (pages_of P.history store.base) }
+    requires tree { IsTrue P.is_known → HasTree (told P.is_known P.history store.base) }
+    ensures { (input : Input) → RunsCommand J.is_known P.is_known (told P.is_known P.history store.base) store.number
+        (gen_command seed count) every result.status input input
         (record { held = K.held sink.old; faults = K.faults sink.old }) (record { held = K.held sink.new; faults = K.faults sink.new })
         (record {
           files = pair_of store.journal.history (pages_of P.history store.base);
@@ -74,38 +83,57 @@ pub fn run_gen<K: Sink, J: Disk, P: Disk + Drop>(
         mut journal,
         number,
     } = store;
-    let Over { text, base } = generate_over(alloc, seed, count, base, number, &mut journal);
-    with_disks(written(sink, text), journal, base)
+    let checkpoints = Checkpoints::new(every, number);
+    let DoneOver {
+        text,
+        base,
+        checkpoints,
+    } = generate_over(
+        alloc,
+        seed,
+        count,
+        Base::Paged(base),
+        checkpoints,
+        number,
+        &mut journal,
+    );
+    with_files(written(sink, text), journal, checkpoints.disk_beside(base))
 }
 
 /// Runs the script over a base, which is refused if it has documents, and answers the line of its summary.
-fn generate_over<B: SessionBase, J: Disk>(
+fn generate_over<J: Disk, P: Disk + Drop>(
     alloc: Global,
     seed: u32,
     count: u32,
-    base: B,
+    base: Base<P>,
+    checkpoints: Checkpoints<P>,
     number: u32,
     journal: &mut Journal<J>,
-) -> Over<B>
+) -> DoneOver<P>
     requires count { (1 ≤ count) × (count ≤ 20000) }
-    requires next { TakesBehind journal.old number }
-    ensures done { (t : Tree) → StandsFor (B.contents base) t → DocumentDone J.is_known (start t number tx_limit) (gen_command seed count) []
-        journal.old.history journal.new.history (λ text. text.items) result.text }
-    ensures stops { IfErr result.text IsStop }
-    ensures base { B.stays base result.base }
+    requires rested { HasRested P.is_known P.history (opened_with P.is_known P.history base number journal.old checkpoints) }
+    ensures done { FromTree J.is_known P.is_known (contents_of P.is_known P.history base) number
+        (pair_of journal.old.history (file_of P.history base checkpoints.pages))
+        (λ t. DoneOverFiles t number (gen_command seed count) checkpoints.every (pair_of journal.old.history (file_of P.history base checkpoints.pages))
+        (pair_of journal.new.history (file_of P.history result.base result.checkpoints.pages)) (λ text. text.items) result.text) }
+    ensures stops { IfErr result.text (IsStopIf (is_positive checkpoints.every && not P.is_known)) }
+    ensures pages { LeftPages P.is_known P.history checkpoints.every (file_of P.history base checkpoints.pages) result.base result.checkpoints.pages }
     ensures counts { DisksCountedWhere (result.text ≡ Err Status.DiskFault)
-        (record { journal = journal.old.faults; pages = B.count base }) (record { journal = journal.new.faults; pages = B.count result.base }) }
+        (record { journal = journal.old.faults; pages = faults_of P.faults base checkpoints.pages })
+        (record { journal = journal.new.faults; pages = faults_of P.faults result.base result.checkpoints.pages }) }
 {
     let mut base = base;
     match has_documents(alloc, &mut base) {
-        Ok(false) => generate_in(alloc, seed, count, base, number, journal),
-        Ok(true) => Over {
+        Ok(false) => generate_in(alloc, seed, count, base, checkpoints, number, journal),
+        Ok(true) => DoneOver {
             text: Err(Status::DocumentRefused(Reason::Call(Refusal::DocumentExists))),
             base,
+            checkpoints,
         },
-        Err(stop) => Over {
+        Err(stop) => DoneOver {
             text: Err(Status::from(stop)),
             base,
+            checkpoints,
         },
     }
 }
@@ -139,57 +167,72 @@ fn some_document<S: NodeRead>(alloc: Global, seq: &mut S) -> Result<bool, Stop>
 }
 
 /// Runs the script over a base without documents, and answers the line of its summary.
-fn generate_in<B: SessionBase, J: Disk>(
+fn generate_in<J: Disk, P: Disk + Drop>(
     alloc: Global,
     seed: u32,
     count: u32,
-    base: B,
+    base: Base<P>,
+    checkpoints: Checkpoints<P>,
     number: u32,
     journal: &mut Journal<J>,
-) -> Over<B>
+) -> DoneOver<P>
     requires count { (1 ≤ count) × (count ≤ 20000) }
-    requires next { TakesBehind journal.old number }
-    ensures done { (t : Tree) → StandsFor (B.contents base) t → has_documents t ≡ false
-        → DocumentDone J.is_known (start t number tx_limit) (gen_command seed count) [] journal.old.history journal.new.history (λ text. text.items) result.text }
-    ensures stops { IfErr result.text IsStop }
-    ensures base { B.stays base result.base }
+    requires rested { HasRested P.is_known P.history (opened_with P.is_known P.history base number journal.old checkpoints) }
+    ensures done { FromTree J.is_known P.is_known (contents_of P.is_known P.history base) number
+        (pair_of journal.old.history (file_of P.history base checkpoints.pages))
+        (λ t. has_documents t ≡ false → DoneOverFiles t number (gen_command seed count) checkpoints.every
+        (pair_of journal.old.history (file_of P.history base checkpoints.pages))
+        (pair_of journal.new.history (file_of P.history result.base result.checkpoints.pages)) (λ text. text.items) result.text) }
+    ensures stops { IfErr result.text (IsStopIf (is_positive checkpoints.every && not P.is_known)) }
+    ensures pages { LeftPages P.is_known P.history checkpoints.every (file_of P.history base checkpoints.pages) result.base result.checkpoints.pages }
     ensures counts { DisksCountedWhere (result.text ≡ Err Status.DiskFault)
-        (record { journal = journal.old.faults; pages = B.count base }) (record { journal = journal.new.faults; pages = B.count result.base }) }
+        (record { journal = journal.old.faults; pages = faults_of P.faults base checkpoints.pages })
+        (record { journal = journal.new.faults; pages = faults_of P.faults result.base result.checkpoints.pages }) }
 {
     match Core::new(alloc, base, number, TX_LIMIT) {
         Ok(mut core) => {
-            let text = run_script(alloc, seed, count, &mut core, journal);
-            Over {
+            let mut checkpoints = checkpoints;
+            let text = run_script(alloc, seed, count, &mut core, journal, &mut checkpoints);
+            DoneOver {
                 text,
                 base: core.into_base(),
+                checkpoints,
             }
         }
-        Err(NoCore { base }) => Over {
+        Err(NoCore { base }) => DoneOver {
             text: Err(Status::NoMemory),
             base,
+            checkpoints,
         },
     }
 }
 
 /// Runs the script, and answers the line of its summary.
-fn run_script<B: SessionBase, J: Disk>(
+fn run_script<J: Disk, P: Disk + Drop>(
     alloc: Global,
     seed: u32,
     count: u32,
-    core: &mut Core<StoreOp, B>,
+    core: &mut Core<StoreOp, Base<P>>,
     journal: &mut Journal<J>,
+    checkpoints: &mut Checkpoints<P>,
 ) -> Result<Vec<u8>, Status>
     requires count { (1 ≤ count) × (count ≤ 20000) }
-    requires takes { TakesNext core.old journal.old }
-    ensures done { (s : State StoreCall) → Stands store_meaning B.contents core.old s → has_documents s.tree ≡ false
-        → DocumentDone J.is_known s (gen_command seed count) [] journal.old.history journal.new.history (λ text. text.items) result }
-    ensures stops { IfErr result IsStop }
-    ensures base { B.stays core.old.base core.new.base }
-    ensures counts { DisksCountedWhere (result ≡ Err Status.DiskFault) (counts_of B.count core.old journal.old) (counts_of B.count core.new journal.new) }
+    requires opened { IsNew (contents_of P.is_known P.history) core.old }
+    requires rested { HasRested P.is_known P.history (kept core.old journal.old checkpoints.old) }
+    ensures done { FromTree J.is_known P.is_known (contents_of P.is_known P.history core.old.base) core.old.number
+        (files_of P.history (kept core.old journal.old checkpoints.old))
+        (λ t. has_documents t ≡ false → DoneOverFiles t core.old.number (gen_command seed count) checkpoints.old.every
+        (files_of P.history (kept core.old journal.old checkpoints.old)) (files_of P.history (kept core.new journal.new checkpoints.new))
+        (λ text. text.items) result) }
+    ensures stops { IfErr result (IsStopIf (is_positive checkpoints.old.every && not P.is_known)) }
+    ensures pages { LeftPages P.is_known P.history checkpoints.old.every
+        (file_in P.history (kept core.old journal.old checkpoints.old)) core.new.base checkpoints.new.pages }
+    ensures counts { DisksCountedWhere (result ≡ Err Status.DiskFault)
+        (counts_in P.faults (kept core.old journal.old checkpoints.old)) (counts_in P.faults (kept core.new journal.new checkpoints.new)) }
 {
     let mut script = Script::new(seed, count);
     let mut summary = Summary::new(count);
-    run_lines(alloc, core, journal, &mut script, &mut summary)?;
+    run_lines(alloc, core, journal, checkpoints, &mut script, &mut summary)?;
     Ok(line_of(alloc, &summary)?)
 }
 
@@ -203,23 +246,35 @@ fn line_of(alloc: Global, summary: &Summary) -> Result<Vec<u8>, NoMemory>
 }
 
 /// Does the lines of a script up to the first begin or commit that is refused by the numbers that are left, and counts them and their replies.
-fn run_lines<B: SessionBase, J: Disk>(
+/// Behind each line it makes a checkpoint if one is due.
+fn run_lines<J: Disk, P: Disk + Drop>(
     alloc: Global,
-    core: &mut Core<StoreOp, B>,
+    core: &mut Core<StoreOp, Base<P>>,
     journal: &mut Journal<J>,
+    checkpoints: &mut Checkpoints<P>,
     script: &mut Script,
     summary: &mut Summary,
-) -> Result<(), Stop>
-    requires takes { TakesNext core.old journal.old }
-    ensures ran { (s : State StoreCall) → Stands store_meaning B.contents core.old s → RanLines B.contents J.is_known s script.old
-        journal.old.history core.new journal.new.history summary.old summary.new result }
-    ensures base { B.stays core.old.base core.new.base }
-    ensures counts { DisksCountedWhere (result ≡ Err Stop.DiskFault) (counts_of B.count core.old journal.old) (counts_of B.count core.new journal.new) }
+) -> Result<(), Status>
+    requires rested { HasRested P.is_known P.history (kept core.old journal.old checkpoints.old) }
+    ensures ran { FromState J.is_known P.is_known P.history (kept core.old journal.old checkpoints.old) (λ s. RanLines P.is_known P.history s script.old
+        (kept core.old journal.old checkpoints.old) (kept core.new journal.new checkpoints.new) summary.old summary.new result) }
+    ensures goes_on { OnOk result (GoesOn P.is_known P.history (kept core.old journal.old checkpoints.old) (kept core.new journal.new checkpoints.new)) }
+    ensures reads { OnOk result (ReadsGroups J.is_known journal.new) }
+    ensures stops { IfErr result (IsStopIf (is_positive checkpoints.old.every && not P.is_known)) }
+    ensures pages { LeftPages P.is_known P.history checkpoints.old.every
+        (file_in P.history (kept core.old journal.old checkpoints.old)) core.new.base checkpoints.new.pages }
+    ensures counts { DisksCountedWhere (result ≡ Err Status.DiskFault)
+        (counts_in P.faults (kept core.old journal.old checkpoints.old)) (counts_in P.faults (kept core.new journal.new checkpoints.new)) }
 {
     let mut replies = Vec::new(alloc);
     while let Some(line) = script.next() {
         run_line(alloc, core, journal, line, summary, &mut replies)?;
+        // It tells that the book is legal.
+        core.is_legal();
+        checkpoints.make_if_due(alloc, core, journal)?;
     }
+    // The journal says how its bytes are read.
+    journal.is_usable();
     Ok(())
 }
 
@@ -238,6 +293,9 @@ fn run_line<B: SessionBase, J: Disk>(
         journal.old.history core.new journal.new.history [] replies.new.items result }
     ensures counted { OnOk result (summary.new ≡ after_line summary.old line.step replies.new.items) }
     ensures takes { OnOk result (TakesNext core.new journal.new) }
+    ensures grown { OnOk result (GrowsByOne core.old core.new) }
+    ensures book { OnOk result ((s : State StoreCall) → Stands store_meaning B.contents core.old s
+        → core.new.book ≡ core.old.book ++ (after_asked s (generated_line line)).book) }
     ensures base { B.stays core.old.base core.new.base }
     ensures counts { DisksCountedWhere (result ≡ Err Stop.DiskFault) (counts_of B.count core.old journal.old) (counts_of B.count core.new journal.new) }
 {
@@ -263,6 +321,9 @@ fn ask_line<B: SessionBase, J: Disk>(
     ensures asked { (s : State StoreCall) → Stands store_meaning B.contents core.old s → AskedLine B.contents J.is_known s (generated_line line)
         journal.old.history core.new journal.new.history replies.new.items result }
     ensures takes { OnOk result (TakesNext core.new journal.new) }
+    ensures grown { OnOk result (GrowsByOne core.old core.new) }
+    ensures book { OnOk result ((s : State StoreCall) → Stands store_meaning B.contents core.old s
+        → core.new.book ≡ core.old.book ++ (after_asked s (generated_line line)).book) }
     ensures base { B.stays core.old.base core.new.base }
     ensures counts { DisksCountedWhere (result ≡ Err Halt.DiskFault) (counts_of B.count core.old journal.old) (counts_of B.count core.new journal.new) }
 {

@@ -5,6 +5,7 @@
 #![tactic(auto)]
 
 mod answers;
+mod checkpoints;
 mod document;
 mod generator;
 mod laws;

@@ -47,7 +47,8 @@ pub fn run_get<K: Sink, J: Disk, P: Disk + Drop>(
     store: OpenStore<J, P>,
 ) -> Finish<J, P>
     requires next { TakesBehind store.journal store.number }
-    ensures { (input : Input) → RunsCommand J.is_known P.is_known (told P.is_known P.history store.base) store.number (get_command name.now) result.status
+    ensures { (input : Input) (every : ℕ)
+        → RunsCommand J.is_known P.is_known (told P.is_known P.history store.base) store.number (get_command name.now) every result.status
         input input
         (record { held = K.held sink.old; faults = K.faults sink.old }) (record { held = K.held sink.new; faults = K.faults sink.new })
         (record {
@@ -77,7 +78,8 @@ pub fn run_query<K: Sink, J: Disk, P: Disk + Drop>(
     store: OpenStore<J, P>,
 ) -> Finish<J, P>
     requires next { TakesBehind store.journal store.number }
-    ensures { (input : Input) → RunsCommand J.is_known P.is_known (told P.is_known P.history store.base) store.number (query_command name.now path.now) result.status
+    ensures { (input : Input) (every : ℕ)
+        → RunsCommand J.is_known P.is_known (told P.is_known P.history store.base) store.number (query_command name.now path.now) every result.status
         input input
         (record { held = K.held sink.old; faults = K.faults sink.old }) (record { held = K.held sink.new; faults = K.faults sink.new })
         (record {

@@ -1,21 +1,31 @@
 // A store's sessions over its two disks, as a machine that does the lines of a script.
-ghost use Rattle.std.specs.Prelude.{◌≡◌, ◌++◌, ◌∷◌, [], Err, OnOk};
+ghost use Rattle.std.specs.Prelude.{◌≡◌, ◌++◌, ◌∷◌, [], Err, IsTrue, OnOk};
 ghost use Rattle.call_contract.specs.States.{State};
 ghost use Rattle.command_lines.specs.Replies.{reply_text};
 ghost use Rattle.command_lines.specs.declared.command.StoreCall.{StoreCall};
 ghost use Rattle.command_lines.specs.declared.line_reply.LineReply.TheVariants as line_reply;
-ghost use Rattle.durable_sessions.specs.Asked.{asked_from, counts_of, LeadsTo, LeavesEither, TakesNext};
+ghost use Rattle.durable_sessions.specs.Asked.{asked_from, counts_of, GrowsByOne, LeadsTo, LeavesEither, TakesNext};
 ghost use Rattle.durable_sessions.specs.Standing.{Stands};
 ghost use Rattle.script_runs.specs.Counts.{DisksCountedWhere};
 ghost use Rattle.store_calls.specs.StoreCalls.{store_meaning};
 ghost use Rattle.xtc.specs.Book.{done_by, replies_text};
 ghost use Rattle.xtc.specs.ReadLines.{line_in};
+ghost use Rattle.node_records.specs.declared.open_error.Place.{Place};
+ghost use Rattle.call_contract.specs.Sessions.{commits_in};
+ghost use Rattle.script_runs.specs.declared.halt.Halt.TheVariants as halt;
+ghost use Rattle.xtc.specs.Checkpoints.{is_positive};
+ghost use Rattle.xtc.specs.StoreMachine as machine;
+ghost use Rattle.xtc.specs.StoreMachine.{HasAnswered, HasPages, HasRested, faults_of, file_in};
+ghost use Rattle.xtc.specs.inside.Renewing.{LeftAsBefore, LeftStanding, StandFor, counts_in, files_of, is_due, kept};
 
+use crate::checkpoints::{Checkpoints, MakesCheckpoints};
 use crate::line::{ReadLine, read_line};
+use checkpoint::Base;
 use command_lines::{LineReply, write_reply};
 use dewey_labels::{List, NoMemory, Text};
 use durable_sessions::{Halt, SessionBase, answer};
 use journal::Journal;
+use node_records::OpenError;
 use outside_traits::Disk;
 use overlays::Stacked;
 use paged_seq::PagedSeq;
@@ -44,50 +54,65 @@ pub fn disk_of<P: Disk + Drop>(base: Stacked<PagedSeq<P>>) -> P
     disk
 }
 
-/// The sessions of a store, and the journal that their commits go to.
+/// The sessions of a store, the journal that their commits go to, and the checkpoints that move these into the pages.
 #[derive(Drop)]
-pub struct Store<J: Disk, P: Disk + Drop> {
-    core: Core<StoreOp, Stacked<PagedSeq<P>>>,
+pub struct Store<J: Disk, P: Disk + Drop, C: MakesCheckpoints> {
+    core: Core<StoreOp, Base<P>>,
     journal: Journal<J>,
+    checkpoints: Checkpoints<P>,
+    makes: C,
     /// The replies to the last line, whose room the next one uses.
     replies: Vec<LineReply>,
 }
 
-impl<J: Disk, P: Disk + Drop> Model for Store<J, P> {
+impl<J: Disk, P: Disk + Drop, C: MakesCheckpoints> Model for Store<J, P, C> {
     ghost use Rattle.std.specs.Coded.{codes};
     ghost use Rattle.path_model.specs.contracts.path.XPath as path;
     ghost use Rattle.tree_model.specs.contracts.fragment.Fragment as fragment;
-    ghost use Rattle.xtc.specs.StoreMachine.{KeptStore};
+    ghost use Rattle.xtc.specs.StoreMachine.{HasPages, KeptStore};
 
     ghost Value = { KeptStore P };
 
     ghost coded = { Prim.hlevel (codes, fragment.the_row.coded, path.the_row.coded) };
 
-    ghost view = { λ s. record { core = s.core; journal = s.journal } };
+    ghost view = { λ s. record { core = s.core; journal = s.journal; checkpoints = s.checkpoints } };
+
+    ghost invariant = { λ s. HasPages s.core.base s.checkpoints.pages };
 }
 
-impl<J: Disk, P: Disk + Drop> Store<J, P> {
+impl<J: Disk, P: Disk + Drop, C: MakesCheckpoints> Store<J, P, C> {
     pub fn new(
         alloc: Global,
-        core: Core<StoreOp, Stacked<PagedSeq<P>>>,
+        core: Core<StoreOp, Base<P>>,
         journal: Journal<J>,
-    ) -> Store<J, P>
-        ensures { result ≡ record { core = core; journal = journal } }
+        checkpoints: Checkpoints<P>,
+        makes: C,
+    ) -> Store<J, P, C>
+        requires pages { HasPages core.base checkpoints.pages }
+        ensures { result ≡ record { core = core; journal = journal; checkpoints = checkpoints } }
     {
         Store {
             core,
             journal,
+            checkpoints,
+            makes,
             replies: Vec::new(alloc),
         }
     }
 
-    /// Hands the journal and the base out.
-    pub fn into_parts(self) -> (Journal<J>, Stacked<PagedSeq<P>>)
+    /// Hands out the journal and the disk of the pages.
+    pub fn into_parts(self) -> (Journal<J>, P)
         ensures journal { result.0 ≡ self.journal }
-        ensures base { result.1 ≡ self.core.base }
+        ensures pages { P.history result.1 ≡ file_in P.history self }
+        ensures faults { P.faults result.1 ≡ faults_of P.faults self.core.base self.checkpoints.pages }
     {
-        let Store { core, journal, .. } = self;
-        (journal, core.into_base())
+        let Store {
+            core,
+            journal,
+            checkpoints,
+            ..
+        } = self;
+        (journal, checkpoints.disk_beside(core.into_base()))
     }
 }
 
@@ -109,6 +134,9 @@ fn do_line<B: SessionBase, J: Disk>(
     ensures takes { OnOk result (TakesNext core.new journal.new) }
     ensures any_moment { (s : State StoreCall) → Stands store_meaning B.contents core.old s
         → LeavesEither J.is_known journal.old.history journal.new.history s (done_by s 0 (line_in line)).state }
+    ensures grown { OnOk result (GrowsByOne core.old core.new) }
+    ensures book { OnOk result ((s : State StoreCall) → Stands store_meaning B.contents core.old s
+        → core.new.book ≡ core.old.book ++ (done_by s 0 (line_in line)).book) }
     ensures base { B.stays core.old.base core.new.base }
     ensures counts { DisksCountedWhere (result ≡ Err Halt.DiskFault) (counts_of B.count core.old journal.old) (counts_of B.count core.new journal.new) }
 {
@@ -139,6 +167,9 @@ fn ask<B: SessionBase, J: Disk>(
     ensures takes { OnOk result (TakesNext core.new journal.new) }
     ensures any_moment { (s : State StoreCall) → Stands store_meaning B.contents core.old s
         → LeavesEither J.is_known journal.old.history journal.new.history s (asked_from store_meaning s session doing).state }
+    ensures grown { OnOk result (GrowsByOne core.old core.new) }
+    ensures book { OnOk result ((s : State StoreCall) → Stands store_meaning B.contents core.old s
+        → core.new.book ≡ core.old.book ++ (asked_from store_meaning s session doing).book) }
     ensures base { B.stays core.old.base core.new.base }
     ensures counts { DisksCountedWhere (result ≡ Err Halt.DiskFault) (counts_of B.count core.old journal.old) (counts_of B.count core.new journal.new) }
 {
@@ -175,10 +206,37 @@ fn write_replies(alloc: Global, replies: &[LineReply], out: &mut Vec<u8>) -> Res
     Ok(())
 }
 
-impl<J: Disk, P: Disk + Drop> LineMachine for Store<J, P> {
+/// Makes a checkpoint if one is due.
+fn rest<J: Disk, P: Disk + Drop>(
+    alloc: Global,
+    checkpoints: &mut Checkpoints<P>,
+    core: &mut Core<StoreOp, Base<P>>,
+    journal: &mut Journal<J>,
+) -> Result<(), script_runs::Halt>
+    requires answered { HasAnswered P.is_known P.history (kept core.old journal.old checkpoints.old) }
+    ensures rested { OnOk result (HasRested P.is_known P.history (kept core.new journal.new checkpoints.new)) }
+    ensures every { checkpoints.new.every ≡ checkpoints.old.every }
+    ensures left { LeftAsBefore (is_due checkpoints.old (commits_in core.old.book))
+        core.old core.new journal.old journal.new checkpoints.old.pages checkpoints.new.pages }
+    ensures damaged { (place : Place) → result ≡ Err (halt.Damaged place) → IsTrue (is_positive checkpoints.old.every) × (IsTrue P.is_known → ⊥) }
+    ensures files { IsTrue J.is_known → IsTrue P.is_known → (s : State StoreCall) → machine.Stands P.is_known P.history core.old s
+        → StandFor s (files_of P.history (kept core.old journal.old checkpoints.old))
+        → LeftStanding s (files_of P.history (kept core.old journal.old checkpoints.old)) (files_of P.history (kept core.new journal.new checkpoints.new)) result }
+    ensures counts { DisksCountedWhere (result ≡ Err halt.DiskFault)
+        (counts_in P.faults (kept core.old journal.old checkpoints.old)) (counts_in P.faults (kept core.new journal.new checkpoints.new)) }
+{
+    match checkpoints.make_if_due(alloc, core, journal) {
+        Ok(()) => Ok(()),
+        Err(OpenError::Damaged(place)) => Err(script_runs::Halt::Damaged(place)),
+        Err(OpenError::DiskFault) => Err(script_runs::Halt::DiskFault),
+        Err(OpenError::NoMemory) => Err(script_runs::Halt::NoMemory),
+    }
+}
+
+impl<J: Disk, P: Disk + Drop, C: MakesCheckpoints> LineMachine for Store<J, P, C> {
     ghost use Rattle.xtc.specs.StoreMachine.{store_machine};
 
-    ghost machine = { store_machine J.is_known P.is_known P.history P.faults };
+    ghost machine = { store_machine J.is_known P.is_known C.makes P.history P.faults };
 
     fn line(
         &mut self,
@@ -199,17 +257,26 @@ impl<J: Disk, P: Disk + Drop> LineMachine for Store<J, P> {
             line,
             out,
         ) {
-            Ok(()) => Ok(()),
+            Ok(()) => {
+                // It tells that the book is legal.
+                self.core.is_legal();
+                Ok(())
+            }
             Err(Halt::DiskFault) => Err(script_runs::Halt::DiskFault),
             Err(Halt::NoMemory) => Err(script_runs::Halt::NoMemory),
         }
     }
 
     fn is_due(&self) -> bool {
-        false
+        self.checkpoints.is_due(&self.core)
     }
 
-    fn rest(&mut self, _alloc: Global) -> Result<(), script_runs::Halt> {
-        Ok(())
+    fn rest(&mut self, alloc: Global) -> Result<(), script_runs::Halt> {
+        rest(
+            alloc,
+            &mut self.checkpoints,
+            &mut self.core,
+            &mut self.journal,
+        )
     }
 }

@@ -3,22 +3,27 @@ ghost use Rattle.std.specs.Prelude.{◌≡◌, ◌⊎◌, ◌+◌, ℕ, List, �
 ghost use Rattle.outside_traits.specs.Bytes.{Gave};
 ghost use Rattle.outside_traits.specs.CrashImages.{IsImage};
 ghost use Rattle.outside_traits.specs.DiskPairs.{pair_of};
+ghost use Rattle.outside_traits.specs.Moments.{IsAllSynced};
 ghost use Rattle.node_records.specs.declared.open_error.Place.{Place};
 ghost use Rattle.recovery.specs.Openings.{TakesBehind};
 ghost use Rattle.paged_recovery.specs.Openings.{RefusesPages};
 ghost use Rattle.script_runs.specs.Counts.{CountedWhere, DisksCountedWhere, ReadCountedWhere};
 ghost use Rattle.outside_kinds.specs.Bounds.{input_limit};
-ghost use Rattle.command_words.specs.Commands.{IsInRange, command_of, meant, run};
+ghost use Rattle.command_words.specs.Commands.{IsInRange, checkpoint_of, command_of, meant, run};
+ghost use Rattle.xtc.specs.Checkpoints.{every_of, is_positive, may_lose};
 ghost use Rattle.xtc.specs.StoreMachine.{pages_of, told};
 ghost use Rattle.xtc.specs.TopCall.{Leaves, IsSilent, TookInput, tx_limit};
-ghost use Rattle.xtc.specs.inside.CommandRuns.{RunsCommand};
+ghost use Rattle.xtc.specs.inside.CommandRuns.{HasTree, RunsCommand};
+ghost use Rattle.xtc.specs.inside.Renewing.{ReadsGroups};
 
+use crate::checkpoints::{Checkpoints, MakesCheckpoints, NoCheckpoints, SomeCheckpoints};
 use crate::document::run_put;
 use crate::generator::run_gen;
 use crate::showing::{run_get, run_query};
 use crate::status::Status;
 use crate::store::{OpenStore, Store, disk_of};
 use crate::workers::run_workers;
+use checkpoint::Base;
 use command_words::{Command, Words, read_words};
 use journal::Journal;
 use outside_traits::{Disk, Gate, Sink, Source};
@@ -74,7 +79,7 @@ pub fn xtc<
 ) -> Finish<J, P>
     // What is read and written, and what a crash leaves now and at any moment before, by the status.
     ensures leaves { (read : List ℕ) × Gave (S.left source.old) (S.left source.new) read × (S.given source.new ≡ S.given source.old + length read)
-        × (IsTrue J.is_known → IsTrue P.is_known → Leaves tx_limit (command_of words.now.items) result.status (record {
+        × (IsTrue J.is_known → IsTrue P.is_known → Leaves tx_limit (command_of words.now.items) (every_of (checkpoint_of words.now.items)) result.status (record {
           read = read;
           asked = S.asked source.new - S.given source.old;
           left = S.left source.new;
@@ -84,9 +89,10 @@ pub fn xtc<
           new = pair_of (J.history result.journal) (P.history result.pages);
         })) }
     // The most that is read of the input, by the status, and when nothing is written.
-    ensures input { TookInput (command_of words.now.items) result.status
+    ensures input { TookInput (command_of words.now.items) (may_lose (command_of words.now.items) (every_of (checkpoint_of words.now.items)) P.is_known) result.status
         (S.left source.old) (S.left source.new) (S.given source.old) (S.given source.new) }
-    ensures silent { IsSilent (command_of words.now.items) result.status (K.held sink.new ≡ K.held sink.old) }
+    ensures silent { IsSilent (command_of words.now.items) (may_lose (command_of words.now.items) (every_of (checkpoint_of words.now.items)) P.is_known)
+        result.status (K.held sink.new ≡ K.held sink.old) }
 
     // Damaged files are synced, and as they were.
     ensures damaged { (place : Place) → result.status ≡ Status.Damaged place → IsTrue J.is_known → IsTrue P.is_known
@@ -102,7 +108,11 @@ pub fn xtc<
         (record { journal = J.faults journal; pages = P.faults pages })
         (record { journal = J.faults result.journal; pages = P.faults result.pages }) }
 {
-    let Words { command, frames } = match read_words(alloc, words) {
+    let Words {
+        command,
+        frames,
+        checkpoint,
+    } = match read_words(alloc, words) {
         Ok(read) => read,
         Err(error) => {
             return Finish {
@@ -127,7 +137,7 @@ pub fn xtc<
                 journal,
                 number,
             };
-            run_command(rt, alloc, command, source, sink, store, gate)
+            run_command(rt, alloc, command, checkpoint, source, sink, store, gate)
         }
         Err(
             StoreFault {
@@ -155,6 +165,7 @@ fn run_command<
     rt: &R,
     alloc: Global,
     command: Command<'_>,
+    every: u32,
     source: &mut S,
     sink: &mut K,
     store: OpenStore<J, P>,
@@ -162,7 +173,9 @@ fn run_command<
 ) -> Finish<J, P>
     requires ranges { IsInRange (meant command) }
     requires next { TakesBehind store.journal store.number }
-    ensures { RunsCommand J.is_known P.is_known (told P.is_known P.history store.base) store.number (meant command.entry) result.status
+    requires synced { IsTrue P.is_known → IsAllSynced (pages_of P.history store.base) }
+    requires tree { IsTrue P.is_known → HasTree (told P.is_known P.history store.base) }
+    ensures { RunsCommand J.is_known P.is_known (told P.is_known P.history store.base) store.number (meant command.entry) every result.status
         (record { left = S.left source.old; given = S.given source.old; asked = S.asked source.old; faults = S.faults source.old })
         (record { left = S.left source.new; given = S.given source.new; asked = S.asked source.new; faults = S.faults source.new })
         (record { held = K.held sink.old; faults = K.faults sink.old }) (record { held = K.held sink.new; faults = K.faults sink.new })
@@ -176,24 +189,59 @@ fn run_command<
         }) }
 {
     match command {
-        Command::Run => run_store(alloc, source, sink, store),
-        Command::Workers => run_workers(rt, alloc, source, sink, store, gate),
+        Command::Run => run_store(alloc, every, source, sink, store),
+        Command::Workers => run_workers(rt, alloc, every, source, sink, store, gate),
         Command::Put(name) => run_put(alloc, name, source, sink, store),
         Command::Get(name) => run_get(alloc, name, sink, store),
         Command::Query(name, path) => run_query(alloc, name, path, sink, store),
-        Command::Gen { seed, count } => run_gen(alloc, seed, count, sink, store),
+        Command::Gen { seed, count } => run_gen(alloc, seed, count, every, sink, store),
     }
 }
 
 /// Runs the script of the source over a store that was opened.
 fn run_store<S: Source, K: Sink, J: Disk, P: Disk + Drop>(
     alloc: Global,
+    every: u32,
     source: &mut S,
     sink: &mut K,
     store: OpenStore<J, P>,
 ) -> Finish<J, P>
     requires next { TakesBehind store.journal store.number }
-    ensures { RunsCommand J.is_known P.is_known (told P.is_known P.history store.base) store.number run result.status
+    requires synced { IsTrue P.is_known → IsAllSynced (pages_of P.history store.base) }
+    requires tree { IsTrue P.is_known → HasTree (told P.is_known P.history store.base) }
+    ensures { RunsCommand J.is_known P.is_known (told P.is_known P.history store.base) store.number run every result.status
+        (record { left = S.left source.old; given = S.given source.old; asked = S.asked source.old; faults = S.faults source.old })
+        (record { left = S.left source.new; given = S.given source.new; asked = S.asked source.new; faults = S.faults source.new })
+        (record { held = K.held sink.old; faults = K.faults sink.old }) (record { held = K.held sink.new; faults = K.faults sink.new })
+        (record {
+          files = pair_of store.journal.history (pages_of P.history store.base);
+          faults = record { journal = store.journal.faults; pages = P.faults store.base.base.disk };
+        })
+        (record {
+          files = pair_of (J.history result.journal) (P.history result.pages);
+          faults = record { journal = J.faults result.journal; pages = P.faults result.pages };
+        }) }
+{
+    if every == 0 {
+        return run_lines(alloc, every, NoCheckpoints, source, sink, store);
+    }
+    run_lines(alloc, every, SomeCheckpoints, source, sink, store)
+}
+
+/// Does the lines of the script, with checkpoints behind each so many commits, or none.
+fn run_lines<S: Source, K: Sink, J: Disk, P: Disk + Drop, C: MakesCheckpoints>(
+    alloc: Global,
+    every: u32,
+    makes: C,
+    source: &mut S,
+    sink: &mut K,
+    store: OpenStore<J, P>,
+) -> Finish<J, P>
+    requires makes { is_positive every ≡ C.makes }
+    requires next { TakesBehind store.journal store.number }
+    requires synced { IsTrue P.is_known → IsAllSynced (pages_of P.history store.base) }
+    requires tree { IsTrue P.is_known → HasTree (told P.is_known P.history store.base) }
+    ensures { RunsCommand J.is_known P.is_known (told P.is_known P.history store.base) store.number run every result.status
         (record { left = S.left source.old; given = S.given source.old; asked = S.asked source.old; faults = S.faults source.old })
         (record { left = S.left source.new; given = S.given source.new; asked = S.asked source.new; faults = S.faults source.new })
         (record { held = K.held sink.old; faults = K.faults sink.old }) (record { held = K.held sink.new; faults = K.faults sink.new })
@@ -211,17 +259,47 @@ fn run_store<S: Source, K: Sink, J: Disk, P: Disk + Drop>(
         journal,
         number,
     } = store;
-    match Core::new(alloc, base, number, TX_LIMIT) {
+    match Core::new(alloc, Base::Paged(base), number, TX_LIMIT) {
         Ok(core) => {
-            let run = script_runs::run(alloc, Store::new(alloc, core, journal), source, sink);
-            let (journal, base) = run.machine.into_parts();
-            with_disks(Status::from(run.end), journal, base)
+            let checkpoints = Checkpoints::new(every, number);
+            let store = Store::new(alloc, core, journal, checkpoints, makes);
+            let run = script_runs::run(alloc, store, source, sink);
+            let (journal, pages) = run.machine.into_parts();
+            with_files(Status::from(run.end), journal, pages)
         }
-        Err(NoCore { base }) => with_disks(Status::NoMemory, journal, base),
+        Err(NoCore { base }) => {
+            let pages = Checkpoints::new(every, number).disk_beside(base);
+            with_files(Status::NoMemory, journal, pages)
+        }
     }
 }
 
 /// The end of a run with the disks of its store, of each of which what a read gives is among what a crash may leave.
+pub fn with_files<J: Disk, P: Disk + Drop>(
+    status: Status,
+    journal: Journal<J>,
+    pages: P,
+) -> Finish<J, P>
+    ensures status { result.status ≡ status }
+    ensures journal { (J.history result.journal ≡ journal.history) × (J.faults result.journal ≡ journal.faults) }
+    ensures pages { result.pages ≡ pages }
+    ensures images { (IsTrue J.is_known → IsImage (J.history result.journal).now (J.history result.journal).now.reads)
+        × (IsTrue P.is_known → IsImage (P.history result.pages).now (P.history result.pages).now.reads) }
+    ensures groups { ReadsGroups J.is_known journal }
+{
+    // The journal says how its bytes are read.
+    journal.is_usable();
+    let journal = journal.into_disk();
+    // Each disk says that what a read gives is among what a crash may leave.
+    let _faults = (journal.faults(), pages.faults());
+    Finish {
+        status,
+        journal,
+        pages,
+    }
+}
+
+/// The same with the disk of a base.
 pub fn with_disks<J: Disk, P: Disk + Drop>(
     status: Status,
     journal: Journal<J>,
@@ -233,13 +311,5 @@ pub fn with_disks<J: Disk, P: Disk + Drop>(
     ensures images { (IsTrue J.is_known → IsImage (J.history result.journal).now (J.history result.journal).now.reads)
         × (IsTrue P.is_known → IsImage (P.history result.pages).now (P.history result.pages).now.reads) }
 {
-    let journal = journal.into_disk();
-    let pages = disk_of(base);
-    // Each disk says that what a read gives is among what a crash may leave.
-    let _faults = (journal.faults(), pages.faults());
-    Finish {
-        status,
-        journal,
-        pages,
-    }
+    with_files(status, journal, disk_of(base))
 }

@@ -84,7 +84,7 @@ of_first name input asked (Err why) is first = inl first
 
 -- ---- a document that is put into two empty files
 
-module _ (empty : StandFor [] [] empty_tree 0) (name : Name) (o : Outcome) (input text : List ℕ) (left_before : Option (List ℕ)) (input_is : left_before ≡ Some input) (gave_so : Gave left_before o.left o.read)
+module _ (empty : StandFor [] [] empty_tree 0) (name : Name) (every : ℕ) (o : Outcome) (input text : List ℕ) (left_before : Option (List ℕ)) (input_is : left_before ≡ Some input) (gave_so : Gave left_before o.left o.read)
     (before : o.before ≡ Some []) (now : o.now ≡ Some text) (old_journal : o.old.journal.now ≡ all_synced []) (old_pages : o.old.pages.now ≡ all_synced []) where
   gave : Gave (Some input) o.left o.read
   gave = subst (λ (l : Option (List ℕ)). Gave l o.left o.read) input_is gave_so
@@ -98,16 +98,16 @@ module _ (empty : StandFor [] [] empty_tree 0) (name : Name) (o : Outcome) (inpu
   read_some (Some rest) so = let parts : input ≡ o.read ++ rest = same_Some _ _ so in omega (arith, ap length parts, length-append o.read rest)
 
   -- it ran over the empty tree
-  ran_new : (status : Status) (leaves : OpenedStoreLeaves tx_limit (Some (put name)) status o) → DocumentRan empty_tree 0 tx_limit (put name) status leaves.opening o
+  ran_new : (status : Status) (leaves : OpenedStoreLeaves tx_limit (Some (put name)) every status o) → DocumentRan empty_tree 0 tx_limit (put name) status leaves.opening o
   ran_new status leaves =
       let stood : StandFor [] [] leaves.tree leaves.number
       = subst (λ (x : DiskState × DiskState). StandFor x.0.reads x.1.reads leaves.tree leaves.number) (λ i. (old_journal i, old_pages i)) leaves.stood in
       let is = alone empty leaves.tree leaves.number stood in
       subst (λ (x : Tree × ℕ). DocumentRan x.0 x.1 tx_limit (put name) status leaves.opening o) (λ i. (is.0 i, is.1 i)) leaves.ran
 
-  pub put_not_json : (command : Option Command) (status : Status) (why : FragmentError) → command ≡ Some (put name) → status ≡ NotJsonMl why → Leaves tx_limit command status o → element_in input ≡ Err why
+  pub put_not_json : (command : Option Command) (status : Status) (why : FragmentError) → command ≡ Some (put name) → status ≡ NotJsonMl why → Leaves tx_limit command every status o → element_in input ≡ Err why
   put_not_json command status why named is leaves_so =
-      let leaves : OpenedStoreLeaves tx_limit (Some (put name)) (NotJsonMl why) o = subst (λ (x : Option Command × Status). Leaves tx_limit x.0 x.1 o) (λ i. (named i, is i)) leaves_so in
+      let leaves : OpenedStoreLeaves tx_limit (Some (put name)) every (NotJsonMl why) o = subst (λ (x : Option Command × Status). Leaves tx_limit x.0 every x.1 o) (λ i. (named i, is i)) leaves_so in
       let ran = ran_new (NotJsonMl why) leaves in
       ap element_in (sym (read_all (ran.whole refl))) ∙ no_element_asked name (element_in o.read) why ran.end
 
@@ -119,7 +119,7 @@ module _ (empty : StandFor [] [] empty_tree 0) (name : Name) (o : Outcome) (inpu
     not_asked : (asked : List (Asked StoreCall)) → IsWhole o.left o.read → asks_of (put name) new_store o.read ≡ Ok asked → ⊥
     not_asked asked whole is = let no : no_asks why ≡ Ok asked = sym (asks_none whole) ∙ is in cc
 
-    judged : (status : Status) → OpenedStoreLeaves tx_limit (Some (put name)) status o → UnlessFailed status (status ≡ NotJsonMl why)
+    judged : (status : Status) → OpenedStoreLeaves tx_limit (Some (put name)) every status o → UnlessFailed status (status ≡ NotJsonMl why)
     judged ReadFault leaves = tt
     judged DiskFault leaves = tt
     judged NoMemory leaves = tt
@@ -135,7 +135,7 @@ module _ (empty : StandFor [] [] empty_tree 0) (name : Name) (o : Outcome) (inpu
     judged Usage leaves = absurd (ran_new Usage leaves).end
     judged (Damaged place) leaves = absurd (ran_new (Damaged place) leaves).end
 
-    by_status : (status : Status) → (status ≡ Usage → ⊥) → ((place : Place) → status ≡ Damaged place → ⊥) → Leaves tx_limit (Some (put name)) status o → UnlessFailed status (status ≡ NotJsonMl why)
+    by_status : (status : Status) → (status ≡ Usage → ⊥) → ((place : Place) → status ≡ Damaged place → ⊥) → Leaves tx_limit (Some (put name)) every status o → UnlessFailed status (status ≡ NotJsonMl why)
     by_status ReadFault not_usage not_place leaves = tt
     by_status DiskFault not_usage not_place leaves = tt
     by_status NoMemory not_usage not_place leaves = tt
@@ -147,9 +147,9 @@ module _ (empty : StandFor [] [] empty_tree 0) (name : Name) (o : Outcome) (inpu
     by_status (NotJsonMl other) not_usage not_place leaves = judged (NotJsonMl other) leaves
     by_status (DocumentRefused reason) not_usage not_place leaves = judged (DocumentRefused reason) leaves
 
-    pub put_no_element : (command : Option Command) (status : Status) → command ≡ Some (put name) → (status ≡ Usage → ⊥) → ((place : Place) → status ≡ Damaged place → ⊥) → Leaves tx_limit command status o
+    pub put_no_element : (command : Option Command) (status : Status) → command ≡ Some (put name) → (status ≡ Usage → ⊥) → ((place : Place) → status ≡ Damaged place → ⊥) → Leaves tx_limit command every status o
         → UnlessFailed status (status ≡ NotJsonMl why)
-    put_no_element command status named not_usage not_place leaves = by_status status not_usage not_place (subst (λ (c : Option Command). Leaves tx_limit c status o) named leaves)
+    put_no_element command status named not_usage not_place leaves = by_status status not_usage not_place (subst (λ (c : Option Command). Leaves tx_limit c every status o) named leaves)
 
   -- ---- at Done
 
@@ -179,10 +179,10 @@ module _ (empty : StandFor [] [] empty_tree 0) (name : Name) (o : Outcome) (inpu
       durable = λ journal pages of_journal of_pages. all_stand journal pages (ran.left journal pages of_journal of_pages);
     }
 
-  pub put_done : ((element : Fragment) → PutOnTree empty_tree 0 tx_limit name element (put_new name element)) → (command : Option Command) (status : Status) → command ≡ Some (put name) → status ≡ Done → Leaves tx_limit command status o
+  pub put_done : ((element : Fragment) → PutOnTree empty_tree 0 tx_limit name element (put_new name element)) → (command : Option Command) (status : Status) → command ≡ Some (put name) → status ≡ Done → Leaves tx_limit command every status o
       → PutDone name input text o.new.journal o.new.pages
   put_done law command status named is leaves_so =
-      let leaves : OpenedStoreLeaves tx_limit (Some (put name)) Done o = subst (λ (x : Option Command × Status). Leaves tx_limit x.0 x.1 o) (λ i. (named i, is i)) leaves_so in
+      let leaves : OpenedStoreLeaves tx_limit (Some (put name)) every Done o = subst (λ (x : Option Command × Status). Leaves tx_limit x.0 every x.1 o) (λ i. (named i, is i)) leaves_so in
       let ran = ran_new Done leaves in
       let found = element_asked name (element_in o.read) ran.asked ran.end.0 in
       document_put leaves.opening ran found.element found.asks (law found.element) (ap element_in (sym (read_all (ran.whole refl))) ∙ found.is)
@@ -190,7 +190,7 @@ module _ (empty : StandFor [] [] empty_tree 0) (name : Name) (o : Outcome) (inpu
   -- ---- where there was no memory
 
   module _ (of_journal : IsImage o.new.journal.now o.new.journal.now.reads) (of_pages : IsImage o.new.pages.now o.new.pages.now.reads) where
-    either_begun : UnopenedStoreLeaves o ⊎ OpenedStoreLeaves tx_limit (Some (put name)) NoMemory o → PutBegun name input o.new.journal.now.reads o.new.pages.now.reads
+    either_begun : UnopenedStoreLeaves o ⊎ OpenedStoreLeaves tx_limit (Some (put name)) every NoMemory o → PutBegun name input o.new.journal.now.reads o.new.pages.now.reads
     either_begun (inl leaves) = record {
       asked = [];
       of_input = inl refl;
@@ -210,8 +210,8 @@ module _ (empty : StandFor [] [] empty_tree 0) (name : Name) (o : Outcome) (inpu
           stored = record { count = ran.reads.count; enough = omega arith; within = ran.reads.within; opens = ran.reads.opens };
         }
 
-    pub put_begun : (command : Option Command) (status : Status) → command ≡ Some (put name) → status ≡ NoMemory → Leaves tx_limit command status o → PutBegun name input o.new.journal.now.reads o.new.pages.now.reads
-    put_begun command status named is leaves = either_begun (subst (λ (x : Option Command × Status). Leaves tx_limit x.0 x.1 o) (λ i. (named i, is i)) leaves)
+    pub put_begun : (command : Option Command) (status : Status) → command ≡ Some (put name) → status ≡ NoMemory → Leaves tx_limit command every status o → PutBegun name input o.new.journal.now.reads o.new.pages.now.reads
+    put_begun command status named is leaves = either_begun (subst (λ (x : Option Command × Status). Leaves tx_limit x.0 every x.1 o) (λ i. (named i, is i)) leaves)
 
 -- ---- and then got
 
@@ -226,12 +226,12 @@ put_of name element input text journal pages is done =
     (ok_of (sym done.of_input ∙ is)) (done.stored, done.tree)
 
 pub got_document : ((t : Tree) (n limit : ℕ) (name : Name) → GetOnTree t n limit name (after_asked (start t n limit) (get_asks (start t n limit) name)))
-    → (name : Name) (element : Fragment) (at : Label) (document : Option Fragment) (command : Option Command) (status : Status) (o : Outcome) (text : List ℕ)
+    → (name : Name) (element : Fragment) (at : Label) (document : Option Fragment) (command : Option Command) (status : Status) (every : ℕ) (o : Outcome) (text : List ℕ)
     → StandForCommits (put_new name element).book o.old.journal.now.reads o.old.pages.now.reads → (serial store_meaning (commits (put_new name element).book) empty_tree).tree ≡ tree_of_document name element
-    → command ≡ Some (get name) → status ≡ Done → Leaves tx_limit command status o → o.before ≡ Some [] → o.now ≡ Some text
+    → command ≡ Some (get name) → status ≡ Done → Leaves tx_limit command every status o → o.before ≡ Some [] → o.now ≡ Some text
     → (dom (Doc name) (tree_of_document name element)).0 ≡ reply.Place (Some at) → (dom (Dump at) (tree_of_document name element)).0 ≡ reply.Tree document → text ≡ tree_line document
-got_document law name element at document command status o text stands tree_is named is leaves_so before now doc dump =
-    let leaves : OpenedStoreLeaves tx_limit (Some (get name)) Done o = subst (λ (x : Option Command × Status). Leaves tx_limit x.0 x.1 o) (λ i. (named i, is i)) leaves_so in
+got_document law name element at document command status every o text stands tree_is named is leaves_so before now doc dump =
+    let leaves : OpenedStoreLeaves tx_limit (Some (get name)) every Done o = subst (λ (x : Option Command × Status). Leaves tx_limit x.0 every x.1 o) (λ i. (named i, is i)) leaves_so in
     let t : Tree = leaves.tree in
     let here : t ≡ tree_of_document name element = one_tree _ _ t _ leaves.number _ leaves.stood stands ∙ tree_is in
     let st : State StoreCall = start t leaves.number tx_limit in

@@ -1,5 +1,5 @@
 -- What the clauses of `xtc` say of a whole script over two empty files.
-use Rattle.std.proofs.Common.{◌≡◌, ◌⊎◌, true≢false, inl, inr, ℕ, ◌+◌, ◌≤◌, List, [], ◌++◌, length, take, drop, Option, Some, None, Result, Ok, Err, refl, sym, ap, subst, ◌∙◌, arith}
+use Rattle.std.proofs.Common.{◌≡◌, ◌⊎◌, Bool, true≢false, inl, inr, ℕ, ◌+◌, ◌≤◌, List, [], ◌++◌, length, take, drop, Option, Some, None, Result, Ok, Err, refl, sym, ap, subst, ◌∙◌, arith}
 use Rattle.std.specs.Prelude.{IfSome, is_some, true}
 use Rattle.std.specs.Option.{option_map}
 use Rattle.std.proofs.lemmas.List.{append-nil, append_assoc, take_all, take-take, take-append-drop, length-take}
@@ -92,12 +92,12 @@ done_from_empty o opening script text read before now ran =
     }
 
 -- over two empty files
-pub script_done : StandFor [] [] empty_tree 0 → (o : Outcome) (command : Option Command) (status : Status) (script text : List ℕ) (left_before : Option (List ℕ))
-    → command ≡ Some run → status ≡ Done → Leaves tx_limit command status o → left_before ≡ Some script → Gave left_before o.left o.read → IfSome o.left (λ rest. rest ≡ [])
+pub script_done : StandFor [] [] empty_tree 0 → (o : Outcome) (command : Option Command) (status : Status) (every : ℕ) (script text : List ℕ) (left_before : Option (List ℕ))
+    → command ≡ Some run → status ≡ Done → Leaves tx_limit command every status o → left_before ≡ Some script → Gave left_before o.left o.read → IfSome o.left (λ rest. rest ≡ [])
     → o.before ≡ Some [] → o.now ≡ Some text → o.old.journal.now.reads ≡ [] → o.old.pages.now.reads ≡ []
     → ScriptDone script text o.new.journal o.new.pages
-script_done empty o command status script text left_before named done leaves_so script_is gave_so whole before now journal pages =
-    let leaves : OpenedStoreLeaves tx_limit (Some run) Done o = subst (λ (x : Option Command × Status). Leaves tx_limit x.0 x.1 o) (λ i. (named i, done i)) leaves_so in
+script_done empty o command status every script text left_before named done leaves_so script_is gave_so whole before now journal pages =
+    let leaves : OpenedStoreLeaves tx_limit (Some run) every Done o = subst (λ (x : Option Command × Status). Leaves tx_limit x.0 every x.1 o) (λ i. (named i, done i)) leaves_so in
     let gave : Gave (Some script) o.left o.read = subst (λ (l : Option (List ℕ)). Gave l o.left o.read) script_is gave_so in
     let stood : StandFor [] [] leaves.tree leaves.number =
     subst (λ (x : List ℕ × List ℕ). StandFor x.0 x.1 leaves.tree leaves.number) (λ i. (journal i, pages i)) leaves.stood in
@@ -118,8 +118,8 @@ not_damaged empty old new place journal pages found =
     cc
 
 -- at Usage what holds of a silent run holds
-pub silent_at_usage : (command : Option Command) (status : Status) (P : Type 0) → status ≡ Usage → IsSilent command status P → P
-silent_at_usage command status P is silent = subst (λ (s : Status). IsSilent command s P) is silent
+pub silent_at_usage : (command : Option Command) (lost : Bool) (status : Status) (P : Type 0) → status ≡ Usage → IsSilent command lost status P → P
+silent_at_usage command lost status P is silent = subst (λ (s : Status). IsSilent command lost s P) is silent
 
 -- the lines that ended in what was read are the first ones
 ended_first : (script read : List ℕ) (left : Option (List ℕ)) (lines : List (List ℕ)) → Gave (Some script) left read → lines ≡ ended [] read
@@ -223,9 +223,9 @@ module _ (o : Outcome) (text : List ℕ) (before : o.before ≡ Some []) (now : 
       }
 
 -- over two empty files, whatever the end
-module _ (empty : StandFor [] [] empty_tree 0) (o : Outcome) (script text : List ℕ) (left_before : Option (List ℕ)) (script_is : left_before ≡ Some script) (gave : Gave left_before o.left o.read)
+module _ (empty : StandFor [] [] empty_tree 0) (every : ℕ) (o : Outcome) (script text : List ℕ) (left_before : Option (List ℕ)) (script_is : left_before ≡ Some script) (gave : Gave left_before o.left o.read)
     (before : o.before ≡ Some []) (now : o.now ≡ Some text) (old_journal : o.old.journal.now ≡ all_synced []) (old_pages : o.old.pages.now ≡ all_synced []) where
-  opened_begun : (status : Status) → OpenedStoreLeaves tx_limit (Some run) status o → ScriptBegun status script text o.new.journal o.new.pages
+  opened_begun : (status : Status) → OpenedStoreLeaves tx_limit (Some run) every status o → ScriptBegun status script text o.new.journal o.new.pages
   opened_begun status leaves =
       let stood : StandFor [] [] leaves.tree leaves.number
       = subst (λ (x : DiskState × DiskState). StandFor x.0.reads x.1.reads leaves.tree leaves.number) (λ i. (old_journal i, old_pages i)) leaves.stood in
@@ -234,11 +234,11 @@ module _ (empty : StandFor [] [] empty_tree 0) (o : Outcome) (script text : List
       (subst (λ (x : Tree × ℕ). ScriptRan x.0 x.1 tx_limit status leaves.opening o) (λ i. (is.0 i, is.1 i)) leaves.ran)
 
   module _ (of_journal : IsImage o.new.journal.now o.new.journal.now.reads) (of_pages : IsImage o.new.pages.now o.new.pages.now.reads) where
-    either_begun : (status : Status) → IfAnswered status (nothing ≡ []) → UnopenedStoreLeaves o ⊎ OpenedStoreLeaves tx_limit (Some run) status o → ScriptBegun status script text o.new.journal o.new.pages
+    either_begun : (status : Status) → IfAnswered status (nothing ≡ []) → UnopenedStoreLeaves o ⊎ OpenedStoreLeaves tx_limit (Some run) every status o → ScriptBegun status script text o.new.journal o.new.pages
     either_begun status none (inl leaves) = unopened_begun o text before now empty status script none old_journal old_pages of_journal of_pages leaves
     either_begun status none (inr leaves) = opened_begun status leaves
 
-    run_begun : (status : Status) → (status ≡ Usage → ⊥) → ((place : Place) → status ≡ Damaged place → ⊥) → Leaves tx_limit (Some run) status o
+    run_begun : (status : Status) → (status ≡ Usage → ⊥) → ((place : Place) → status ≡ Damaged place → ⊥) → Leaves tx_limit (Some run) every status o
         → ScriptBegun status script text o.new.journal o.new.pages
     run_begun Usage not_usage not_place leaves = absurd (not_usage refl)
     run_begun (Damaged place) not_usage not_place leaves = absurd (not_place place refl)
@@ -252,6 +252,6 @@ module _ (empty : StandFor [] [] empty_tree 0) (o : Outcome) (script text : List
     run_begun NoMemory not_usage not_place leaves = either_begun NoMemory tt leaves
 
     -- so it is where the words ask for a script
-    pub script_begun : (command : Option Command) (status : Status) → command ≡ Some run → (status ≡ Usage → ⊥) → ((place : Place) → status ≡ Damaged place → ⊥) → Leaves tx_limit command status o
+    pub script_begun : (command : Option Command) (status : Status) → command ≡ Some run → (status ≡ Usage → ⊥) → ((place : Place) → status ≡ Damaged place → ⊥) → Leaves tx_limit command every status o
         → ScriptBegun status script text o.new.journal o.new.pages
-    script_begun command status named not_usage not_place leaves = run_begun status not_usage not_place (subst (λ (c : Option Command). Leaves tx_limit c status o) named leaves)
+    script_begun command status named not_usage not_place leaves = run_begun status not_usage not_place (subst (λ (c : Option Command). Leaves tx_limit c every status o) named leaves)

@@ -67,6 +67,13 @@ IsUnwritten Usage = ⊥
 IsUnwritten (Damaged place) = ⊥
 IsUnwritten status = Unit {0}
 
+-- a status without a text, of a store that was opened; damage among them, as a checkpoint may find it
+abbrev pub IsQuiet : Status → Type 0
+IsQuiet Done = ⊥
+IsQuiet WriteFault = ⊥
+IsQuiet Usage = ⊥
+IsQuiet status = Unit {0}
+
 -- a status with which writing ends
 abbrev pub IsWriteEnd : Status → Type 0
 IsWriteEnd Done = Unit {0}

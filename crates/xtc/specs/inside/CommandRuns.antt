@@ -1,5 +1,5 @@
 -- What running a command over a store that was opened leaves.
-use Rattle.std.specs.Prelude.{◌≡◌, ◌≤◌, ℕ, ◌+◌, ◌-◌, Bool, IsTrue, List, [], length, Option, Some, IfSome}
+use Rattle.std.specs.Prelude.{◌≡◌, ◌≤◌, ℕ, ◌+◌, ◌-◌, Bool, false, IsTrue, List, [], length, Option, Some, IfSome}
 use Rattle.outside_kinds.specs.Bounds.{input_limit}
 use Rattle.outside_traits.specs.Bytes.{Gave}
 use Rattle.outside_traits.specs.DiskPairs.{Pair}
@@ -10,8 +10,9 @@ use Rattle.node_seq.specs.Trees.{StandsFor}
 use Rattle.store_contents.specs.StoredTrees.{StandFor}
 use Rattle.script_runs.specs.Counts.{Counts, CountedWhere, DisksCountedWhere, ReadCountedWhere}
 use Rattle.command_words.specs.Commands.{Command}
+use Rattle.xtc.specs.Checkpoints.{AreMade, may_lose, tries}
 use Rattle.xtc.specs.Commands.{reads_input}
-use Rattle.xtc.specs.TopCall.{CommandRan, IsOfOpened, IsSilent, tx_limit}
+use Rattle.xtc.specs.TopCall.{CommandRan, IsOfOpened, IsSilent, Outcome, book_of, tx_limit}
 use Rattle.xtc.specs.declared.status.Status.{Status}
 use Rattle.xtc.specs.declared.status.Status.TheVariants.{Done, ReadFault, WriteFault, DiskFault}
 
@@ -38,12 +39,24 @@ pub record StandSettled (files : Pair) (t : Tree) (number : ℕ) : Type 0 where
   pub pages : IsAllSynced files.pages
   pub stand : StandFor files.journal.now.reads files.pages.now.reads t number
 
+-- a map is that of a tree
+pub record HasTree (map : Option Entries) : Type 0 where
+  pub tree : Tree
+  pub stands : StandsFor map tree
+
+-- a command that ran, with checkpoints behind each so many commits, over files that were opened: it doesn't end as damage, and of the pages is left what the checkpoints make of them
+pub record RanWith (t : Tree) (n limit : ℕ) (c : Command) (every : ℕ) (status : Status) (opening : Pair) (o : Outcome) : Type 0 where
+  pub ran : CommandRan t n limit (Some c) status opening o
+  pub undamaged : IsOfOpened false status
+  pub pages : tries (Some c) every ≡ false → o.new.pages ≡ opening.pages
+  pub made : status ≡ Done → IsTrue (tries (Some c) every) → AreMade (Some c) every t n (book_of t n limit (Some c) status opening o ran) o.new.journal.now.reads o.new.pages.now.reads
+
 -- the command ran, where both disks are known, and the files stand for the tree of the map that was told, and the number
-abbrev pub RanOver : Bool → Bool → Option Entries → ℕ → Command → Status → Input → Input → Output → Output → Pair → Pair → Type 0
-RanOver journal_known pages_known map number c status input input_now output output_now files files_now =
+abbrev pub RanOver : Bool → Bool → Option Entries → ℕ → Command → ℕ → Status → Input → Input → Output → Output → Pair → Pair → Type 0
+RanOver journal_known pages_known map number c every status input input_now output output_now files files_now =
     (read : List ℕ) × Gave input.left input_now.left read × (input_now.given ≡ input.given + length read)
     × (IsTrue journal_known → IsTrue pages_known → (t : Tree) → StandsFor map t → StandSettled files t number → (old : Pair)
-    → CommandRan t number tx_limit (Some c) status files (record {
+    → RanWith t number tx_limit c every status files (record {
       read = read;
       asked = input_now.asked - input.given;
       left = input_now.left;
@@ -54,13 +67,13 @@ RanOver journal_known pages_known map number c status input input_now output out
     }))
 
 -- what it leaves, by its status
-pub record RunsCommand (journal_known pages_known : Bool) (map : Option Entries) (number : ℕ) (c : Command) (status : Status)
+pub record RunsCommand (journal_known pages_known : Bool) (map : Option Entries) (number : ℕ) (c : Command) (every : ℕ) (status : Status)
     (input input_now : Input) (output output_now : Output) (disks disks_now : Disks) : Type 0 where
-  pub ran : RanOver journal_known pages_known map number c status input input_now output output_now disks.files disks_now.files
+  pub ran : RanOver journal_known pages_known map number c every status input input_now output output_now disks.files disks_now.files
   pub whole : IsTrue (reads_input (Some c)) → status ≡ Done → IfSome input_now.left (λ rest. rest ≡ [])
   pub bound : input_now.given ≤ input.given + input_limit
-  pub silent : IsSilent (Some c) status (output_now.held ≡ output.held)
-  pub opened : IsOfOpened status
+  pub silent : IsSilent (Some c) (may_lose (Some c) every pages_known) status (output_now.held ≡ output.held)
+  pub opened : IsOfOpened (may_lose (Some c) every pages_known) status
   pub read : ReadCountedWhere (status ≡ ReadFault) input_limit input.faults input_now.faults input.given input_now.given
   pub write : CountedWhere (status ≡ WriteFault) output.faults output_now.faults
   pub disk : DisksCountedWhere (status ≡ DiskFault) disks.faults disks_now.faults

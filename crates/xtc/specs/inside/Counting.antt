@@ -1,5 +1,6 @@
--- What running lines of the generator's script leaves of the core, the journal and the summary of a store.
-use Rattle.std.specs.Prelude.{◌≡◌, ◌≤◌, Bool, List, [], ◌++◌, length, Option, Result, Ok, Err}
+-- What running lines of the generator's script leaves of the core, the files and the summary of a store.
+use Rattle.std.specs.Prelude.{◌≡◌, ◌≤◌, ℕ, Bool, false, IsTrue, List, ◌++◌, length, Option, None, Result, Ok, Err}
+use Rattle.outside_traits.specs.DiskPairs.{Pair, PairsHave, PairsLeave}
 use Rattle.outside_traits.specs.Moments.{History}
 use Rattle.tree_model.specs.Entries.{Entries}
 use Rattle.call_contract.specs.States.{State}
@@ -7,16 +8,26 @@ use Rattle.command_lines.specs.declared.command.StoreCall.{StoreCall}
 use Rattle.command_lines.specs.declared.line_reply.LineReply.{LineReply}
 use Rattle.session_driver.specs.Lines.{Asked}
 use Rattle.tx_core.specs.Cores.{CoreView}
-use Rattle.store_calls.specs.StoreCalls.{IsValidStoreCall, store_meaning}
+use Rattle.checkpoint.specs.declared.base.Base.{Base}
+use Rattle.store_calls.specs.StoreCalls.{store_meaning}
 use Rattle.workload_gen.specs.declared.line.Line.{Line}
 use Rattle.workload_gen.specs.declared.summary.Summary.{Summary}
 use Rattle.durable_sessions.specs.Asked.{LeadsTo}
-use Rattle.durable_sessions.specs.InTurn.{AllAnswered, AskNoCommit, stop_of}
-use Rattle.durable_sessions.specs.Reasons.{limit_of}
+use Rattle.durable_sessions.specs.Durable.{HoldsEither}
+use Rattle.durable_sessions.specs.InTurn.{AskNoCommit, StopsBy, stop_of}
+use Rattle.durable_sessions.specs.Reasons.{first_reason, limit_of}
 use Rattle.durable_sessions.specs.declared.halt.Halt.{Halt}
 use Rattle.durable_sessions.specs.declared.in_turn.Stop.{Stop}
+use Rattle.xtc.specs.Book.{after_asked}
+use Rattle.xtc.specs.Checkpoints.{is_positive}
 use Rattle.xtc.specs.Generated.{counted, generated}
-use Rattle.xtc.specs.inside.Asking.{AreValidAsks, LeavesFirst, Stopped, after, said}
+use Rattle.xtc.specs.Statuses.{status_of_stop}
+use Rattle.xtc.specs.StoreMachine.{HasPages, HasRested, KeptStore, Stands, file_of}
+use Rattle.xtc.specs.TopCall.{StopsAtRefusal}
+use Rattle.xtc.specs.declared.status.Status.{Status}
+use Rattle.xtc.specs.declared.status.Status.TheVariants.{DocumentRefused, DiskFault, NoMemory, Damaged}
+use Rattle.xtc.specs.inside.Asking.{AreValidAsks, HoldsFirst, LeavesFirst, Stopped, after, said}
+use Rattle.xtc.specs.inside.Renewing.{StandFor, files_of}
 
 -- ---- one line
 
@@ -34,20 +45,78 @@ abbrev pub AskedLine : {B T : Type 0} → (B → Option Entries) → Bool → St
 AskedLine contents is_known s asked old core new said_now (Ok done) = Made contents is_known s asked old core new said_now
 AskedLine contents is_known s asked old core new said_now (Err halt) = Stopped limit_of is_known s asked old new (stop_of halt)
 
--- ---- lines
+-- ---- lines, over both files
+
+-- two files stand for what is committed after the first of these
+abbrev pub HoldFirstAsked : State StoreCall → List (Asked StoreCall) → List ℕ → List ℕ → Type 0
+HoldFirstAsked s asked journal pages = HoldsFirst s asked pages journal
+
+-- or for what is committed in the one state or in the other
+abbrev pub HoldOneOf : State StoreCall → State StoreCall → List ℕ → List ℕ → Type 0
+HoldOneOf s t journal pages = HoldsEither s t pages journal
+
+-- these were asked and answered: the core stands behind them, with their entries in its book, and so do the files; on the way a crash leaves what the first of them have committed
+pub record AnsweredOver {P : Type 0} (is_known : Bool) (history : P → History) (s : State StoreCall) (asked : List (Asked StoreCall)) (old new : KeptStore P) : Type 0 where
+  pub valid : AreValidAsks asked
+  pub unrefused : first_reason limit_of (said s asked) ≡ None
+  pub stands : Stands is_known history new.core (after s asked)
+  pub book : new.core.book ≡ old.core.book ++ (after_asked s asked).book
+  pub moments : PairsLeave (HoldFirstAsked s asked) (files_of history old) (files_of history new)
+  pub files : StandFor (after s asked) (files_of history new)
 
 -- these lines were done to their end, and what they were answered is counted
-pub record AllCounted {B : Type 0} (contents : B → Option Entries) (is_known : Bool) (s : State StoreCall) (lines : List Line) (old : History) (core : CoreView StoreCall B) (new : History) (before now : Summary) : Type 0 where
-  pub answered : AllAnswered IsValidStoreCall store_meaning contents limit_of is_known s (generated lines) old core new [] (said s (generated lines))
+pub record AllCounted {P : Type 0} (is_known : Bool) (history : P → History) (s : State StoreCall) (lines : List Line) (old new : KeptStore P) (before now : Summary) : Type 0 where
+  pub answered : AnsweredOver is_known history s (generated lines) old new
   pub counts : now ≡ counted s before lines
 
--- or the first were, and it stopped behind them or within the next one
-abbrev pub RanLines : {B T : Type 0} → (B → Option Entries) → Bool → State StoreCall → List Line → History → CoreView StoreCall B → History → Summary → Summary → Result T Stop → Type 0
-RanLines contents is_known s lines old core new before now (Ok done) = AllCounted contents is_known s lines old core new before now
-RanLines contents is_known s lines old core new before now (Err stop) = Stopped limit_of is_known s (generated lines) old new stop
+-- the first were answered, and it stopped behind them or within the next one, with this status
+pub record StoppedOver (s : State StoreCall) (all : List (Asked StoreCall)) (old new : Pair) (status : Status) : Type 0 where
+  pub stop : Stop
+  pub named : status ≡ status_of_stop stop
+  pub answered : List (Asked StoreCall)
+  pub more : List (Asked StoreCall)
+  pub rest : List (Asked StoreCall)
+  pub parts : answered ++ (more ++ rest) ≡ all
+  pub one : length more ≤ 1
+  pub valid : AreValidAsks (answered ++ more)
+  pub stops : StopsAtRefusal limit_of s (answered ++ more)
+  pub cause : StopsBy limit_of stop (said s answered) more
+  pub moments : PairsLeave (HoldFirstAsked s (answered ++ more)) old new
+  pub left : PairsHave (HoldOneOf (after s answered) (after s (answered ++ more))) new
 
--- the first of them were, and these are left
-pub record HasRun {B : Type 0} (contents : B → Option Entries) (is_known : Bool) (s : State StoreCall) (lines rest : List Line) (old : History) (core : CoreView StoreCall B) (new : History) (before now : Summary) : Type 0 where
+-- the one or the other
+abbrev pub RanLines : {P T : Type 0} → Bool → (P → History) → State StoreCall → List Line → KeptStore P → KeptStore P → Summary → Summary → Result T Status → Type 0
+RanLines is_known history s lines old new before now (Ok done) = AllCounted is_known history s lines old new before now
+RanLines is_known history s lines old new before now (Err status) = StoppedOver s (generated lines) (files_of history old) (files_of history new) status
+
+-- the first of them were done, and these are left
+pub record HasRun {P : Type 0} (is_known : Bool) (history : P → History) (s : State StoreCall) (lines rest : List Line) (old new : KeptStore P) (before now : Summary) : Type 0 where
   pub front : List Line
   pub parts : front ++ rest ≡ lines
-  pub done : AllCounted contents is_known s front old core new before now
+  pub done : AllCounted is_known history s front old new before now
+
+-- so it is from a state in which the core stands, where both disks are known and their files stand for it
+abbrev pub FromState : {P : Type 0} → Bool → Bool → (P → History) → KeptStore P → (State StoreCall → Type 0) → Type 0
+FromState journal_known pages_known history k Q = IsTrue journal_known → IsTrue pages_known → (s : State StoreCall) → Stands pages_known history k.core s → StandFor s (files_of history k) → Q s
+
+-- ---- what stays
+
+-- a line may be asked next, of a store that was opened as before
+pub record GoesOn {P : Type 0} (is_known : Bool) (history : P → History) (old new : KeptStore P) : Type 0 where
+  pub rested : HasRested is_known history new
+  pub opening : new.core.opening ≡ old.core.opening
+  pub number : new.core.number ≡ old.core.number
+  pub every : new.checkpoints.every ≡ old.checkpoints.every
+
+-- the pages are in the base, or were handed out; where no checkpoints are made a known file of them is as it was
+pub record LeftPages {P : Type 0} (is_known : Bool) (history : P → History) (every : ℕ) (old : History) (base : Base P) (pages : Option P) : Type 0 where
+  pub has : HasPages base pages
+  pub still : IsTrue is_known → is_positive every ≡ false → file_of history base pages ≡ old
+
+-- a status with which lines stop; `lost`: it may be damage
+abbrev pub IsStopIf : Bool → Status → Type 0
+IsStopIf lost (DocumentRefused why) = Unit {0}
+IsStopIf lost DiskFault = Unit {0}
+IsStopIf lost NoMemory = Unit {0}
+IsStopIf lost (Damaged place) = IsTrue lost
+IsStopIf lost status = ⊥

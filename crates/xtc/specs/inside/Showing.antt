@@ -15,6 +15,7 @@ use Rattle.command_lines.specs.declared.line_reply.LineReply.TheVariants.{Said}
 use Rattle.session_driver.specs.Lines.{Asked}
 use Rattle.command_words.specs.Commands.{Command}
 use Rattle.xtc.specs.Book.{after_asked}
+use Rattle.xtc.specs.Checkpoints.{tries}
 use Rattle.xtc.specs.Commands.{may_commit, reads_input}
 use Rattle.durable_sessions.specs.Reasons.{reason_of}
 use Rattle.durable_sessions.specs.declared.in_turn.Stop.{Stop}
@@ -62,4 +63,5 @@ pub record Shows (c : Command) (s : State StoreCall) (name : Name) (q : Question
 -- a command of a document that reads no input
 pub record IsOfShown (c : Command) : Type 0 where
   pub unread : reads_input (Some c) ≡ false
+  pub untried : (every : ℕ) → tries (Some c) every ≡ false
   pub ran : (t : Tree) (n limit : ℕ) (status : Status) (opening : Pair) (o : Outcome) → DocumentRan t n limit c status opening o → CommandRan t n limit (Some c) status opening o

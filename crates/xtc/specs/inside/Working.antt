@@ -1,74 +1,117 @@
--- What a script that is run by workers leaves of the journal of a store, and what there is to write.
-use Rattle.std.specs.Prelude.{◌≡◌, ◌⊎◌, ℕ, Bool, List, Option, Some, None, Result, Ok, Err, IsTrue}
-use Rattle.outside_traits.specs.CrashImages.{IsImage}
-use Rattle.outside_traits.specs.Moments.{History, LeavesOnly}
+-- What a script that is run by workers leaves of a store's files, and what there is to write.
+use Rattle.std.specs.Prelude.{◌≡◌, ◌⊎◌, ℕ, Bool, false, IsTrue, List, length, Option, Some, None, Result, Ok, Err}
+use Rattle.outside_traits.specs.DiskPairs.{Pair, PairsHave, PairsLeave, pair_of}
+use Rattle.outside_traits.specs.Moments.{History, IsAllSynced}
 use Rattle.tree_model.specs.Entries.{Entries}
 use Rattle.tree_model.specs.Tree.{Tree}
-use Rattle.store_contents.specs.StoredTrees.{StandFor}
+use Rattle.journal.specs.Views.{JournalView}
+use Rattle.recovery.specs.Openings.{TakesBehind}
+use Rattle.script_runs.specs.Counts.{Counts}
 use Rattle.call_contract.specs.Books.{Book, IsBookFrom, commits}
 use Rattle.command_lines.specs.declared.command.StoreCall.{StoreCall}
 use Rattle.command_lines.specs.declared.line_reply.LineReply.{LineReply}
+use Rattle.command_words.specs.Commands.{workers}
 use Rattle.store_calls.specs.StoreCalls.{IsValidStoreCall, store_meaning}
+use Rattle.shared_store.specs.Bodies.{HasBodies}
 use Rattle.tx_core.specs.Cores.{CoreView, opened_over}
-use Rattle.durable_books.specs.WrittenBooks.{StandAfter, StandAfterNoneOrAll}
+use Rattle.checkpoint.specs.Bases.{contents_of, is_paged}
+use Rattle.checkpoint.specs.Renewals.{pages_of as base_pages}
+use Rattle.checkpoint.specs.declared.base.Base.{Base}
 use Rattle.workers_replies.specs.Shown.{IsShownBy, lines_in}
 use Rattle.workers_script.specs.Entries.{entries_of}
 use Rattle.workers_script.specs.Limits.{too_long}
 use Rattle.workers_text.specs.WorkersText.{Line}
 use Rattle.xtc.specs.Book.{replies_text}
-use Rattle.xtc.specs.TopCall.{tx_limit}
+use Rattle.xtc.specs.Checkpoints.{AreMade, is_positive}
+use Rattle.xtc.specs.StoreMachine.{faults_of, file_of}
+use Rattle.xtc.specs.TopCall.{OpenAfterCommits, tx_limit}
+use Rattle.xtc.specs.declared.checkpoints.Checkpoints.{Checkpoints}
 use Rattle.xtc.specs.declared.status.Status.{Status}
-use Rattle.xtc.specs.declared.status.Status.TheVariants.{LineTooLong, ReadFault, DiskFault, NoMemory}
+use Rattle.xtc.specs.declared.status.Status.TheVariants.{LineTooLong, Damaged, ReadFault, DiskFault, NoMemory}
+use Rattle.xtc.specs.inside.Asking.{IsUnwritten}
+use Rattle.xtc.specs.inside.CommandRuns.{HasTree}
+
+-- ---- the store
 
 -- nothing was asked of this core since it was opened
 abbrev pub IsNew : {B : Type 0} → (B → Option Entries) → CoreView StoreCall B → Type 0
 IsNew contents core = core ≡ opened_over core.base (contents core.base) core.number tx_limit
 
--- beside these pages a crash on the way, and one at the end, leaves none of the book's commits or all
-pub record LeavesCommits (t : Tree) (n : ℕ) (book : Book StoreCall) (pages : List ℕ) (old new : History) : Type 0 where
-  pub moments : LeavesOnly (λ image. StandAfterNoneOrAll store_meaning t n (commits book) image pages) old new
-  pub now : (image : List ℕ) → IsImage new.now image → StandAfterNoneOrAll store_meaning t n (commits book) image pages
+-- the files: that of the journal, and the pages of a base, or those which a checkpoint that failed has handed out
+abbrev pub files_beside : {P : Type 0} → (P → History) → JournalView → Base P → Checkpoints P → Pair
+files_beside history journal base checkpoints = pair_of journal.history (file_of history base checkpoints.pages)
 
--- a crash leaves all of them
-abbrev pub LeavesAll : Tree → ℕ → Book StoreCall → List ℕ → History → Type 0
-LeavesAll t n book pages history = (image : List ℕ) → IsImage history.now image → StandAfter store_meaning t n (commits book) image pages
+-- and the counts of their disks' faults
+abbrev pub counts_beside : {P : Type 0} → (P → ℕ) → JournalView → Base P → Checkpoints P → Counts
+counts_beside faults journal base checkpoints = record { journal = journal.faults; pages = faults_of faults base checkpoints.pages }
 
--- so it is beside each page file beside which a known journal stood for the tree and the number at the start
-abbrev pub IfStood : Bool → Tree → ℕ → History → (List ℕ → Type 0) → Type 0
-IfStood is_known t n old P = IsTrue is_known → (pages : List ℕ) → StandFor old.now.reads pages t n → P pages
+-- a base was opened at this number, and nothing was written since: all of known pages is synced, the journal takes the first commit, and no checkpoint was tried
+pub record IsBegun {P : Type 0} (is_known : Bool) (history : P → History) (base : Base P) (number : ℕ) (journal : JournalView) (checkpoints : Checkpoints P) : Type 0 where
+  pub paged : IsTrue (is_paged base)
+  pub synced : IsTrue is_known → IsAllSynced (base_pages history base)
+  pub takes : TakesBehind journal number
+  pub inside : checkpoints.pages ≡ None
+  pub opened : checkpoints.opened ≡ number
+
+-- all commits of this core's book wait to be written; it was opened over the map of a tree
+pub record MayCommit {P : Type 0} (is_known : Bool) (history : P → History) (core : CoreView StoreCall (Base P)) (journal : JournalView) (checkpoints : Checkpoints P) : Type 0 where
+  pub begun : IsBegun is_known history core.base core.number journal checkpoints
+  pub opened : IsTrue (is_paged core.opening)
+  pub tree : IsTrue is_known → HasTree (contents_of is_known history core.opening)
+  pub first : core.undrained.after ≡ core.number
+  pub bodies : HasBodies store_meaning (contents_of is_known history) core
+
+-- ---- the commits
+
+-- a crash on the way leaves none of a book's commits or all, and without checkpoints the pages stay
+pub record LeavesCommits (t : Tree) (n every : ℕ) (book : Book StoreCall) (old new : Pair) : Type 0 where
+  pub moments : PairsLeave (OpenAfterCommits t n 0 book) old new
+  pub still : is_positive every ≡ false → new.pages ≡ old.pages
+
+-- a crash leaves all of them, and with checkpoints the pages hold what the last one has made of them
+pub record HasCommits (t : Tree) (n every : ℕ) (book : Book StoreCall) (files : Pair) : Type 0 where
+  pub durable : PairsHave (OpenAfterCommits t n (length (commits book)) book) files
+  pub made : IsTrue (is_positive every) → AreMade (Some workers) every t n book files.journal.now.reads files.pages.now.reads
+
+-- ---- the lines
 
 -- the workers did these lines: one book shows a text of them
-pub record Worked (is_known : Bool) (t : Tree) (n : ℕ) (lines : List (Line StoreCall)) (old new : History) : Type 0 where
+pub record Worked (t : Tree) (n every : ℕ) (lines : List (Line StoreCall)) (old new : Pair) : Type 0 where
   pub book : Book StoreCall
   pub legal : IsBookFrom IsValidStoreCall store_meaning t n tx_limit book
   pub text : List LineReply
   pub shows : IsShownBy store_meaning t n tx_limit book lines text
-  pub leaves : IfStood is_known t n old (λ pages. LeavesCommits t n book pages old new)
+  pub leaves : LeavesCommits t n every book old new
 
 -- this is its text, and the commits are durable
-pub record WorkedAll (is_known : Bool) (t : Tree) (n : ℕ) (lines : List (Line StoreCall)) (old new : History) (text : List ℕ) : Type 0 where
-  pub worked : Worked is_known t n lines old new
-  pub durable : IfStood is_known t n old (λ pages. LeavesAll t n worked.book pages new)
+pub record WorkedAll (t : Tree) (n every : ℕ) (lines : List (Line StoreCall)) (old new : Pair) (text : List ℕ) : Type 0 where
+  pub worked : Worked t n every lines old new
+  pub all : HasCommits t n every worked.book new
   pub text_is : text ≡ replies_text worked.text
 
--- or a disk failed: the journal's after the lines were done, or that of the pages in one of them, before the journal was written; or memory was wanting before that
-abbrev pub ScriptDone : {T : Type 0} → Bool → Tree → ℕ → List (Line StoreCall) → History → History → (T → List ℕ) → Result T Status → Type 0
-ScriptDone is_known t n lines old new bytes (Ok text) = WorkedAll is_known t n lines old new (bytes text)
-ScriptDone is_known t n lines old new bytes (Err DiskFault) = Worked is_known t n lines old new ⊎ (new ≡ old)
-ScriptDone is_known t n lines old new bytes (Err NoMemory) = new ≡ old
-ScriptDone is_known t n lines old new bytes (Err status) = ⊥
+-- the lines were done, or the files are as they were
+abbrev pub WorkedOrNot : Tree → ℕ → ℕ → List (Line StoreCall) → Pair → Pair → Type 0
+WorkedOrNot t n every lines old new = Worked t n every lines old new ⊎ (new ≡ old)
+
+-- Known files that stood for the tree and the number at the start: the lines were done, and all is durable.
+-- Or a disk failed, or memory was wanting: behind the lines, in writing the commits or in the checkpoint behind them, or before anything was written.
+abbrev pub ScriptDone : {T : Type 0} → Tree → ℕ → ℕ → List (Line StoreCall) → Pair → Pair → (T → List ℕ) → Result T Status → Type 0
+ScriptDone t n every lines old new bytes (Ok text) = WorkedAll t n every lines old new (bytes text)
+ScriptDone t n every lines old new bytes (Err DiskFault) = WorkedOrNot t n every lines old new
+ScriptDone t n every lines old new bytes (Err NoMemory) = WorkedOrNot t n every lines old new
+ScriptDone t n every lines old new bytes (Err status) = ⊥
 
 -- with this input; where it can't be had no line is done
-abbrev pub InputFailed : Bool → Tree → ℕ → List ℕ → History → History → Status → Type 0
-InputFailed is_known t n read old new DiskFault = (too_long read ≡ None) × (Worked is_known t n (lines_in (entries_of read)) old new ⊎ (new ≡ old))
-InputFailed is_known t n read old new (LineTooLong line) = (too_long read ≡ Some line) × (new ≡ old)
-InputFailed is_known t n read old new ReadFault = (too_long read ≡ None) × (new ≡ old)
-InputFailed is_known t n read old new NoMemory = new ≡ old
-InputFailed is_known t n read old new status = ⊥
+abbrev pub InputFailed : Tree → ℕ → ℕ → List ℕ → Pair → Pair → Status → Type 0
+InputFailed t n every read old new DiskFault = (too_long read ≡ None) × WorkedOrNot t n every (lines_in (entries_of read)) old new
+InputFailed t n every read old new NoMemory = WorkedOrNot t n every (lines_in (entries_of read)) old new
+InputFailed t n every read old new (LineTooLong line) = (too_long read ≡ Some line) × (new ≡ old)
+InputFailed t n every read old new ReadFault = (too_long read ≡ None) × (new ≡ old)
+InputFailed t n every read old new status = ⊥
 
-abbrev pub InputWorked : {T : Type 0} → Bool → Tree → ℕ → List ℕ → History → History → (T → List ℕ) → Result T Status → Type 0
-InputWorked is_known t n read old new bytes (Ok text) = (too_long read ≡ None) × WorkedAll is_known t n (lines_in (entries_of read)) old new (bytes text)
-InputWorked is_known t n read old new bytes (Err status) = InputFailed is_known t n read old new status
+abbrev pub InputWorked : {T : Type 0} → Tree → ℕ → ℕ → List ℕ → Pair → Pair → (T → List ℕ) → Result T Status → Type 0
+InputWorked t n every read old new bytes (Ok text) = (too_long read ≡ None) × WorkedAll t n every (lines_in (entries_of read)) old new (bytes text)
+InputWorked t n every read old new bytes (Err status) = InputFailed t n every read old new status
 
 -- so it is where lines were done
 abbrev pub IfWorked : {T : Type 0} → Result T Status → Type 0 → Type 0
@@ -76,8 +119,16 @@ IfWorked (Ok text) P = P
 IfWorked (Err DiskFault) P = P
 IfWorked (Err status) P = Unit {0}
 
--- why lines that were read aren't done to their end
-abbrev pub IsWorkersStop : Status → Type 0
-IsWorkersStop DiskFault = Unit {0}
-IsWorkersStop NoMemory = Unit {0}
-IsWorkersStop status = ⊥
+-- ---- why there is no text
+
+-- why lines that were read aren't done to their end; damage only where a page file may be lost
+abbrev pub IsWorkersStop : Bool → Status → Type 0
+IsWorkersStop lost DiskFault = Unit {0}
+IsWorkersStop lost NoMemory = Unit {0}
+IsWorkersStop lost (Damaged place) = IsTrue lost
+IsWorkersStop lost status = ⊥
+
+-- why nothing is written
+abbrev pub IsWorkersFault : Bool → Status → Type 0
+IsWorkersFault lost (Damaged place) = IsTrue lost
+IsWorkersFault lost status = IsUnwritten status

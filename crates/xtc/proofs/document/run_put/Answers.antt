@@ -1,4 +1,4 @@
-use Rattle.std.proofs.Common.{◌≡◌, IsTrue, sym, ap, subst, ◌∙◌}
+use Rattle.std.proofs.Common.{◌≡◌, IsTrue, refl, sym, ap, subst, ◌∙◌}
 use Rattle.std.specs.Prelude.{Err}
 use Rattle.outside_traits.specs.DiskPairs.{pair_of}
 use Rattle.script_runs.specs.Counts.{Counts, DisksCountedWhere}
@@ -9,13 +9,13 @@ use Rattle.xtc.specs.TopCall.{IsWhole, WroteWhole, tx_limit}
 use Rattle.xtc.specs.declared.status.Status.{Status}
 use Rattle.xtc.specs.declared.status.Status.TheVariants.{DiskFault}
 use Rattle.xtc.specs.inside.CommandRuns.{Input, Output, Disks, RunsCommand}
-use Rattle.xtc.proofs.CommandRunLaws.{by_count, document_runs, ends_by, put_within}
+use Rattle.xtc.proofs.CommandRunLaws.{by_count, document_runs, ends_by, ends_undamaged, not_lost, put_within, quiets, without_checkpoints}
 use Rattle.xtc.proofs.DocumentLaws.{document_finished, document_written}
 use Rattle.xtc.proofs.OpeningLaws.{opening_holds}
 use Rattle.xtc.proofs.document.run_put.Goals as goal
 
 pub returns : goal.returns
-returns g c =
+returns g c = λ every.
     let run = c.put_over-text in
     let done = run.ensures.done in
     let store = c.args.store in
@@ -35,9 +35,10 @@ returns g c =
     let before : Disks = record { files = pair_of store.journal.history (pages_of history store.base); faults = record { journal = store.journal.faults; pages = g.P.Disk.faults store.base.base.disk } } in
     let left : Disks = record { files = pair_of (g.J.Disk.history fin.journal) (history fin.pages); faults = record { journal = g.J.Disk.faults fin.journal; pages = g.P.Disk.faults fin.pages } } in
     let pages_is : IsTrue g.P.Disk.is_known → history fin.pages ≡ pages_of history store.base = λ kp. ap history out.pages ∙ run.ensures.base.0.0 kp in
-    subst (λ (s : Status). RunsCommand known g.P.Disk.is_known map store.number command s input input_now output output_now before left) (sym out.status)
-    (document_runs known g.P.Disk.is_known map store.number command text status input input_now output output_now before left
-    (ends_by text status (output_now.held ≡ output.held) (λ t. WroteWhole status output.held output_now.held t.items) run.ensures.unwritten c.written.ensures.text c.written.ensures.none) (
+    let ends = ends_by text status (output_now.held ≡ output.held) (λ t. WroteWhole status output.held output_now.held t.items) (quiets text run.ensures.unwritten) c.written.ensures.text c.written.ensures.none in
+    subst (λ (s : Status). RunsCommand known g.P.Disk.is_known map store.number command every s input input_now output output_now before left) (sym out.status)
+    (document_runs known g.P.Disk.is_known map store.number command every text status input input_now output output_now before left
+    ends (λ place it. absurd (not_lost text run.ensures.unwritten place it)) (
       done.0,
       done.1,
       done.2,
@@ -45,9 +46,11 @@ returns g c =
           let whole = IsWhole input_now.left done.0 in
           let wrote = document_written known (start t store.number tx_limit) command done.0 whole store.journal.history mid (λ t. t.items) output.held output_now.held text status (done.4 t is) run.ensures.unwritten
           c.written.ensures.text c.written.ensures.none in
-          document_finished t store.number tx_limit is.valid known command _ whole store.journal.history (pages_of history store.base) mid status kj
+          without_checkpoints t store.number tx_limit command every status before.files _ refl
+          (document_finished t store.number tx_limit is.valid known command _ whole store.journal.history (pages_of history store.base) mid status kj
           (opening_holds t store.number tx_limit store.journal.history (pages_of history store.base) files) files.pages
-          wrote out.journal.0 (pages_is kp) (out.images.0 kj) (out.images.1 kp) (λ no. cc) (λ reads w. w),
+          wrote out.journal.0 (pages_is kp) (out.images.0 kj) (out.images.1 kp) (λ no. cc) (λ reads w. w))
+          (ends_undamaged command text status (output_now.held ≡ output.held) ends (not_lost text run.ensures.unwritten)) (pages_is kp),
     )
     (λ reads. run.ensures.whole)
     (put_within input.given input_now.given done.0 done.2 done.3)

@@ -10,7 +10,7 @@ use Rattle.xtc.specs.ReadLines.{line_in}
 use Rattle.durable_sessions.specs.declared.halt.Halt.TheVariants.{NoMemory}
 use Rattle.xtc.specs.inside.Counting.{AskedLine}
 use Rattle.durable_sessions.proofs.InTurnLaws.{not_begun}
-use Rattle.xtc.proofs.CountingLaws.{line_asks, line_done, line_err}
+use Rattle.xtc.proofs.CountingLaws.{book_asked, line_asks, line_done, line_err}
 use Rattle.xtc.proofs.generator.ask_line.Goals as goal
 
 pub returns-in_err-read-clause-asked : goal.returns-in_err-read-clause-asked
@@ -27,3 +27,8 @@ returns-in-Asked-clause-asked g c = λ s stands.
     (line_done g.B.NodeRead.contents c.answer.result g.J.Disk.is_known s asked (subst (λ read. IsValidLine (line_in read)) c.in-Asked.is c.in_ok-read.ensures.valid)
     c.args.journal.now.history c.answer.new.journal.history (λ other. ap (λ (j : JournalView). j.history) (c.answer.ensures.still other)) c.args.core.now c.answer.new.core
     c.args.replies.now.items c.answer.new.replies.items c.requires.none stands c.answer.ensures.state c.answer.ensures.replies (c.answer.ensures.any_moment s stands))
+
+pub returns-in-Asked-clause-book : goal.returns-in-Asked-clause-book
+returns-in-Asked-clause-book g c =
+    let asked : Asked StoreCall = record { session = c.in-Asked.session; doing = c.in-Asked.doing } in
+    book_asked g.B.NodeRead.contents c.answer.result c.args.line asked c.args.core.now c.answer.new.core (line_asks c.args.line _ (ap line_in (sym c.in-Asked.is) ∙ c.in_ok-read.ensures.line)) c.answer.ensures.book

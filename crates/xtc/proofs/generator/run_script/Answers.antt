@@ -1,52 +1,81 @@
-use Rattle.std.proofs.Common.{[], List, ◌++◌, ◌∷◌, ap, subst, ◌∙◌, arith}
+use Rattle.std.proofs.Common.{List, not, ◌&&◌, refl, ap, subst}
+use Rattle.std.specs.Prelude.{Err}
 use Rattle.command_lines.specs.declared.command.StoreCall.{StoreCall}
+use Rattle.checkpoint.specs.declared.base.Base.{Base}
 use Rattle.command_words.specs.Commands.{gen}
-use Rattle.session_driver.specs.Lines.{Asked}
+use Rattle.call_contract.specs.States.{State, start}
+use Rattle.tx_core.specs.Cores.{CoreView}
 use Rattle.workload_gen.specs.Scripts.{script}
-use Rattle.workload_gen.specs.Summaries.{nothing_yet, summary_text}
+use Rattle.workload_gen.specs.Summaries.{nothing_yet}
 use Rattle.workload_gen.specs.declared.line.Line.{Line}
 use Rattle.workload_gen.specs.declared.summary.Summary.{Summary}
-use Rattle.durable_sessions.specs.Reasons.{limit_of}
-use Rattle.durable_sessions.specs.declared.in_turn.Stop.TheVariants.{NoMemory}
-use Rattle.store_calls.specs.StoreCalls.{IsValidStoreCall, store_meaning}
-use Rattle.xtc.specs.Statuses.{status_of_stop}
+use Rattle.xtc.specs.Checkpoints.{is_positive}
 use Rattle.xtc.specs.Generated.{generated}
-use Rattle.xtc.specs.declared.status.Status.TheVariants as status
-use Rattle.xtc.specs.inside.Asking.{Stopped, said}
-use Rattle.xtc.specs.inside.Counting.{AllCounted}
-use Rattle.durable_sessions.proofs.InTurnLaws.{stopped_behind}
-use Rattle.xtc.proofs.CountingLaws.{script_asked}
-use Rattle.xtc.proofs.DocumentLaws.{document_answered, document_stopped, done_err}
+use Rattle.xtc.specs.StoreMachine.{KeptStore}
+use Rattle.xtc.specs.TopCall.{tx_limit}
+use Rattle.xtc.specs.declared.status.Status.TheVariants.{NoMemory}
+use Rattle.xtc.specs.inside.Counting.{AllCounted, IsStopIf, StoppedOver}
+use Rattle.xtc.specs.inside.Renewing.{files_of, kept}
+use Rattle.xtc.proofs.GeneratedLaws.{done_failed, goes_to_text, stopped_went, unwritten_went}
+use Rattle.xtc.proofs.LinesKept.{counted_err, err_has, new_stands, new_tree}
 use Rattle.xtc.proofs.generator.run_script.Goals as goal
 
 pub returns-in_err-run_lines-clause-done : goal.returns-in_err-run_lines-clause-done
-returns-in_err-run_lines-clause-done g c = λ s stands empty.
-    let old = c.args.journal.now.history in
-    let new = c.run_lines.new.journal.history in
-    let stop = c.in_err-run_lines.field-0.0 in
-    done_err c.from_residual.result (status_of_stop stop) g.J.Disk.is_known s (gen c.args.seed c.args.count) [] old new (λ text. text.items) c.from_residual.ensures.1
-    (document_stopped g.J.Disk.is_known s (gen c.args.seed c.args.count) [] (generated (script c.args.seed c.args.count)) (script_asked s c.args.seed c.args.count empty) (omega arith) old new stop
-    (subst (λ (l : List Line). Stopped limit_of g.J.Disk.is_known s (generated l) old new stop) c.new-script.ensures (c.in_err-run_lines.ensures.ran s stands)))
+returns-in_err-run_lines-clause-done g c = λ kj kp t is files empty.
+    let history = g.P.Disk.history in
+    let n = c.args.core.now.number in
+    let first : KeptStore g.row.P.Denot = kept c.args.core.now c.args.journal.now c.args.checkpoints.now in
+    let new : KeptStore g.row.P.Denot = kept c.run_lines.new.core c.run_lines.new.journal c.run_lines.new.checkpoints in
+    let status = c.in_err-run_lines.field-0.0 in
+    let s : State StoreCall = start t n tx_limit in
+    done_failed c.from_residual.result status t n (gen c.args.seed c.args.count) c.args.checkpoints.now.every (files_of history first) (files_of history new) (λ text. text.items) c.from_residual.ensures.1
+    (stopped_went s c.args.seed c.args.count empty (files_of history first) (files_of history new) status
+    (subst (λ (l : List Line). StoppedOver s (generated l) (files_of history first) (files_of history new) status) c.new-script.ensures
+    (c.in_err-run_lines.ensures.ran kj kp s (new_stands g.P.Disk.is_known history first.core c.requires.opened t is) files)))
+
+pub returns-in_err-run_lines-clause-stops : goal.returns-in_err-run_lines-clause-stops
+returns-in_err-run_lines-clause-stops g c =
+    err_has (IsStopIf (is_positive c.args.checkpoints.now.every && not g.P.Disk.is_known)) c.from_residual.result c.in_err-run_lines.field-0.0 c.from_residual.ensures.1 c.in_err-run_lines.ensures.stops
+
+pub returns-in_err-run_lines-clause-counts : goal.returns-in_err-run_lines-clause-counts
+returns-in_err-run_lines-clause-counts g c =
+    counted_err c.from_residual.result c.in_err-run_lines.field-0.0 c.from_residual.ensures.1 (ap Err) (λ it. cc) _ _ c.in_err-run_lines.ensures.counts
 
 pub returns-in_err-line_of-clause-done : goal.returns-in_err-line_of-clause-done
-returns-in_err-line_of-clause-done g c = λ s stands empty.
-    let old = c.args.journal.now.history in
-    let new = c.run_lines.new.journal.history in
-    let core = c.run_lines.new.core in
-    let all : List (Asked StoreCall) = generated (script c.args.seed c.args.count) in
-    let ran : AllCounted g.B.NodeRead.contents g.J.Disk.is_known s (script c.args.seed c.args.count) old core new (nothing_yet c.args.count) c.run_lines.new.summary =
-    subst (λ (x : List Line × Summary). AllCounted g.B.NodeRead.contents g.J.Disk.is_known s x.0 old core new x.1 c.run_lines.new.summary) (λ i. (c.new-script.ensures i, c.new-summary.ensures i)) (c.in_ok-run_lines.ensures.ran s stands) in
-    done_err c.from_residual-in_err-line_of.result status.NoMemory g.J.Disk.is_known s (gen c.args.seed c.args.count) [] old new (λ text. text.items) c.from_residual-in_err-line_of.ensures.1
-    (document_stopped g.J.Disk.is_known s (gen c.args.seed c.args.count) [] all (script_asked s c.args.seed c.args.count empty) (omega arith) old new NoMemory
-    (stopped_behind IsValidStoreCall store_meaning g.B.NodeRead.contents limit_of g.J.Disk.is_known s all old new core [] (said s all) ran.answered))
+returns-in_err-line_of-clause-done g c = λ kj kp t is files empty.
+    let known = g.P.Disk.is_known in
+    let history = g.P.Disk.history in
+    let n = c.args.core.now.number in
+    let first : KeptStore g.row.P.Denot = kept c.args.core.now c.args.journal.now c.args.checkpoints.now in
+    let new : KeptStore g.row.P.Denot = kept c.run_lines.new.core c.run_lines.new.journal c.run_lines.new.checkpoints in
+    let s : State StoreCall = start t n tx_limit in
+    let ran : AllCounted known history s (script c.args.seed c.args.count) first new (nothing_yet c.args.count) c.run_lines.new.summary =
+    subst (λ (x : List Line × Summary). AllCounted known history s x.0 first new x.1 c.run_lines.new.summary) (λ i. (c.new-script.ensures i, c.new-summary.ensures i))
+    (c.in_ok-run_lines.ensures.ran kj kp s (new_stands known history first.core c.requires.opened t is) files) in
+    done_failed c.from_residual-in_err-line_of.result NoMemory t n (gen c.args.seed c.args.count) c.args.checkpoints.now.every (files_of history first) (files_of history new) (λ text. text.items) c.from_residual-in_err-line_of.ensures.1
+    (unwritten_went s c.args.seed c.args.count empty known history first new ran.answered)
+
+pub returns-in_err-line_of-clause-stops : goal.returns-in_err-line_of-clause-stops
+returns-in_err-line_of-clause-stops g c =
+    err_has (IsStopIf (is_positive c.args.checkpoints.now.every && not g.P.Disk.is_known)) c.from_residual-in_err-line_of.result NoMemory c.from_residual-in_err-line_of.ensures.1 tt
+
+pub returns-in_err-line_of-clause-counts : goal.returns-in_err-line_of-clause-counts
+returns-in_err-line_of-clause-counts g c =
+    counted_err c.from_residual-in_err-line_of.result NoMemory c.from_residual-in_err-line_of.ensures.1 (λ it. absurd cc) (λ it. absurd cc) _ _ c.in_ok-run_lines.ensures.counts
+
+pub returns-clause-counts : goal.returns-clause-counts
+returns-clause-counts g c = record { counted = λ it. absurd cc; exact = λ never. c.in_ok-run_lines.ensures.counts.exact (λ it. cc) }
 
 pub returns-clause-done : goal.returns-clause-done
-returns-clause-done g c = λ s stands empty.
-    let old = c.args.journal.now.history in
-    let new = c.run_lines.new.journal.history in
-    let core = c.run_lines.new.core in
-    let all : List (Asked StoreCall) = generated (script c.args.seed c.args.count) in
-    let ran : AllCounted g.B.NodeRead.contents g.J.Disk.is_known s (script c.args.seed c.args.count) old core new (nothing_yet c.args.count) c.run_lines.new.summary =
-    subst (λ (x : List Line × Summary). AllCounted g.B.NodeRead.contents g.J.Disk.is_known s x.0 old core new x.1 c.run_lines.new.summary) (λ i. (c.new-script.ensures i, c.new-summary.ensures i)) (c.in_ok-run_lines.ensures.ran s stands) in
-    document_answered g.J.Disk.is_known s (gen c.args.seed c.args.count) [] all (script_asked s c.args.seed c.args.count empty) (omega arith) old new g.B.NodeRead.contents core (said s all) _ ran.answered
-    (c.in_ok-line_of.ensures ∙ ap (λ (m : Summary). summary_text m ++ 10 ∷ []) ran.counts)
+returns-clause-done g c = λ kj kp t is files empty.
+    let known = g.P.Disk.is_known in
+    let history = g.P.Disk.history in
+    let n = c.args.core.now.number in
+    let first : KeptStore g.row.P.Denot = kept c.args.core.now c.args.journal.now c.args.checkpoints.now in
+    let new : KeptStore g.row.P.Denot = kept c.run_lines.new.core c.run_lines.new.journal c.run_lines.new.checkpoints in
+    let s : State StoreCall = start t n tx_limit in
+    let ran : AllCounted known history s (script c.args.seed c.args.count) first new (nothing_yet c.args.count) c.run_lines.new.summary =
+    subst (λ (x : List Line × Summary). AllCounted known history s x.0 first new x.1 c.run_lines.new.summary) (λ i. (c.new-script.ensures i, c.new-summary.ensures i))
+    (c.in_ok-run_lines.ensures.ran kj kp s (new_stands known history first.core c.requires.opened t is) files) in
+    goes_to_text known history t n c.args.seed c.args.count c.args.checkpoints.now.every empty first new c.run_lines.new.summary ran c.in_ok-line_of.field-0.items c.in_ok-line_of.ensures
+    kp (new_tree known history first.core c.requires.opened t is) refl (ap (λ (v : CoreView StoreCall (Base g.row.P.Denot)). v.book) c.requires.opened) refl c.in_ok-run_lines.ensures.goes_on (λ known. c.in_ok-run_lines.ensures.reads kj)

@@ -11,7 +11,7 @@ use Rattle.xtc.proofs.ShownLaws.{pages_counted, shown_runs}
 use Rattle.xtc.proofs.showing.run_query.Goals as goal
 
 pub returns : goal.returns
-returns g c = λ input.
+returns g c = λ input every.
     let run = c.query_document-text in
     let store = c.args.store in
     let history = g.P.Disk.history in
@@ -24,8 +24,8 @@ returns g c = λ input.
     let output_now : Output = record { held = g.K.Sink.held c.written.new.sink; faults = g.K.Sink.faults c.written.new.sink } in
     let before : Disks = record { files = pair_of store.journal.history (pages_of history store.base); faults = record { journal = store.journal.faults; pages = g.P.Disk.faults store.base.base.disk } } in
     let left : Disks = record { files = pair_of (g.J.Disk.history fin.journal) (history fin.pages); faults = record { journal = g.J.Disk.faults fin.journal; pages = g.P.Disk.faults fin.pages } } in
-    subst (λ (s : Status). RunsCommand g.J.Disk.is_known g.P.Disk.is_known map store.number command s input input output output_now before left) (sym out.status)
-    (shown_runs g.J.Disk.is_known g.P.Disk.is_known map store.number command (record { unread = refl; ran = λ t n limit status opening o r. r }) text (λ t. t.items) c.written.result
+    subst (λ (s : Status). RunsCommand g.J.Disk.is_known g.P.Disk.is_known map store.number command every s input input output output_now before left) (sym out.status)
+    (shown_runs g.J.Disk.is_known g.P.Disk.is_known map store.number every command (record { unread = refl; untried = λ e. refl; ran = λ t n limit status opening o r. r }) text (λ t. t.items) c.written.result
     input output output_now store.journal.history (pages_of history store.base) store.journal.history before.faults left.faults left.files run.ensures.stops
     (λ t is. run.ensures.done g.J.Disk.is_known store.journal.history t is)
     c.written.ensures.text c.written.ensures.none out.journal.0 (λ kp. ap history out.pages ∙ run.ensures.unchanged.0.0 kp) out.images c.written.ensures.write

@@ -15,7 +15,7 @@ returns-in-Run g c =
     let output_now : Output = record { held = g.K.Sink.held c.run_store.new.sink; faults = g.K.Sink.faults c.run_store.new.sink } in
     let before : Disks = record { files = pair_of store.journal.history (pages_of g.P.Disk.history store.base); faults = record { journal = store.journal.faults; pages = g.P.Disk.faults store.base.base.disk } } in
     let left : Disks = record { files = pair_of (g.J.Disk.history result.journal) (g.P.Disk.history result.pages); faults = record { journal = g.J.Disk.faults result.journal; pages = g.P.Disk.faults result.pages } } in
-    subst (λ (command : Command). RunsCommand g.J.Disk.is_known g.P.Disk.is_known (told g.P.Disk.is_known g.P.Disk.history store.base) store.number command result.status input input_now output output_now before left) (sym (ap meant c.in-Run.is)) c.run_store.ensures
+    subst (λ (command : Command). RunsCommand g.J.Disk.is_known g.P.Disk.is_known (told g.P.Disk.is_known g.P.Disk.history store.base) store.number command c.args.every result.status input input_now output output_now before left) (sym (ap meant c.in-Run.is)) c.run_store.ensures
 
 pub returns-in-Workers : goal.returns-in-Workers
 returns-in-Workers g c =
@@ -27,7 +27,7 @@ returns-in-Workers g c =
     let output_now : Output = record { held = g.K.Sink.held c.run_workers.new.sink; faults = g.K.Sink.faults c.run_workers.new.sink } in
     let before : Disks = record { files = pair_of store.journal.history (pages_of g.P.Disk.history store.base); faults = record { journal = store.journal.faults; pages = g.P.Disk.faults store.base.base.disk } } in
     let left : Disks = record { files = pair_of (g.J.Disk.history result.journal) (g.P.Disk.history result.pages); faults = record { journal = g.J.Disk.faults result.journal; pages = g.P.Disk.faults result.pages } } in
-    subst (λ (command : Command). RunsCommand g.J.Disk.is_known g.P.Disk.is_known (told g.P.Disk.is_known g.P.Disk.history store.base) store.number command result.status input input_now output output_now before left) (sym (ap meant c.in-Workers.is)) c.run_workers.ensures
+    subst (λ (command : Command). RunsCommand g.J.Disk.is_known g.P.Disk.is_known (told g.P.Disk.is_known g.P.Disk.history store.base) store.number command c.args.every result.status input input_now output output_now before left) (sym (ap meant c.in-Workers.is)) c.run_workers.ensures
 
 pub returns-in-Put : goal.returns-in-Put
 returns-in-Put g c =
@@ -39,7 +39,7 @@ returns-in-Put g c =
     let output_now : Output = record { held = g.K.Sink.held c.run_put.new.sink; faults = g.K.Sink.faults c.run_put.new.sink } in
     let before : Disks = record { files = pair_of store.journal.history (pages_of g.P.Disk.history store.base); faults = record { journal = store.journal.faults; pages = g.P.Disk.faults store.base.base.disk } } in
     let left : Disks = record { files = pair_of (g.J.Disk.history result.journal) (g.P.Disk.history result.pages); faults = record { journal = g.J.Disk.faults result.journal; pages = g.P.Disk.faults result.pages } } in
-    subst (λ (command : Command). RunsCommand g.J.Disk.is_known g.P.Disk.is_known (told g.P.Disk.is_known g.P.Disk.history store.base) store.number command result.status input input_now output output_now before left) (sym (ap meant c.in-Put.is)) c.run_put.ensures
+    subst (λ (command : Command). RunsCommand g.J.Disk.is_known g.P.Disk.is_known (told g.P.Disk.is_known g.P.Disk.history store.base) store.number command c.args.every result.status input input_now output output_now before left) (sym (ap meant c.in-Put.is)) (c.run_put.ensures c.args.every)
 
 pub returns-in-Get : goal.returns-in-Get
 returns-in-Get g c =
@@ -50,7 +50,7 @@ returns-in-Get g c =
     let output_now : Output = record { held = g.K.Sink.held c.run_get.new.sink; faults = g.K.Sink.faults c.run_get.new.sink } in
     let before : Disks = record { files = pair_of store.journal.history (pages_of g.P.Disk.history store.base); faults = record { journal = store.journal.faults; pages = g.P.Disk.faults store.base.base.disk } } in
     let left : Disks = record { files = pair_of (g.J.Disk.history result.journal) (g.P.Disk.history result.pages); faults = record { journal = g.J.Disk.faults result.journal; pages = g.P.Disk.faults result.pages } } in
-    subst (λ (command : Command). RunsCommand g.J.Disk.is_known g.P.Disk.is_known (told g.P.Disk.is_known g.P.Disk.history store.base) store.number command result.status input input output output_now before left) (sym (ap meant c.in-Get.is)) (c.run_get.ensures input)
+    subst (λ (command : Command). RunsCommand g.J.Disk.is_known g.P.Disk.is_known (told g.P.Disk.is_known g.P.Disk.history store.base) store.number command c.args.every result.status input input output output_now before left) (sym (ap meant c.in-Get.is)) (c.run_get.ensures input c.args.every)
 
 pub returns-in-Query : goal.returns-in-Query
 returns-in-Query g c =
@@ -61,7 +61,7 @@ returns-in-Query g c =
     let output_now : Output = record { held = g.K.Sink.held c.run_query.new.sink; faults = g.K.Sink.faults c.run_query.new.sink } in
     let before : Disks = record { files = pair_of store.journal.history (pages_of g.P.Disk.history store.base); faults = record { journal = store.journal.faults; pages = g.P.Disk.faults store.base.base.disk } } in
     let left : Disks = record { files = pair_of (g.J.Disk.history result.journal) (g.P.Disk.history result.pages); faults = record { journal = g.J.Disk.faults result.journal; pages = g.P.Disk.faults result.pages } } in
-    subst (λ (command : Command). RunsCommand g.J.Disk.is_known g.P.Disk.is_known (told g.P.Disk.is_known g.P.Disk.history store.base) store.number command result.status input input output output_now before left) (sym (ap meant c.in-Query.is)) (c.run_query.ensures input)
+    subst (λ (command : Command). RunsCommand g.J.Disk.is_known g.P.Disk.is_known (told g.P.Disk.is_known g.P.Disk.history store.base) store.number command c.args.every result.status input input output output_now before left) (sym (ap meant c.in-Query.is)) (c.run_query.ensures input c.args.every)
 
 pub returns-in-Gen : goal.returns-in-Gen
 returns-in-Gen g c =
@@ -72,4 +72,4 @@ returns-in-Gen g c =
     let output_now : Output = record { held = g.K.Sink.held c.run_gen.new.sink; faults = g.K.Sink.faults c.run_gen.new.sink } in
     let before : Disks = record { files = pair_of store.journal.history (pages_of g.P.Disk.history store.base); faults = record { journal = store.journal.faults; pages = g.P.Disk.faults store.base.base.disk } } in
     let left : Disks = record { files = pair_of (g.J.Disk.history result.journal) (g.P.Disk.history result.pages); faults = record { journal = g.J.Disk.faults result.journal; pages = g.P.Disk.faults result.pages } } in
-    subst (λ (command : Command). RunsCommand g.J.Disk.is_known g.P.Disk.is_known (told g.P.Disk.is_known g.P.Disk.history store.base) store.number command result.status input input output output_now before left) (sym (ap meant c.in-Gen.is)) (c.run_gen.ensures input)
+    subst (λ (command : Command). RunsCommand g.J.Disk.is_known g.P.Disk.is_known (told g.P.Disk.is_known g.P.Disk.history store.base) store.number command c.args.every result.status input input output output_now before left) (sym (ap meant c.in-Gen.is)) (c.run_gen.ensures input)

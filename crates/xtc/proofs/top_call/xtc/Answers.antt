@@ -1,4 +1,4 @@
-use Rattle.std.proofs.Common.{◌≡◌, ◌-◌, ◌∙◌, arith, [], Option, refl, sym, ap, subst, add-zero, Some, Ok, Err}
+use Rattle.std.proofs.Common.{◌≡◌, ◌-◌, ◌∙◌, arith, ℕ, [], Option, refl, sym, ap, subst, add-zero, Some, Ok, Err}
 use Rattle.outside_traits.specs.DiskPairs.{Pair, pair_of}
 use Rattle.outside_traits.proofs.Laws.{gave_none}
 use Rattle.node_seq.specs.Trees.{StandsFor}
@@ -8,12 +8,13 @@ use Rattle.paged_seq.specs.PagedMaps.{map_of_file}
 use Rattle.store_contents.specs.StoredTrees.{LeaveWhatStood, StandFor}
 use Rattle.script_runs.specs.Counts.{Counts, DisksCountedWhere}
 use Rattle.xtc.specs.declared.status.Status.TheVariants.{Done, Damaged, DiskFault}
-use Rattle.command_words.specs.Commands.{Command, command_of, meant}
+use Rattle.command_words.specs.Commands.{Command, checkpoint_of, command_of, meant}
+use Rattle.xtc.specs.Checkpoints.{every_of, may_lose}
 use Rattle.xtc.specs.Commands.{reads_input}
 use Rattle.xtc.specs.StoreMachine.{Held, pages_of, told}
 use Rattle.xtc.specs.inside.CommandRuns.{StandSettled}
-use Rattle.xtc.specs.TopCall.{Outcome, Leaves, OpenedStoreLeaves, IsSilent, tx_limit}
-use Rattle.xtc.proofs.StatusLaws.{known_map, refused_leaves, refused_silent, refused_not, refused_as, words_usage, nothing_read, unopened_leaves, unopened_not_done, unopened_silent, opened_leaves, opened_unread, opened_not_damaged, damaged_of, cause_of, no_fault}
+use Rattle.xtc.specs.TopCall.{Outcome, Leaves, OpenedStoreLeaves, IsOfOpened, IsSilent, tx_limit}
+use Rattle.xtc.proofs.StatusLaws.{known_map, refused_leaves, refused_silent, refused_not, refused_as, words_usage, nothing_read, unopened_leaves, unopened_not_done, unopened_silent, opened_leaves, opened_unread, none_lost, opened_not_damaged, damaged_of, cause_of, no_fault}
 use Rattle.xtc.proofs.top_call.xtc.Goals as goal
 
 -- ---- the words gave no command
@@ -35,18 +36,18 @@ returns-in-Err-clause-leaves g c = (
         old = files;
         new = files;
       } in
-      subst (λ status. Leaves tx_limit (command_of c.args.words.now.items) status o) (sym c.from.ensures) (refused_leaves tx_limit (command_of c.args.words.now.items) o c.in-Err.error refl refl refl),
+      subst (λ status. Leaves tx_limit (command_of c.args.words.now.items) (every_of (checkpoint_of c.args.words.now.items)) status o) (sym c.from.ensures) (refused_leaves tx_limit (command_of c.args.words.now.items) (every_of (checkpoint_of c.args.words.now.items)) o c.in-Err.error refl refl refl),
 )
 
 pub returns-in-Err-clause-silent : goal.returns-in-Err-clause-silent
 returns-in-Err-clause-silent g c =
     let held = g.K.Sink.held c.args.sink.now in
-    subst (λ status. IsSilent (command_of c.args.words.now.items) status (held ≡ held)) (sym c.from.ensures) (refused_silent (command_of c.args.words.now.items) c.in-Err.error (held ≡ held) refl)
+    subst (λ status. IsSilent (command_of c.args.words.now.items) (may_lose (command_of c.args.words.now.items) (every_of (checkpoint_of c.args.words.now.items)) g.P.Disk.is_known) status (held ≡ held)) (sym c.from.ensures) (refused_silent (command_of c.args.words.now.items) (may_lose (command_of c.args.words.now.items) (every_of (checkpoint_of c.args.words.now.items)) g.P.Disk.is_known) c.in-Err.error (held ≡ held) refl)
 
 pub returns-in-Err-clause-input : goal.returns-in-Err-clause-input
 returns-in-Err-clause-input g c = record {
   whole = λ reads done. absurd (refused_not c.in-Err.error Done refl (sym c.from.ensures ∙ done));
-  unread = nothing_read c.from.result (g.S.Source.left c.args.source.now) (g.S.Source.left c.args.source.now) (g.S.Source.given c.args.source.now) (g.S.Source.given c.args.source.now) refl refl;
+  unread = nothing_read (may_lose (command_of c.args.words.now.items) (every_of (checkpoint_of c.args.words.now.items)) g.P.Disk.is_known) c.from.result _ (refl, refl);
   bound = omega arith;
 }
 
@@ -78,18 +79,18 @@ returns-in-Err-open_store-clause-leaves g c = (
         old = pair_of (g.J.Disk.history c.args.journal) (g.P.Disk.history c.args.pages);
         new = pair_of (g.J.Disk.history refused.journal) (g.P.Disk.history refused.pages);
       } in
-      subst (λ status. Leaves tx_limit (command_of c.args.words.now.items) status o) (sym c.from-in-Err-open_store.ensures) (unopened_leaves tx_limit (command_of c.args.words.now.items) o refused.fault (record { read = refl; silent = refl; any_moment = (c.in-Err-open_store.ensures.any_moment kj kp).any_moment; left = (c.in-Err-open_store.ensures.any_moment kj kp).left })),
+      subst (λ status. Leaves tx_limit (command_of c.args.words.now.items) (every_of (checkpoint_of c.args.words.now.items)) status o) (sym c.from-in-Err-open_store.ensures) (unopened_leaves tx_limit (command_of c.args.words.now.items) (every_of (checkpoint_of c.args.words.now.items)) o refused.fault (record { read = refl; silent = refl; any_moment = (c.in-Err-open_store.ensures.any_moment kj kp).any_moment; left = (c.in-Err-open_store.ensures.any_moment kj kp).left })),
 )
 
 pub returns-in-Err-open_store-clause-silent : goal.returns-in-Err-open_store-clause-silent
 returns-in-Err-open_store-clause-silent g c =
     let held = g.K.Sink.held c.args.sink.now in
-    subst (λ status. IsSilent (command_of c.args.words.now.items) status (held ≡ held)) (sym c.from-in-Err-open_store.ensures) (unopened_silent (command_of c.args.words.now.items) c.in-Err-open_store.field-0.fault (held ≡ held) refl)
+    subst (λ status. IsSilent (command_of c.args.words.now.items) (may_lose (command_of c.args.words.now.items) (every_of (checkpoint_of c.args.words.now.items)) g.P.Disk.is_known) status (held ≡ held)) (sym c.from-in-Err-open_store.ensures) (unopened_silent (command_of c.args.words.now.items) (may_lose (command_of c.args.words.now.items) (every_of (checkpoint_of c.args.words.now.items)) g.P.Disk.is_known) c.in-Err-open_store.field-0.fault (held ≡ held) refl)
 
 pub returns-in-Err-open_store-clause-input : goal.returns-in-Err-open_store-clause-input
 returns-in-Err-open_store-clause-input g c = record {
   whole = λ reads done. absurd (unopened_not_done c.in-Err-open_store.field-0.fault (sym c.from-in-Err-open_store.ensures ∙ done));
-  unread = nothing_read c.from-in-Err-open_store.result (g.S.Source.left c.args.source.now) (g.S.Source.left c.args.source.now) (g.S.Source.given c.args.source.now) (g.S.Source.given c.args.source.now) refl refl;
+  unread = nothing_read (may_lose (command_of c.args.words.now.items) (every_of (checkpoint_of c.args.words.now.items)) g.P.Disk.is_known) c.from-in-Err-open_store.result _ (refl, refl);
   bound = omega arith;
 }
 
@@ -97,6 +98,17 @@ pub returns-in-Err-open_store-clause-damaged : goal.returns-in-Err-open_store-cl
 returns-in-Err-open_store-clause-damaged g c = λ place is. damaged_of _ _ c.in-Err-open_store.field-0.fault place c.in-Err-open_store.ensures.reason (sym c.from-in-Err-open_store.ensures ∙ is)
 
 -- ---- the script ran
+
+pub run_command-requires-clause-tree : goal.run_command-requires-clause-tree
+run_command-requires-clause-tree g c = λ _ _ kp.
+    let store = c.in-Ok-open_store.field-0 in
+    let history = g.P.Disk.history in
+    let held : Held g.row.P.Denot = c.new-base.result in
+    let told_is : told g.P.Disk.is_known history held ≡ contents_after store.layers.changes (map_of_file g.P.Disk.is_known (history store.base.disk).now.reads) =
+    λ i. contents_after (c.new-base.ensures.layers i).changes (map_of_file g.P.Disk.is_known (history (c.new-base.ensures.base i).disk).now.reads) in
+    let seen = known_map g.P.Disk.is_known kp store.layers.changes (history store.base.disk).now.reads in
+    let stored = c.in-Ok-open_store.ensures.tree seen.0 seen.1 in
+    record { tree = stored.tree; stands = record { valid = stored.is_valid_tree; map = told_is ∙ seen.1 ∙ ap Some (sym stored.map) } }
 
 pub returns-in-Ok-open_store-clause-leaves : goal.returns-in-Ok-open_store-clause-leaves
 returns-in-Ok-open_store-clause-leaves g c =
@@ -137,31 +149,36 @@ returns-in-Ok-open_store-clause-leaves g c =
             old = old;
             new = pair_of (g.J.Disk.history c.run_command.result.journal) (history c.run_command.result.pages);
           } in
-          let leaves : OpenedStoreLeaves tx_limit (Some (meant c.in-Ok.read.command)) status o = record {
+          let with_them = run.3 kj kp t is files old in
+          let leaves : OpenedStoreLeaves tx_limit (Some (meant c.in-Ok.read.command)) c.in-Ok.read.checkpoint status o = record {
             tree = t;
             number = store.number;
             stood = stand;
             opening = opening;
             until_open = subst (LeaveWhatStood old) (sym same_pair) (opened.any_moment kj kp);
-            ran = run.3 kj kp t is files old;
+            ran = with_them.ran;
+            pages = with_them.pages;
+            made = with_them.made;
           } in
-          opened_leaves tx_limit (command_of c.args.words.now.items) status o c.run_command.ensures.opened
-          (subst (λ (command : Option Command). OpenedStoreLeaves tx_limit command status o) (sym c.in-Ok.ensures.command) leaves),
+          opened_leaves tx_limit (command_of c.args.words.now.items) (every_of (checkpoint_of c.args.words.now.items)) status o with_them.undamaged
+          (subst (λ (x : Option Command × ℕ). OpenedStoreLeaves tx_limit x.0 x.1 status o) (λ i. (sym c.in-Ok.ensures.command i, every_of (sym c.in-Ok.ensures.checkpoint i))) leaves),
     )
 
 pub returns-in-Ok-open_store-clause-input : goal.returns-in-Ok-open_store-clause-input
 returns-in-Ok-open_store-clause-input g c = record {
   whole = λ reads. c.run_command.ensures.whole (ap reads_input (sym c.in-Ok.ensures.command) ∙ reads);
-  unread = opened_unread c.run_command.result.status _ c.run_command.ensures.opened;
+  unread = opened_unread (may_lose (command_of c.args.words.now.items) (every_of (checkpoint_of c.args.words.now.items)) g.P.Disk.is_known) c.run_command.result.status _ (subst (λ (x : Option Command × ℕ). IsOfOpened (may_lose x.0 x.1 g.P.Disk.is_known) c.run_command.result.status) (λ i. (sym c.in-Ok.ensures.command i, every_of (sym c.in-Ok.ensures.checkpoint i))) c.run_command.ensures.opened);
   bound = c.run_command.ensures.bound;
 }
 
 pub returns-in-Ok-open_store-clause-silent : goal.returns-in-Ok-open_store-clause-silent
 returns-in-Ok-open_store-clause-silent g c =
-    subst (λ (command : Option Command). IsSilent command c.run_command.result.status (g.K.Sink.held c.run_command.new.sink ≡ g.K.Sink.held c.args.sink.now)) (sym c.in-Ok.ensures.command) c.run_command.ensures.silent
+    subst (λ (x : Option Command × ℕ). IsSilent x.0 (may_lose x.0 x.1 g.P.Disk.is_known) c.run_command.result.status (g.K.Sink.held c.run_command.new.sink ≡ g.K.Sink.held c.args.sink.now))
+    (λ i. (sym c.in-Ok.ensures.command i, every_of (sym c.in-Ok.ensures.checkpoint i))) c.run_command.ensures.silent
 
 pub returns-in-Ok-open_store-clause-damaged : goal.returns-in-Ok-open_store-clause-damaged
-returns-in-Ok-open_store-clause-damaged g c = λ place is. absurd (opened_not_damaged c.run_command.result.status place c.run_command.ensures.opened is)
+returns-in-Ok-open_store-clause-damaged g c = λ place is kj kp.
+    absurd (opened_not_damaged _ c.run_command.result.status place c.run_command.ensures.opened (none_lost (Some (meant c.in-Ok.read.command)) c.in-Ok.read.checkpoint g.P.Disk.is_known kp) is)
 
 -- ---- the counts of faults
 

@@ -29,11 +29,11 @@ returns g c =
     let not_usage : (name : Name) → command ≡ Some (put name) → status ≡ Usage → ⊥
     = λ name named is. let no : Some (put name) ≡ None = sym named ∙ c.xtc-status.ensures.usage.0 is in cc in
     record {
-      not_json = λ name why named is. put_not_json empty name _ c.args.input _ _ input_is run.1 held_is refl empty_journal empty_pages command status why named is (run.3 refl refl);
+      not_json = λ name why named is. put_not_json empty name _ _ c.args.input _ _ input_is run.1 held_is refl empty_journal empty_pages command status why named is (run.3 refl refl);
       no_element = λ name why named none short.
-          put_no_element empty name _ c.args.input _ _ input_is run.1 held_is refl empty_journal empty_pages why none short command status named (not_usage name named) not_place (run.3 refl refl);
+          put_no_element empty name _ _ c.args.input _ _ input_is run.1 held_is refl empty_journal empty_pages why none short command status named (not_usage name named) not_place (run.3 refl refl);
       done = λ name named is.
-          put_done empty name _ c.args.input _ _ input_is run.1 held_is refl empty_journal empty_pages (λ element. c.put_is_create.ensures empty_tree 0 tx_limit name element) command status named is (run.3 refl refl);
+          put_done empty name _ _ c.args.input _ _ input_is run.1 held_is refl empty_journal empty_pages (λ element. c.put_is_create.ensures empty_tree 0 tx_limit name element) command status named is (run.3 refl refl);
       once = λ name named is.
-          put_begun empty name _ c.args.input _ _ input_is run.1 held_is refl empty_journal empty_pages c.faults.ensures.reads_an_image c.faults-2.ensures.reads_an_image command status named is (run.3 refl refl);
+          put_begun empty name _ _ c.args.input _ _ input_is run.1 held_is refl empty_journal empty_pages c.faults.ensures.reads_an_image c.faults-2.ensures.reads_an_image command status named is (run.3 refl refl);
     }

@@ -21,17 +21,17 @@ returns g c =
     = λ place is. not_damaged empty _ _ place (ap (λ (h : History). h.now) journal_is) (ap (λ (h : History). h.now) pages_is) (c.xtc-status.ensures.damaged place is refl refl) in
     record {
       done = λ named done.
-          script_done empty _ _ _ c.args.script _ _ named done (run.3 refl refl) script_is run.1 (c.xtc-status.ensures.input.whole (ap reads_input named) done) held_is refl
+          script_done empty _ _ _ _ c.args.script _ _ named done (run.3 refl refl) script_is run.1 (c.xtc-status.ensures.input.whole (ap reads_input named) done) held_is refl
           (ap (λ (h : History). h.now.reads) journal_is) (ap (λ (h : History). h.now.reads) pages_is);
       begun = λ named not_usage.
-          script_begun empty _ c.args.script _ _ script_is run.1 held_is refl (ap (λ (h : History). h.now) journal_is) (ap (λ (h : History). h.now) pages_is)
+          script_begun empty _ _ c.args.script _ _ script_is run.1 held_is refl (ap (λ (h : History). h.now) journal_is) (ap (λ (h : History). h.now) pages_is)
           c.faults.ensures.reads_an_image c.faults-2.ensures.reads_an_image _ c.xtc-status.result.status named not_usage not_place (run.3 refl refl);
       not_damaged = not_place;
       usage = c.xtc-status.ensures.usage.0;
       other_words = λ none. (c.xtc-status.ensures.usage.1 none).0;
       untouched = λ is.
           let files = c.xtc-status.ensures.usage.1 (c.xtc-status.ensures.usage.0 is) in (
-            same_Some _ _ (silent_at_usage _ _ _ is c.xtc-status.ensures.silent ∙ held_is),
+            same_Some _ _ (silent_at_usage _ _ _ _ is c.xtc-status.ensures.silent ∙ held_is),
             ap history_of files.1 ∙ journal_is,
             ap history_of files.2 ∙ pages_is,
           );

@@ -1,0 +1,44 @@
+-- What a checkpoint under a store's sessions leaves of its files.
+use Rattle.std.proofs.Common.{◌≡◌, Bool, refl, subst}
+use Rattle.std.specs.Prelude.{Option, None, Some, option_map, unwrap_or, Ok, Err}
+use Rattle.outside_traits.specs.DiskPairs.{Pair, PairsLeave}
+use Rattle.outside_traits.specs.Moments.{History}
+use Rattle.node_records.specs.declared.open_error.OpenError.{OpenError}
+use Rattle.checkpoint.specs.Bases.{contents_of}
+use Rattle.checkpoint.specs.Checkpoints.{OpenAs}
+use Rattle.checkpoint.specs.Renewals.{InState, IsSettledWith, committed_in, pages_of}
+use Rattle.checkpoint.specs.declared.base.Base.{Base}
+use Rattle.call_contract.specs.States.{State}
+use Rattle.command_lines.specs.declared.command.StoreCall.{StoreCall}
+use Rattle.store_calls.specs.StoreCalls.{store_meaning}
+use Rattle.tx_core.specs.Cores.{CoreView}
+use Rattle.xtc.specs.StoreMachine.{Stands, file_of}
+use Rattle.xtc.specs.inside.Renewing.{LeftStanding, StandFor}
+
+-- the file that a base and pages that were handed out have between them
+pub file_left : {P : Type 0} (history : P → History) (base : Base P) (pages : Option P) → unwrap_or (option_map history pages) (pages_of history base) ≡ file_of history base pages
+file_left history base None = refl
+file_left history base (Some disk) = refl
+
+-- ---- what a crash leaves
+
+module _ {P : Type 0} (is_known : Bool) (history : P → History) (core : CoreView StoreCall (Base P)) (s : State StoreCall) (stands : Stands is_known history core s) where
+  -- what holds of the state that a book has led to holds of that in which the core stands
+  pub in_state : (Q : State StoreCall → Type 0) → InState store_meaning (contents_of is_known history) core Q → Q s
+  in_state Q holds = subst Q stands.state (holds stands.tree stands.opened)
+
+  module _ (old new : Pair) (phases : InState store_meaning (contents_of is_known history) core (λ x. IsSettledWith (committed_in x) old → PairsLeave (OpenAs (committed_in x)) old new)) (files : StandFor s old) where
+    settled : IsSettledWith (committed_in s) old
+    settled = record { opens = files.holds; journal_synced = files.journal; pages_synced = files.pages }
+
+    moments : PairsLeave (OpenAs (committed_in s)) old new
+    moments = in_state (λ x. IsSettledWith (committed_in x) old → PairsLeave (OpenAs (committed_in x)) old new) phases settled
+
+    -- after Ok, and after an error
+    pub left_standing : InState store_meaning (contents_of is_known history) core (λ x. IsSettledWith (committed_in x) old → IsSettledWith (committed_in x) new) → LeftStanding {E = OpenError} s old new (Ok tt)
+    left_standing at_end =
+        let now : IsSettledWith (committed_in s) new = in_state (λ x. IsSettledWith (committed_in x) old → IsSettledWith (committed_in x) new) at_end settled in
+        record { any_moment = moments; at_end = record { journal = now.journal_synced; pages = now.pages_synced; holds = now.opens } }
+
+    pub left_by_error : (e : OpenError) → LeftStanding s old new (Err e)
+    left_by_error e = record { any_moment = moments; at_end = tt }
