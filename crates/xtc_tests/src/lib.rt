@@ -5,6 +5,8 @@
 #[cfg(test)]
 mod cases;
 #[cfg(test)]
+mod checkpoints;
+#[cfg(test)]
 mod documents;
 #[cfg(test)]
 mod generator;

@@ -14,7 +14,7 @@ pub struct Row<'a> {
     pub then: &'a str,
 }
 
-const ROWS: &[Row<'static>] = &[
+pub const ROWS: &[Row<'static>] = &[
     // An append waits for the edge at which another session has seen no child. It is live at the end.
     Row {
         tree: r#"["a"]"#,
@@ -563,6 +563,13 @@ fn with_document(alloc: Global, tree: &str) -> Result<Script, AllocError> {
     script.lines.push_str(tree)?;
     script.add(CREATED)?;
     Ok(script)
+}
+
+/// The lines of a row, behind those that make its document.
+pub fn lines_of_row(alloc: Global, row: &Row<'_>) -> Result<String, AllocError> {
+    let mut first = with_document(alloc, row.tree)?;
+    first.add(row.script)?;
+    Ok(first.lines)
 }
 
 /// Runs a script over a journal of these bytes: it has the replies that stand below its lines.
