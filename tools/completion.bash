@@ -3,7 +3,7 @@ _xtc() {
   if [ "$COMP_CWORD" = 1 ]; then
     mapfile -t COMPREPLY < <(compgen -W "run workers put get query gen" -- "$2")
   elif [[ $2 = -* ]]; then
-    mapfile -t COMPREPLY < <(compgen -W "--frames" -- "$2")
+    mapfile -t COMPREPLY < <(compgen -W "--frames --checkpoint" -- "$2")
   fi
 }
 complete -F _xtc xtc
