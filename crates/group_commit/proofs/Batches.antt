@@ -1,20 +1,18 @@
 -- Commits that are written one batch after another, and what a crash leaves of them.
-use Rattle.std.proofs.Common.{◌≡◌, ◌⊎◌, ⊎_elim, inl, inr, ℕ, ◌+◌, ◌-◌, ◌<◌, ◌≤◌, Bool, true, false, List, [], ◌∷◌, ◌++◌, zero, suc, length, take, Option, Some, None, Ok, IsTrue, refl, sym, ap, ◌∙◌, subst, arith}
+use Rattle.std.proofs.Common.{◌≡◌, ℕ, ◌+◌, ◌-◌, ◌<◌, ◌≤◌, List, [], ◌∷◌, ◌++◌, zero, suc, length, take, Option, Some, None, Ok, IsTrue, refl, sym, ap, ◌∙◌, subst, arith}
 use Rattle.std.specs.Prelude.{slice_get}
 use Rattle.std.proofs.lemmas.Bool.{eq-eqb}
 use Rattle.std.proofs.lemmas.List.{append-nil, length-append, length-map, map-append, take-append-le, take_all}
 use Rattle.node_records.specs.Pending.{FollowOn}
 use Rattle.node_records.specs.declared.pending.Pending.{Pending}
 use Rattle.outside_traits.specs.CrashImages.{IsImage}
-use Rattle.outside_traits.specs.Disks.{DiskState, all_synced}
-use Rattle.outside_traits.specs.Moments.{AllImages, History, IsAllSynced, IsImageSince, LeavesOnly}
+use Rattle.outside_traits.specs.Disks.{DiskState}
+use Rattle.outside_traits.specs.Moments.{AllImages, History, IsAllSynced, LeavesOnly}
 use Rattle.outside_traits.proofs.ImageLaws.{image-all_synced}
-use Rattle.outside_traits.proofs.MomentLaws.{leaves_all}
-use Rattle.journal.specs.Appends.{groups_in, last_number}
+use Rattle.journal.specs.Appends.{last_number}
 use Rattle.journal.specs.Batches.{AddsCommits, HasAddedSince, HasFirst, LeavesAllOrNone, pairs_of, with_commits}
 use Rattle.journal.specs.Groups.{commits_of, is_next, only_commits}
 use Rattle.journal.specs.Journals.{read}
-use Rattle.journal.specs.Views.{JournalView}
 use Rattle.journal.specs.declared.group.Groups.{Groups}
 use Rattle.journal.proofs.BatchRuns.{added_since, all_leave, call_leaves}
 

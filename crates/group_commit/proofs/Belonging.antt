@@ -1,18 +1,16 @@
 -- A member after each of its calls.
 use Rattle.std.proofs.Common.{◌≡◌, ℕ, ◌+◌, ◌<◌, ◌≤◌, Bool, true, false, List, [], ◌∷◌, ◌++◌, length, Option, Some, None, Result, Ok, Err, refl, sym, ap, ◌∙◌, subst, arith, append_assoc}
-use Rattle.std.specs.Prelude.{IfOk, nat_lt, if◌then◌else◌, max, slice_set}
-use Rattle.std.proofs.lemmas.List.{append-nil}
+use Rattle.std.specs.Prelude.{nat_lt, if◌then◌else◌, max}
 use Rattle.std.proofs.Math.Nat.{max-eq_left, max-eq_right}
 use Rattle.tree_model.specs.Entries.{Entries}
 use Rattle.call_contract.specs.Books.{entry}
 use Rattle.call_contract.specs.Calls.{CallMeaning}
-use Rattle.call_contract.specs.Sessions.{commits_in}
 use Rattle.call_contract.specs.declared.events.Event.TheVariants as event
 use Rattle.call_contract.specs.declared.events.EventAnswer.TheVariants as said
 use Rattle.journal.specs.Views.{JournalView}
-use Rattle.turn_lock.specs.Turns.{AreForeign, GoesOn, having_seen as having_marks, having_turn, has_number, longer, PassView}
+use Rattle.turn_lock.specs.Turns.{GoesOn, has_number, longer}
 use Rattle.shared_store.specs.Calls.{HasAborted, HasBegun, HasCommitted}
-use Rattle.shared_store.specs.Lists.{book_of, is_opened}
+use Rattle.shared_store.specs.Lists.{is_opened}
 use Rattle.shared_store.specs.Sessions.{HasDone, having_seen, SessionView}
 use Rattle.shared_store.specs.declared.desk.Entry.{Entry}
 use Rattle.shared_store.specs.declared.desk.Entry.TheVariants as kind
@@ -20,9 +18,7 @@ use Rattle.shared_store.specs.declared.errors.StoreError.{StoreError}
 use Rattle.shared_store.proofs.Waiting.{as_it_was, Grown, grown_on}
 use Rattle.group_commit.specs.Marks.{durable_in, last_commit, marked_by, opening_in}
 use Rattle.group_commit.specs.Members.{Marks, MarksPass, MemberView}
-use Rattle.group_commit.specs.declared.mark.Mark.{Mark}
-use Rattle.group_commit.specs.declared.mark.Mark.TheVariants as mark
-use Rattle.group_commit.specs.inside.Scribes.{began_after, HasSeenOpening, IsMember, marks_in, ScribeView}
+use Rattle.group_commit.specs.inside.Scribes.{IsMember, marks_in, ScribeView}
 use Rattle.group_commit.proofs.Lists.{last_grows, last_on, opened_on}
 use Rattle.group_commit.proofs.MarkLaws.{durable_grows}
 

@@ -1,9 +1,9 @@
 -- A group commit is closed: the session that drains was joined, and the store closed.
-use Rattle.std.proofs.Common.{◌≡◌, ℕ, ◌+◌, ◌<◌, ◌≤◌, Bool, true, false, List, ◌++◌, Option, Some, IsTrue, sym, ap, ◌∙◌, subst, arith}
+use Rattle.std.proofs.Common.{◌≡◌, ℕ, ◌+◌, ◌<◌, ◌≤◌, Bool, true, false, List, ◌++◌, Option, Some, IsTrue, sym, ap, ◌∙◌, subst, arith, lit<}
 use Rattle.tree_model.specs.Entries.{Entries}
 use Rattle.tree_model.specs.Tree.{Tree}
 use Rattle.node_seq.specs.Trees.{StandsFor}
-use Rattle.call_contract.specs.Books.{IsBookFrom}
+use Rattle.call_contract.specs.Books.{Book, IsBookFrom}
 use Rattle.call_contract.specs.Calls.{CallMeaning}
 use Rattle.std.specs.Prelude.{IfSome}
 use Rattle.outside_traits.specs.CrashImages.{IsImage}
@@ -11,19 +11,20 @@ use Rattle.outside_traits.specs.Moments.{IsAllSynced}
 use Rattle.call_contract.specs.Sessions.{commits_in}
 use Rattle.journal.specs.Views.{JournalView}
 use Rattle.turn_lock.specs.Turns.{GoesOn, HasAll, has_number, longer, merged}
+use Rattle.turn_lock.proofs.Numbers.{there_alone}
 use Rattle.shared_store.specs.Lists.{book_of, is_opened, number_of, opening_in, OpensFrom, SessionsFit}
 use Rattle.shared_store.specs.Sessions.{IsOpenedAs, SessionView}
 use Rattle.shared_store.proofs.Done.{book_append}
 use Rattle.shared_store.specs.declared.desk.Entry.{Entry}
 use Rattle.tx_core.specs.Cores.{CoreView}
-use Rattle.group_commit.specs.Closings.{IsAsTold}
+use Rattle.group_commit.specs.Closings.{AreOthers, IsAsTold}
 use Rattle.group_commit.specs.Marks.{last_commit, marked_by}
 use Rattle.group_commit.specs.Members.{MemberView}
-use Rattle.group_commit.specs.inside.Scribes.{IsCounted, IsMember, IsScribe, marks_in, ScribeView}
+use Rattle.group_commit.specs.inside.Scribes.{GoesOnWithout, IsCounted, IsMember, IsScribe, marks_in, ScribeView}
 use Rattle.group_commit.proofs.Bodied.{counted_book}
 use Rattle.group_commit.proofs.Belonging.{opened_member, same_opening}
 use Rattle.group_commit.proofs.Ending.{book_seen, opened_as_seen}
-use Rattle.group_commit.proofs.Lists.{last_grows, opened_on, opening_on}
+use Rattle.group_commit.proofs.Lists.{goes_on_without, last_grows, opened_on, opening_on, without_on}
 use Rattle.group_commit.proofs.Telling.{as_told}
 
 -- s stood behind the turn, d drained, and j is the member's session joined with it
@@ -67,10 +68,18 @@ module _ {C B : Type 0} (meaning : CallMeaning C) (contents : B → Option Entri
   later_book : core.book ≡ book_of s.drainer.seen ++ book_of goes_d.0
   later_book = book ∙ (ap book_of goes_d.1 ∙ (book_append d.seen goes_d.0 ∙ ap (λ (x : SessionView C B). book_of x.seen ++ book_of goes_d.0) same_drainer))
 
+  -- nothing was noted under the number 0 since the group commit was made
+  closed_apart : (added : Book C) × (core.book ≡ book_of s.session.seen ++ added) × AreOthers 0 added
+  closed_apart =
+      let own : has_number d.has 0 ≡ true = ap (λ (x : SessionView C B). has_number x.has 0) same_drainer ∙ (ap (λ (l : List Bool). has_number l 0) keeps.drainer.has ∙ there_alone 0 (lit< tt)) in
+      let drained : GoesOnWithout s.session.seen d.seen = subst (λ (x : SessionView C B). GoesOnWithout s.session.seen x.seen) (sym same_drainer) keeps.drainer.grown in
+      let joined = without_on s.session.seen d.seen j.seen drained (goes_on_without d.has own d.seen j.seen goes_d) in
+      (book_of joined.0, book ∙ (ap book_of joined.1 ∙ book_append s.session.seen joined.0), joined.2)
+
   pub closed_journal : (is_valid : C → Type 0) → ((t : Tree) → StandsFor (contents core.opening) t → IsBookFrom is_valid meaning t core.number core.limit core.book) → HasAll v.pass.has → (w : JournalView) → w ≡ s.journal → (IsTrue known → w.failed ≡ false → IsAllSynced w.history) → (IsTrue known → IsImage w.history.now w.history.now.reads)
       → IsAsTold meaning contents known v.pass.seen core w
   closed_journal is_valid legal all w is_its synced reads =
       subst (λ (x : JournalView). IsAsTold meaning contents known v.pass.seen core x) (sym is_its)
-      (as_told meaning contents known s keeps v.pass.seen v.pass.has all goes is.opening.first is.opening.journal is.opening.marks is.opening.seen core closed_most (book_of goes_d.0) later_book (closed_counted is_valid legal)
+      (as_told meaning contents known s keeps v.pass.seen v.pass.has all goes is.opening.first is.opening.journal is.opening.marks is.opening.seen core closed_most (book_of goes_d.0) later_book closed_apart (closed_counted is_valid legal)
       (subst (λ (x : JournalView). IsTrue known → x.failed ≡ false → IsAllSynced x.history) is_its synced)
       (subst (λ (x : JournalView). IsTrue known → IsImage x.history.now x.history.now.reads) is_its reads))

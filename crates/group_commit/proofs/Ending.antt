@@ -1,18 +1,13 @@
 -- A group commit is closed: what the member's lists tell of the core and of the journal.
-use Rattle.std.proofs.Common.{◌≡◌, ◌≢◌, ◌⊎◌, inl, inr, ℕ, zero, suc, ◌+◌, ◌-◌, ◌<◌, ◌≤◌, Bool, true, false, List, [], ◌∷◌, ◌++◌, length, map, Option, Some, None, IsTrue, Ok, refl, sym, ap, ◌∙◌, subst, arith, true≢false, lit<}
-use Rattle.std.specs.Prelude.{◌==◌, IfSome, nat_lt, if◌then◌else◌}
+use Rattle.std.proofs.Common.{◌≡◌, ℕ, zero, suc, ◌<◌, Bool, true, false, List, [], ◌∷◌, ◌++◌, length, Option, None, refl, sym, ap, ◌∙◌, subst, arith, true≢false, lit<}
+use Rattle.std.specs.Prelude.{IfSome, nat_lt, if◌then◌else◌}
 use Rattle.std.proofs.lemmas.Bool.{false_from_ne_true}
 use Rattle.std.proofs.lemmas.List.{append_assoc, append-nil}
 use mathlib.Core.Logic.{dite}
 use native.Mathlib.Decide.{ℕ_discrete}
-use Rattle.outside_traits.specs.CrashImages.{IsImage}
-use Rattle.outside_traits.specs.Faults.{FaultCounted}
-use Rattle.outside_traits.specs.Moments.{IsAllSynced}
 use Rattle.call_contract.specs.Books.{Book}
 use Rattle.call_contract.specs.Sessions.{live_in}
-use Rattle.journal.specs.Groups.{is_next}
-use Rattle.journal.specs.Views.{JournalView}
-use Rattle.turn_lock.specs.Turns.{AreForeign, GoesOn, HasAll, has_number, is_own, longer, merged, only_number}
+use Rattle.turn_lock.specs.Turns.{AreForeign, GoesOn, HasAll, has_number, longer, merged, only_number}
 use Rattle.turn_lock.proofs.Numbers.{merged_at, only_there, or_left, or_right, there_alone}
 use Rattle.shared_store.specs.Lists.{base_in, book_of, is_opened, limit_in, noted, number_in, number_of, opening_in, SessionsFit}
 use Rattle.shared_store.specs.Sessions.{IsOpenedAs, SessionView}
@@ -21,7 +16,8 @@ use Rattle.shared_store.specs.declared.desk.Entry.TheVariants as kind
 use Rattle.shared_store.proofs.Done.{book_append}
 use Rattle.shared_store.proofs.Waiting.{live_goes_on}
 use Rattle.tx_core.specs.Cores.{CoreView}
-use Rattle.group_commit.specs.inside.Scribes.{AreOthers, GoesOnWithout, IsDrainer}
+use Rattle.group_commit.specs.Closings.{AreOthers}
+use Rattle.group_commit.specs.inside.Scribes.{GoesOnWithout, IsDrainer}
 
 -- all numbers are together
 pub all_together : (has drains : List Bool) → ((n : ℕ) → 0 < n → n < 65 → has_number has n ≡ true) → drains ≡ only_number 0 → HasAll (merged has drains)

@@ -1,5 +1,5 @@
 -- What is handed out once the session that drains has met another.
-use Rattle.std.proofs.Common.{◌≡◌, ◌⊎◌, inl, inr, ℕ, ◌+◌, ◌≤◌, Bool, true, List, [], ◌∷◌, ◌++◌, length, refl, sym, ap, ◌∙◌, subst, lit<, arith}
+use Rattle.std.proofs.Common.{◌≡◌, ◌⊎◌, inl, inr, ℕ, ◌+◌, ◌≤◌, Bool, true, List, [], ◌∷◌, ◌++◌, length, sym, ap, ◌∙◌, subst, lit<, arith}
 use Rattle.std.proofs.lemmas.List.{append-nil}
 use Rattle.node_records.specs.Pending.{FollowOn}
 use Rattle.node_records.specs.declared.pending.Pending.{Pending}
@@ -7,7 +7,7 @@ use Rattle.call_contract.specs.Sessions.{commits_in}
 use Rattle.turn_lock.specs.Turns.{GoesOn, has_number, only_number}
 use Rattle.turn_lock.proofs.Numbers.{there_alone}
 use Rattle.shared_store.specs.Calls.{HasDrained}
-use Rattle.shared_store.specs.Lists.{book_of, drained_from, drained_in, is_opened, number_in, number_of}
+use Rattle.shared_store.specs.Lists.{book_of, drained_in, is_opened, number_in, number_of}
 use Rattle.shared_store.specs.Sessions.{HasDone, having_seen, SessionView}
 use Rattle.shared_store.specs.declared.desk.Entry.{Entry}
 use Rattle.shared_store.specs.declared.desk.Entry.TheVariants as kind

@@ -1,17 +1,16 @@
 -- Members that are made, split, met and joined.
-use Rattle.std.proofs.Common.{◌≡◌, ◌≢◌, ◌⊎◌, inl, inr, ⊎_elim, ℕ, zero, suc, ◌+◌, ◌<◌, ◌≤◌, Bool, true, false, List, [], ◌∷◌, ◌++◌, ◌||◌, length, replicate, Option, Some, None, refl, sym, ap, ◌∙◌, subst, arith, true≢false, lit<}
+use Rattle.std.proofs.Common.{◌≡◌, ◌≢◌, ⊎_elim, ℕ, zero, suc, ◌<◌, Bool, true, false, List, [], ◌∷◌, ◌++◌, ◌||◌, length, replicate, refl, sym, ap, ◌∙◌, subst, arith, true≢false, lit<}
 use Rattle.std.specs.Prelude.{nat_lt, if◌then◌else◌, max, slice_set}
 use Rattle.std.proofs.lemmas.List.{append_assoc, append-nil}
 use Rattle.atomic_table.specs.Seated.{TableId}
 use Rattle.journal.specs.Views.{JournalView}
-use Rattle.turn_lock.specs.Turns.{all_numbers, first_pass, GoesOn, HasAll, has_number, having_numbers, having_seen as having_marks, HasSome, longer, merged, no_numbers, only_number, PassView}
-use Rattle.turn_lock.proofs.Numbers.{all_there, merged_at, only_there, or_left, or_right, or_true, still_there, taken_out, there_alone}
+use Rattle.turn_lock.specs.Turns.{all_numbers, first_pass, GoesOn, HasAll, has_number, having_numbers, having_seen as having_marks, HasSome, longer, merged, only_number}
+use Rattle.turn_lock.proofs.Numbers.{all_there, merged_at, or_left, or_right, or_true, still_there, taken_out, there_alone}
 use Rattle.shared_store.specs.Lists.{is_opened, number_of}
 use Rattle.shared_store.specs.Sessions.{having_seen, SessionView}
 use Rattle.shared_store.specs.declared.desk.Entry.{Entry}
 use Rattle.group_commit.specs.Marks.{durable_in, marked_by}
 use Rattle.group_commit.specs.Members.{GoesOnIn, Marks, MarksPass, MemberView}
-use Rattle.group_commit.specs.declared.mark.Mark.{Mark}
 use Rattle.group_commit.specs.declared.mark.Mark.TheVariants as mark
 use Rattle.group_commit.specs.inside.Scribes.{IsMember}
 use Rattle.group_commit.proofs.Belonging.{durable_longer, member}

@@ -1,5 +1,5 @@
 -- What a store's list tells as it goes on.
-use Rattle.std.proofs.Common.{◌≡◌, ◌≢◌, ℕ, ◌+◌, ◌≤◌, Bool, true, false, List, [], ◌∷◌, ◌++◌, refl, sym, ap, ap₂, ◌∙◌, subst, arith, true≢false, append_assoc}
+use Rattle.std.proofs.Common.{◌≡◌, ℕ, ◌+◌, ◌<◌, ◌≤◌, Bool, true, false, List, [], ◌∷◌, ◌++◌, length, IsTrue, refl, sym, ap, ◌∙◌, arith, true≢false, append_assoc}
 use Rattle.call_contract.specs.Sessions.{commits_in}
 use Rattle.call_contract.proofs.Appends.{commits_append}
 use Rattle.turn_lock.specs.Turns.{AreForeign, GoesOn, has_number}
@@ -7,8 +7,14 @@ use Rattle.shared_store.specs.Lists.{book_of, drained_from, drained_in, is_opene
 use Rattle.shared_store.specs.declared.desk.Entry.{Entry}
 use Rattle.shared_store.specs.declared.desk.Entry.TheVariants as kind
 use Rattle.shared_store.proofs.Done.{book_append}
+use Rattle.group_commit.specs.Closings.{AreOthers}
 use Rattle.group_commit.specs.Marks.{last_commit}
-use Rattle.group_commit.specs.inside.Scribes.{AreOthers, GoesOnWithout}
+use Rattle.group_commit.specs.inside.Scribes.{GoesOnWithout}
+
+-- where a list isn't empty
+pub some_in : {A : Type 0} (xs : List A) (none : Bool) → none ≡ false → (xs ≡ [] → IsTrue none) → 0 < length xs
+some_in [] none is all = absurd (true≢false (sym (all refl) ∙ is))
+some_in (x ∷ xs) none is all = omega arith
 
 module _ {C B : Type 0} where
   pub opened_on : (xs ys : List (Entry C B)) → is_opened xs ≡ true → is_opened (xs ++ ys) ≡ true

@@ -1,9 +1,9 @@
 -- The list behind the journal's turn as it goes on.
-use Rattle.std.proofs.Common.{◌≡◌, ℕ, zero, suc, ◌+◌, ◌<◌, ◌≤◌, Bool, true, List, [], ◌∷◌, ◌++◌, length, refl, sym, ap, ◌∙◌, subst, arith}
+use Rattle.std.proofs.Common.{◌≡◌, ℕ, zero, suc, ◌+◌, ◌≤◌, Bool, List, [], ◌∷◌, ◌++◌, length, refl, ap, ◌∙◌, arith}
 use Rattle.std.specs.Prelude.{Option, Some, None, max}
 use Rattle.std.proofs.Math.Nat.{le-max_left, le-max_right, max-eq_left, max-eq_right, max-le}
-use Rattle.turn_lock.specs.Turns.{AreForeign, AreOwn, HasAll, has_number}
-use Rattle.group_commit.specs.Marks.{AreDurable, durable_in, durables, failure_in, failures, marked_by, opening_in}
+use Rattle.turn_lock.specs.Turns.{AreOwn}
+use Rattle.group_commit.specs.Marks.{AreDurable, durable_in, durables, failure_in, failures, marked_by}
 use Rattle.group_commit.specs.declared.mark.Failed.{Failed}
 use Rattle.group_commit.specs.declared.mark.Mark.{Mark}
 use Rattle.group_commit.specs.declared.mark.Mark.TheVariants as mark
@@ -27,6 +27,13 @@ module _ {S J : Type 0} where
   failure_append (mark.Opening s j ∷ xs) ys none = failure_append xs ys none
   failure_append (mark.Durable n ∷ xs) ys none = failure_append xs ys none
   failure_append (mark.Failure by f ∷ xs) ys none = cc
+
+  -- where a longer list tells no failure
+  pub unfailed_first : (xs ys : List (Mark S J)) → failure_in (xs ++ ys) ≡ None → failure_in xs ≡ None
+  unfailed_first [] ys none = refl
+  unfailed_first (mark.Opening s j ∷ xs) ys none = unfailed_first xs ys none
+  unfailed_first (mark.Durable n ∷ xs) ys none = unfailed_first xs ys none
+  unfailed_first (mark.Failure by f ∷ xs) ys none = none
 
   -- ---- whose they are
 

@@ -1,5 +1,5 @@
 -- What stands behind the journal's turn before and after a batch.
-use Rattle.std.proofs.Common.{◌≡◌, ◌⊎◌, inl, inr, ℕ, zero, suc, ◌+◌, ◌<◌, ◌≤◌, ◌^◌, Bool, true, false, List, [], ◌∷◌, ◌++◌, length, take, Option, Some, None, Result, Ok, Err, IsTrue, refl, sym, ap, ◌∙◌, subst, arith, append_assoc}
+use Rattle.std.proofs.Common.{◌≡◌, ℕ, zero, suc, ◌+◌, ◌-◌, ◌<◌, ◌≤◌, ◌^◌, Bool, true, false, List, [], ◌∷◌, ◌++◌, length, Option, Some, None, Ok, Err, IsTrue, refl, sym, ap, ◌∙◌, subst, arith}
 use Rattle.std.specs.Prelude.{IfSome, is_some, map, if◌then◌else◌}
 use Rattle.std.proofs.lemmas.List.{append-nil, length-append}
 use Rattle.node_records.specs.Pending.{FollowOn}
@@ -15,30 +15,29 @@ use Rattle.outside_traits.specs.Faults.{FaultCounted}
 use Rattle.outside_traits.specs.Moments.{IsAllSynced, IsImageSince}
 use Rattle.outside_traits.proofs.MomentLaws.{leaves_all}
 use Rattle.journal.specs.Appends.{groups_in, last_number}
-use Rattle.journal.specs.Batches.{AddsCommits, HasAddedAll, LeavesAllOrNone, pairs_of, with_commits}
+use Rattle.journal.specs.Batches.{AddsCommits, LeavesAllOrNone, pairs_of}
 use Rattle.journal.specs.Journals.{read}
 use Rattle.journal.specs.Groups.{AreCommits, commits_of, is_next}
 use Rattle.journal.proofs.PendingLaws.{are_commits}
 use Rattle.journal.specs.Views.{JournalView, TakesGroups}
-use Rattle.turn_lock.specs.Turns.{only_number}
 use Rattle.shared_store.specs.Bodies.{bodies_of, HaveLastBodies}
 use Rattle.shared_store.specs.Lists.{book_of, drained_in, is_opened, opening_in, OpensFrom}
 use Rattle.shared_store.proofs.Done.{book_append}
 use Rattle.shared_store.specs.Sessions.{having_seen, SessionView}
 use Rattle.shared_store.specs.declared.desk.Entry.{Entry}
 use Rattle.shared_store.specs.declared.errors.StoreError.{StoreError}
-use Rattle.shared_store.specs.declared.errors.StoreError.TheVariants.{DiskFault, Halted}
-use Rattle.group_commit.specs.Marks.{AreDurable, durable_in, durables, failure_in, failures, last_commit}
-use Rattle.group_commit.specs.Members.{IsAnswered, Marks}
-use Rattle.group_commit.specs.Written.{HasWritten, HoldsFirst, LeavesWritten}
+use Rattle.shared_store.specs.declared.errors.StoreError.TheVariants.{DiskFault, Halted, NoMemory, Session}
+use Rattle.group_commit.specs.Marks.{durable_in, durables, failure_in, failures, last_commit, opening_in as opening_mark}
+use Rattle.group_commit.specs.Members.{AreReached, IsAnswered, IsMadeDurable, Marks}
+use Rattle.group_commit.specs.Written.{HoldsFirst, LeavesWritten}
 use Rattle.group_commit.specs.declared.mark.Failed.{Failed}
 use Rattle.group_commit.specs.declared.mark.Mark.TheVariants as mark
-use Rattle.group_commit.specs.inside.Scribes.{began_after, GoesOnWithout, IsCounted, IsDrainer, IsGoing, IsHalted, IsScribe, IsSettled, marks_in, reached, scribe_of, ScribeView, StandsBy}
-use Rattle.group_commit.proofs.Batches.{added, all_there, fewer, follow_append, last_of, next_of, none_first, none_there, now_of, pairs_length, since, start_within, within}
+use Rattle.group_commit.specs.inside.Scribes.{began_after, GoesOnWithout, IsCounted, IsDrainer, IsGoing, IsScribe, IsSettled, marks_in, reached, scribe_of, ScribeView, StandsBy}
+use Rattle.group_commit.proofs.Batches.{added, all_there, follow_append, last_of, next_of, none_first, none_there, now_of, pairs_length, since, start_within, within}
 use Rattle.group_commit.proofs.Gathered.{IsGathered}
 use Rattle.group_commit.proofs.Lists.{last_on, opened_on, opening_on, without_on}
 use Rattle.group_commit.proofs.Bodied.{batch_behind}
-use Rattle.group_commit.proofs.MarkLaws.{are_durable, durable_told, durables_length, durables_more, failure_told}
+use Rattle.group_commit.proofs.MarkLaws.{are_durable, durable_told, durables_length, durables_more, failure_told, unfailed_first}
 
 -- a usable journal that holds no images
 pub settled_at : (j : JournalView) → IsAllSynced j.history → read j.history.now.reads ≡ Ok (groups_in j.history) → (groups_in j.history).images ≡ None → IsSettled j
@@ -47,6 +46,10 @@ settled_at j synced reads none = record { synced = synced; commits = reads ∙ a
 reached_some : (after n : ℕ) → 0 < n → reached after n ≡ after + n
 reached_some after zero l = absurd (omega arith)
 reached_some after (suc n) l = refl
+
+reached_covers : (after n number : ℕ) → number ≤ after + n → number - after ≤ reached after n - after
+reached_covers after zero number l = omega (arith, l)
+reached_covers after (suc n) number l = omega (arith, l)
 
 module _ {C B : Type 0} where
   -- with these parts
@@ -106,6 +109,13 @@ module _ {C B : Type 0} where
   pub gathered_as : (old new : List (Entry C B)) (bodies slice : List Pending) → slice ≡ bodies → GoesOnWithout old new → FollowOn (drained_in old) bodies → drained_in old + length bodies ≡ last_commit new → drained_in new ≡ last_commit new → IsGathered old new slice
   gathered_as old new bodies slice same grown follow all drained = subst (λ (l : List Pending). IsGathered old new l) (sym same) (record { grown = grown; follow = follow; all = all; drained = drained })
 
+  -- where no call failed all that was gathered is reached
+  pub are_reached : (meaning : CallMeaning C) (contents : B → Option Entries) (known : Bool) (v : ScribeView C B) → IsScribe meaning contents known v → v.failure ≡ None → (number : ℕ) → number ≤ last_commit v.drainer.seen → AreReached (marks_in v) number
+  are_reached meaning contents known v is none number covers =
+      let going : IsGoing meaning contents known v = subst (StandsBy meaning contents known v) none is.stands in
+      let told : durable_in (marks_in v) ≡ reached (began_after v) v.written = told_durable meaning contents known v is ∙ is.durable in
+      subst (λ (k : ℕ). number - began_after v ≤ k - began_after v) (sym told) (reached_covers (began_after v) v.written number (subst (λ (k : ℕ). number ≤ k) going.last covers))
+
   -- ---- a batch
 
   module _ (meaning : CallMeaning C) (contents : B → Option Entries) (known : Bool) (v : ScribeView C B) (is : IsScribe meaning contents known v) (none : v.failure ≡ None) (d : SessionView C B) (ps : List Pending) (kept : d ≡ having_seen d.seen v.drainer) (got : IsGathered v.drainer.seen d.seen ps)
@@ -129,16 +139,6 @@ module _ {C B : Type 0} where
 
     pub reach : Began + v.written + length ps ≡ last_commit d.seen
     reach = ap (λ (k : ℕ). k + length ps) (sym going.drained) ∙ got.all
-
-    -- there is one where a commit behind the last durable one is among them
-    pub some_wait : (number : ℕ) → v.durable < number → Began < number → number ≤ last_commit d.seen → 0 < length ps
-    some_wait number later new covers = go v.written refl
-      where
-        go : (n : ℕ) → v.written ≡ n → 0 < length ps
-        go zero e = omega (arith, reach, e, new, covers)
-        go (suc n) e =
-            let all : v.durable ≡ Began + suc n = is.durable ∙ ap (reached Began) e in
-            omega (arith, reach, e, all, later, covers)
 
     -- numbers fit
     pub last_fits : (k : ℕ) → k ≡ Began + v.written + length ps → k < 2 ^ 32 → v.written + length ps < 2 ^ 32
@@ -241,6 +241,7 @@ module _ {C B : Type 0} where
                 commits = going.commits ++ ps;
                 numbers = numbers;
                 made = made;
+                since = λ is_known. let leaves = since (groups_in v.opening.history) going.commits ps v.opening.history v.journal.history j.history (going.since is_known) (run is_known) in record { more = leaves.more; states = leaves.states };
                 moments = λ is_known. leaves_all (HoldsFirst v.opening (going.commits ++ ps) 0) v.opening.history j.history
                     (since (groups_in v.opening.history) going.commits ps v.opening.history v.journal.history j.history (going.since is_known) (run is_known)) (first_image is_known);
                 now = now;
@@ -250,15 +251,39 @@ module _ {C B : Type 0} where
             };
           }
 
+    -- none waited
+    pub none_waited : ps ≡ [] → IsScribe meaning contents known (with_parts v v.journal d v.written v.durable None)
+    none_waited empty =
+        let long : length ps ≡ 0 = ap length empty in
+        let same : last_commit d.seen ≡ Began + v.written = omega (arith, reach, long) in
+        record {
+          drainer = drainer_stays;
+          durable = is.durable;
+          made = omega (arith, same);
+          stands = record {
+            takes = going.takes;
+            next = going.next;
+            last = same;
+            drained = got.drained ∙ same;
+            faults = going.faults;
+            start = going.start;
+            commits = going.commits;
+            numbers = going.numbers;
+            all = going.all;
+            bodies = λ t opens counted. made_bodies t opens counted ∙ ap (λ (l : List Pending). bodies_of meaning t (book_of v.session.seen) ++ map (λ (p : Pending). p.body) l) (ap (λ (l : List Pending). going.commits ++ l) empty ∙ append-nil going.commits);
+            since = going.since;
+          };
+        }
+
     -- ---- answers
 
-    pub answered_ok : (j : JournalView) (under number k : ℕ) → number ≤ last_commit d.seen → 0 < length ps → k ≡ Began + v.written + length ps → IsScribe meaning contents known (with_parts v j d (v.written + length ps) k None)
-        → IsAnswered (marks_in v) under number (Ok number) (marks_in (with_parts v j d (v.written + length ps) k None))
-    answered_ok j under number k covers some is_last new =
+    -- all that wait were written
+    pub made_ok : (j : JournalView) (under number k : ℕ) → number ≤ last_commit d.seen → IsScribe meaning contents known (with_parts v j d (v.written + length ps) k None)
+        → IsMadeDurable (marks_in v) under number (Ok tt) (marks_in (with_parts v j d (v.written + length ps) k None))
+    made_ok j under number k covers new =
         let after = with_parts v j d (v.written + length ps) k None in (
-          refl,
-          subst (λ (m : ℕ). number ≤ m) (sym (told_durable meaning contents known after new)) (omega (arith, covers, reach, is_last)),
-          (λ l. told_failure v ∙ ap (λ (f : Option Failed). failure_in (failures {S = SessionView C B} {J = JournalView} f)) none),
+          are_reached meaning contents known after new refl number covers,
+          told_failure after,
           durables (Began + v.written) (length ps),
           longer_list,
           are_durable (SessionView C B) JournalView (Began + v.written) (length ps),
@@ -271,15 +296,30 @@ module _ {C B : Type 0} where
             ∙ (durables_more (SessionView C B) JournalView Began v.written (length ps)
             ∙ ap (λ (l : Marks C B). l ++ durables (Began + v.written) (length ps)) (sym (ap (λ (f : Option Failed). durables Began v.written ++ failures f) none ∙ append-nil (durables Began v.written)))))
 
-    pub answered_err : (j : JournalView) (under number faults : ℕ) → v.durable < number → FaultCounted v.opening.faults faults
-        → IsAnswered (marks_in v) under number (Err DiskFault) (marks_in (with_parts v j d v.written v.durable (Some (record { by = under; faults = faults }))))
-    answered_err j under number faults later above = (
-      subst (λ (m : ℕ). m < number) (sym (told_durable meaning contents known v is)) later,
+    -- none waited
+    pub made_already : (under number : ℕ) → number ≤ last_commit d.seen → ps ≡ [] → IsMadeDurable (marks_in v) under number (Ok tt) (marks_in v)
+    made_already under number covers empty =
+        let after = with_parts v v.journal d v.written v.durable None in
+        let same : marks_in after ≡ marks_in v = ap (λ (f : Option Failed). mark.Opening v.session v.opening ∷ (durables Began v.written ++ failures f)) (sym none) in (
+          subst (λ (l : Marks C B). AreReached l number) same (are_reached meaning contents known after (none_waited empty) refl number covers),
+          told_failure v ∙ ap (λ (f : Option Failed). failure_in (failures {S = SessionView C B} {J = JournalView} f)) none,
+          [],
+          sym (append-nil (marks_in v)),
+          tt,
+        )
+
+    pub made_err : (j : JournalView) (under number faults : ℕ) → FaultCounted v.opening.faults faults
+        → IsMadeDurable (marks_in v) under number (Err DiskFault) (marks_in (with_parts v j d v.written v.durable (Some (record { by = under; faults = faults }))))
+    made_err j under number faults above = (
       told_failure v ∙ ap (λ (f : Option Failed). failure_in (failures {S = SessionView C B} {J = JournalView} f)) none,
       faults,
       ap (λ (l : Marks C B). mark.Opening v.session v.opening ∷ (l ++ mark.Failure under faults ∷ [])) (sym (ap (λ (f : Option Failed). durables Began v.written ++ failures f) none ∙ append-nil (durables Began v.written))),
       above,
     )
+
+  -- a call had failed before
+  pub made_halted : (v : ScribeView C B) (under number : ℕ) (failed : Failed) → v.failure ≡ Some failed → IsMadeDurable (marks_in v) under number (Err (Halted failed.faults)) (marks_in v)
+  made_halted v under number failed f = (told_failure v ∙ ap (λ (x : Option Failed). failure_in (failures {S = SessionView C B} {J = JournalView} x)) f, refl)
 
   -- it was durable already
   pub answered_at_once : (meaning : CallMeaning C) (contents : B → Option Entries) (known : Bool) (v : ScribeView C B) → IsScribe meaning contents known v → (under number : ℕ) → number ≤ v.durable → IsAnswered (marks_in v) under number (Ok number) (marks_in v)
@@ -288,13 +328,25 @@ module _ {C B : Type 0} where
       let has : number ≤ durable_in (marks_in v) = subst (λ (m : ℕ). number ≤ m) (sym told) l in
       (refl, has, (λ less. absurd (omega (arith, less, has))), [], sym (append-nil (marks_in v)), tt)
 
-  -- a call had failed before it was durable
-  pub answered_halted : (meaning : CallMeaning C) (contents : B → Option Entries) (known : Bool) (v : ScribeView C B) → IsScribe meaning contents known v → (under number : ℕ) (failed : Failed) → v.durable < number → v.failure ≡ Some failed → IsAnswered (marks_in v) under number (Err (Halted failed.faults)) (marks_in v)
-  answered_halted meaning contents known v is under number failed later f = (
-    subst (λ (m : ℕ). m < number) (sym (told_durable meaning contents known v is)) later,
-    told_failure v ∙ ap (λ (x : Option Failed). failure_in (failures {S = SessionView C B} {J = JournalView} x)) f,
-    refl,
-  )
+  -- all that are visible are durable, so this commit is
+  pub answered_ok : (v : ScribeView C B) (under number : ℕ) (x : Unit {0}) (after : Marks C B) → began_after v < number → IsMadeDurable (marks_in v) under number (Ok x) after → IsAnswered (marks_in v) under number (Ok number) after
+  answered_ok v under number x after new (reached, none, added, list, durable) =
+      let all : number - began_after v ≤ durable_in after - began_after v = subst (λ (o : Option (SessionView C B × JournalView)). IfSome o (λ (x : SessionView C B × JournalView). number - last_commit x.0.seen ≤ durable_in after - last_commit x.0.seen)) (ap opening_mark list) reached in
+      (refl, omega (arith, all, new), (λ less. unfailed_first (marks_in v) added (ap failure_in (sym list) ∙ none)), added, list, durable)
+
+  -- a commit that wasn't durable is refused as all are
+  pub answered_err : (meaning : CallMeaning C) (contents : B → Option Entries) (known : Bool) (v : ScribeView C B) → IsScribe meaning contents known v → (under number : ℕ) (e : StoreError) (after : Marks C B) → v.durable < number
+      → IsMadeDurable (marks_in v) under number (Err e) after → IsAnswered (marks_in v) under number (Err e) after
+  answered_err meaning contents known v is under number e after later = go e
+    where
+      less : durable_in (marks_in v) < number
+      less = subst (λ (m : ℕ). m < number) (sym (told_durable meaning contents known v is)) later
+
+      go : (e : StoreError) → IsMadeDurable (marks_in v) under number (Err e) after → IsAnswered (marks_in v) under number (Err e) after
+      go DiskFault (none, faults, list, above) = (less, none, faults, list, above)
+      go (Halted faults) (failure, list) = (less, failure, list)
+      go NoMemory made = absurd made
+      go (Session why) made = absurd made
 
   -- no call is made: what a crash leaves is what it left before
   pub unchanged : (meaning : CallMeaning C) (contents : B → Option Entries) (known : Bool) (v : ScribeView C B) → IsScribe meaning contents known v → (IsTrue known → v.journal.failed ≡ false → IsAllSynced v.journal.history) → IsTrue known

@@ -1,6 +1,6 @@
 -- What a list behind the journal's turn tells of the journal, once all passes are together.
-use Rattle.std.proofs.Common.{◌≡◌, ℕ, zero, suc, ◌+◌, ◌-◌, ◌<◌, ◌≤◌, Bool, true, false, List, [], ◌∷◌, ◌++◌, length, map, take, append_assoc, Option, Some, None, IsTrue, Ok, refl, sym, ap, ◌∙◌, subst, arith, true≢false}
-use Rattle.std.specs.Prelude.{◌==◌, IfSome}
+use Rattle.std.proofs.Common.{◌≡◌, ℕ, zero, suc, ◌+◌, ◌-◌, ◌<◌, ◌≤◌, Bool, false, List, [], ◌∷◌, ◌++◌, length, map, append_assoc, Option, Some, None, IsTrue, refl, sym, ap, ◌∙◌, subst, arith, true≢false}
+use Rattle.std.specs.Prelude.{IfSome}
 use Rattle.std.proofs.lemmas.Bool.{eqb-true}
 use Rattle.node_records.specs.declared.pending.Pending.{Pending}
 use Rattle.tree_model.specs.Entries.{Entries}
@@ -13,20 +13,18 @@ use Rattle.outside_traits.specs.Faults.{FaultCounted}
 use Rattle.outside_traits.specs.Moments.{IsAllSynced}
 use Rattle.outside_traits.proofs.MomentLaws.{leaves_all}
 use Rattle.journal.specs.Appends.{groups_in}
-use Rattle.journal.specs.Batches.{HasFirst, pairs_of, with_commits}
-use Rattle.journal.specs.Groups.{commits_of, is_next}
-use Rattle.journal.specs.Journals.{read}
+use Rattle.journal.specs.Batches.{pairs_of}
+use Rattle.journal.specs.Groups.{is_next}
 use Rattle.journal.specs.Views.{JournalView}
-use Rattle.journal.specs.declared.group.Groups.{Groups}
 use Rattle.turn_lock.specs.Turns.{AreForeign, GoesOn, HasAll}
 use Rattle.shared_store.specs.Bodies.{bodies_of}
 use Rattle.shared_store.specs.Lists.{book_of, OpensFrom}
 use Rattle.shared_store.specs.Sessions.{SessionView}
 use Rattle.tx_core.specs.Cores.{CoreView}
-use Rattle.group_commit.specs.Closings.{IsAsTold, IsUnfailed}
+use Rattle.group_commit.specs.Closings.{AreOthers, IsAsTold}
 use Rattle.group_commit.specs.Marks.{durable_in, durables, failure_in, failures, last_commit, marked_by, opening_in}
 use Rattle.group_commit.specs.Members.{Marks}
-use Rattle.group_commit.specs.Written.{HasWritten, HaveBodies, HoldsFirst}
+use Rattle.group_commit.specs.Written.{HaveBodies, HoldsFirst}
 use Rattle.group_commit.specs.declared.mark.Failed.{Failed}
 use Rattle.group_commit.specs.declared.mark.Mark.{Mark}
 use Rattle.group_commit.specs.declared.mark.Mark.TheVariants as mark
@@ -83,7 +81,7 @@ same_last k n t = let e : n + 1 ≡ k + 1 = eqb-true (n + 1) (k + 1) t in omega 
 
 module _ {C B : Type 0} (meaning : CallMeaning C) (contents : B → Option Entries) (known : Bool) (s : ScribeView C B) (is : IsScribe meaning contents known s) (seen : Marks C B) (has : List Bool) (all : HasAll has) (goes : GoesOn marked_by has seen (marks_in s)) (first : SessionView C B) (j : JournalView) (marks : Marks C B)
     (begins : seen ≡ mark.Opening first j ∷ marks) (core : CoreView C B)
-    (made : last_commit s.drainer.seen ≤ core.number + commits_in core.book) (later : Book C) (is_book : core.book ≡ book_of s.drainer.seen ++ later) (counted : (t : Tree) → OpensFrom contents s.session.seen t → IsCounted core.book) where
+    (made : last_commit s.drainer.seen ≤ core.number + commits_in core.book) (later : Book C) (is_book : core.book ≡ book_of s.drainer.seen ++ later) (apart : (added : Book C) × (core.book ≡ book_of s.session.seen ++ added) × AreOthers 0 added) (counted : (t : Tree) → OpensFrom contents s.session.seen t → IsCounted core.book) where
   abbrev most : ℕ
   most = core.number + commits_in core.book
 
@@ -132,12 +130,14 @@ module _ {C B : Type 0} (meaning : CallMeaning C) (contents : B → Option Entri
         commits = going.commits;
         numbers = going.numbers;
         made = (let a = going.all in let m = is.made in omega (arith, a, m, made));
+        since = λ is_known. record { more = (going.since is_known).leaves.more; states = (going.since is_known).leaves.states };
         moments = λ is_known. leaves_all (HoldsFirst s.opening going.commits 0) s.opening.history s.journal.history (going.since is_known).leaves (first_image is_known);
         now = now;
         read = λ is_known. now is_known s.journal.history.now.reads (reads is_known);
       };
       bodies = has_bodies going.commits going.bodies;
-      unfailed = λ unfailed. record { takes = going.takes; last = last s.journal.last going.next };
+      idle = apart;
+      unfailed = λ unfailed. record { takes = going.takes; faults = going.faults; last = last s.journal.last going.next };
       failed = failed (failure_in seen) refl;
     }
       where
@@ -151,11 +151,11 @@ module _ {C B : Type 0} (meaning : CallMeaning C) (contents : B → Option Entri
             fewer (groups_in s.opening.history) (pairs_of going.commits) (length (pairs_of going.commits)) Least (omega (arith, count, l)) image
             (all_there (groups_in s.opening.history) (pairs_of going.commits) s.journal.history (synced is_known going.takes.unfailed) (going.since is_known).now image at)
 
-        last : (o : Option ℕ) → IsTrue (is_next o (began_after s + s.written + 1)) → IfSome o (λ n. (durable_in seen ≤ n) × (n ≤ most))
+        last : (o : Option ℕ) → IsTrue (is_next o (began_after s + s.written + 1)) → IfSome o (λ n. (began_after s + Least ≤ n) × (n ≤ most))
         last None t = tt
         last (Some n) t =
             let e : n ≡ began_after s + s.written = same_last n (began_after s + s.written) t in
-            let l = known_durable in
+            let l = least_written in
             let m = is.made in
             (omega (arith, e, l), omega (arith, e, m, made))
 
@@ -172,11 +172,13 @@ module _ {C B : Type 0} (meaning : CallMeaning C) (contents : B → Option Entri
         commits = halted.holds.commits;
         numbers = halted.holds.numbers;
         made = (let m = halted.holds.made in omega (arith, m, made));
+        since = halted.holds.since;
         moments = halted.holds.moments;
         now = λ is_known image at. fewer (groups_in s.opening.history) (pairs_of halted.holds.commits) s.written Least least_written image (halted.holds.now is_known image at);
         read = λ is_known. fewer (groups_in s.opening.history) (pairs_of halted.holds.commits) s.written Least least_written s.journal.history.now.reads (halted.holds.read is_known);
       };
       bodies = has_bodies halted.holds.commits halted.bodies;
+      idle = apart;
       unfailed = λ none. absurd (unseen none);
       failed = failed (failure_in seen) refl;
     }

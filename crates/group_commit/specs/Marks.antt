@@ -1,5 +1,5 @@
 -- The list behind the journal's turn: the opening, then the numbers of the commits that were made durable since, then the failure if there was one.
-use Rattle.std.specs.Prelude.{◌≡◌, ℕ, zero, suc, ◌+◌, max, List, [], ◌∷◌, Option, Some, None}
+use Rattle.std.specs.Prelude.{ℕ, zero, suc, ◌+◌, max, List, [], ◌∷◌, Option, Some, None}
 use Rattle.call_contract.specs.Sessions.{commits_in}
 use Rattle.shared_store.specs.Lists.{book_of, number_in}
 use Rattle.shared_store.specs.declared.desk.Entry.{Entry}

@@ -1,5 +1,5 @@
 -- A member and a group commit as contracts see them, and how a commit is answered.
-use Rattle.std.specs.Prelude.{◌≡◌, ℕ, ◌<◌, ◌≤◌, Bool, false, slice_set, List, [], ◌∷◌, ◌++◌, Option, Some, None, Result, Ok, Err, IfOk, IfSome, OnErr, OnOk}
+use Rattle.std.specs.Prelude.{◌≡◌, ℕ, ◌-◌, ◌<◌, ◌≤◌, false, slice_set, List, [], ◌∷◌, ◌++◌, Option, Some, None, Result, Ok, Err, IfOk, IfSome, OnErr, OnOk}
 use Rattle.atomic_table.specs.Seated.{TableId}
 use Rattle.outside_traits.specs.Faults.{FaultCounted}
 use Rattle.tree_model.specs.Entries.{Entries}
@@ -12,7 +12,7 @@ use Rattle.shared_store.specs.Lists.{book_of, number_of}
 use Rattle.shared_store.specs.Sessions.{HasDone, having_seen, SessionView}
 use Rattle.shared_store.specs.declared.errors.StoreError.{StoreError}
 use Rattle.shared_store.specs.declared.errors.StoreError.TheVariants.{DiskFault, Halted}
-use Rattle.group_commit.specs.Marks.{AreDurable, durable_in, failure_in, marked_by, opening_in}
+use Rattle.group_commit.specs.Marks.{AreDurable, durable_in, failure_in, last_commit, marked_by, opening_in}
 use Rattle.group_commit.specs.declared.mark.Mark.{Mark}
 use Rattle.group_commit.specs.declared.mark.Mark.TheVariants as mark
 
@@ -105,3 +105,27 @@ module _ {C B : Type 0} where
     pub journal : IfOk visible (λ number. HasTurned p.pass q.pass p.session.under number result)
     pub refused : OnErr visible ((result ≡ visible) × (q.pass ≡ p.pass))
     pub ended : OnOk visible (live_in (book_of q.session.seen) q.session.under ≡ None)
+
+  -- ---- all that a member has seen
+
+  -- the commits up to this number are durable: those that were made since the group commit was
+  abbrev pub AreReached : Marks C B → ℕ → Type 0
+  AreReached marks number = IfSome (opening_in marks) (λ o. number - last_commit o.0.seen ≤ durable_in marks - last_commit o.0.seen)
+
+  -- How a member that works under a number is answered that asks for all commits up to one to be durable, where the journal's list was found so.
+  -- They are, and no call has failed; or this call failed at the journal; or one had failed before.
+  abbrev pub IsMadeDurable : Marks C B → ℕ → ℕ → Result (Unit {0}) StoreError → Marks C B → Type 0
+  IsMadeDurable found under number (Ok x) after =
+      AreReached after number × (failure_in after ≡ None) × (added : Marks C B) × (after ≡ found ++ added) × AreDurable added
+  IsMadeDurable found under number (Err DiskFault) after =
+      (failure_in found ≡ None) × (faults : ℕ) × (after ≡ found ++ mark.Failure under faults ∷ []) × IsLater found faults
+  IsMadeDurable found under number (Err (Halted faults)) after = (failure_in found ≡ Some faults) × (after ≡ found)
+  IsMadeDurable found under number (Err e) after = ⊥
+
+  -- the journal's turn was taken, all commits that the session has seen were asked to be durable, with this answer, and the turn was given
+  pub record HasMadeDurable (p q : MemberView C B) (result : Result (Unit {0}) StoreError) : Type 0 where
+    pub session : q.session ≡ p.session
+    pub same : q.pass ≡ having_marks q.pass.seen p.pass
+    pub found : Marks C B
+    pub goes_on : GoesOn marked_by p.pass.has p.pass.seen found
+    pub answered : IsMadeDurable found p.session.under (last_commit p.session.seen) result q.pass.seen

@@ -4,7 +4,7 @@ use Rattle.node_records.specs.Pending.{FollowOn}
 use Rattle.node_records.specs.declared.pending.Pending.{Pending}
 use Rattle.tree_model.specs.Tree.{Tree}
 use Rattle.outside_traits.specs.CrashImages.{IsImage}
-use Rattle.outside_traits.specs.Moments.{History, IsImageSince}
+use Rattle.outside_traits.specs.Moments.{History, IsImageSince, Since}
 use Rattle.call_contract.specs.Books.{Book}
 use Rattle.call_contract.specs.Calls.{CallMeaning}
 use Rattle.journal.specs.Appends.{groups_in}
@@ -22,6 +22,8 @@ pub record HasWritten (is_known : Bool) (first : JournalView) (after least most 
   pub numbers : FollowOn after commits
   -- the store has made each of them
   pub made : after + length commits ≤ most
+  -- the journal's disk has gone on
+  pub since : IsTrue is_known → Since first.history journal.history
   -- at each moment a crash leaves some first of them; now so many at least, and a read gives as many
   pub moments : IsTrue is_known → (image : List ℕ) → IsImageSince first.history journal.history image → HoldsFirst first commits 0 image
   pub now : IsTrue is_known → (image : List ℕ) → IsImage journal.history.now image → HoldsFirst first commits least image

@@ -4,11 +4,11 @@ ghost use Rattle.call_contract.specs.Sessions.{live_in};
 ghost use Rattle.journal.specs.Groups.{is_next};
 ghost use Rattle.journal.specs.Views.{TakesGroups};
 ghost use Rattle.turn_lock.specs.Turns.{first_pass, HasAll, has_number};
-ghost use Rattle.shared_store.specs.Lists.{book_of, drained_in};
+ghost use Rattle.shared_store.specs.Lists.{book_of, drained_in, SessionsFit};
 ghost use Rattle.shared_store.specs.Sessions.{IsOpenedAs};
 ghost use Rattle.group_commit.specs.Closings.{IsAsTold};
 ghost use Rattle.group_commit.specs.Marks.{last_commit};
-ghost use Rattle.group_commit.specs.Members.{GoesOnIn, HasCommittedAll, IsOf, joined, met, only_with, without_number};
+ghost use Rattle.group_commit.specs.Members.{GoesOnIn, HasCommittedAll, HasMadeDurable, IsOf, joined, met, only_with, without_number};
 ghost use Rattle.group_commit.specs.declared.mark.Mark.TheVariants as mark;
 
 use crate::member::Member;
@@ -132,6 +132,25 @@ impl<C: TreeCall + Drop, B: NodeRead + Drop, J: Disk> GroupCommit<C, B, J> {
         result
     }
 
+    /// Makes all commits durable that the member has seen, with all others that are visible by now. Where all are, it makes no call of the disk.
+    pub fn make_durable<R: Wait>(
+        &self,
+        rt: &R,
+        alloc: Global,
+        member: &mut Member<C, B, J>,
+    ) -> Result<(), StoreError>
+        requires { IsOf self.now member.old }
+        ensures { HasMadeDurable member.old member.new result }
+    {
+        let mut turn = self.lock.take(rt, &mut member.pass);
+        let result = turn
+            .value
+            .settle_all(rt, alloc, &self.store, &mut member.session);
+        member.durable = turn.value.durable();
+        self.lock.give(&mut member.pass, turn);
+        result
+    }
+
     /// A new member, whose session works under a number that this one gives it. It has seen the same.
     pub fn split(&self, member: &mut Member<C, B, J>, number: u32) -> Member<C, B, J>
         requires group { IsOf self.now member.old }
@@ -186,6 +205,7 @@ impl<C: TreeCall + Drop, B: NodeRead + Drop, J: Disk> GroupCommit<C, B, J> {
         requires all { HasAll member.pass.has }
         ensures book { result.0.book ≡ book_of member.session.seen }
         ensures opened { IsOpenedAs B.unchanged member.session.seen result.0 }
+        ensures sessions { SessionsFit result.0.book }
         ensures journal { IsAsTold C.meaning B.contents J.is_known member.pass.seen result.0 result.1 }
     {
         let GroupCommit { store, lock } = self;

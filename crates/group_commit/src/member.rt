@@ -1,8 +1,9 @@
 //! A member of a group commit: a session of the store, with a pass of the journal's turn.
-ghost use Rattle.std.specs.Prelude.{◌≡◌, ◌≢◌, None};
+ghost use Rattle.std.specs.Prelude.{◌≡◌, ◌≢◌, ◌<◌, ℕ, None, true};
 ghost use Rattle.call_contract.specs.Sessions.{live_in};
 ghost use Rattle.shared_store.specs.Calls.{HasAborted, HasBegun, HasTried, HasTriedAgain};
-ghost use Rattle.shared_store.specs.Lists.{book_of};
+ghost use Rattle.shared_store.specs.Lists.{book_of, is_opened};
+ghost use Rattle.turn_lock.specs.Turns.{has_number};
 ghost use Rattle.shared_store.specs.Sessions.{HasDone};
 ghost use Rattle.shared_store.specs.Waits.{HasCalled};
 ghost use Rattle.group_commit.specs.Marks.{durable_in};
@@ -113,6 +114,24 @@ impl<C: TreeCall + Drop, B: NodeRead + Drop, J: Disk> Member<C, B, J> {
         ensures pass { self.new.pass ≡ self.old.pass }
     {
         self.session.abort(rt, store)
+    }
+
+    /// Whether the session has a number.
+    pub fn has(&self, number: u32) -> bool
+        ensures { result ≡ has_number self.now.session.has number }
+    {
+        self.session.has(number)
+    }
+
+    /// The number that the session works under, which it has. What it has seen begins with the opening; the pass has each number that the session has.
+    pub fn number(&self) -> u32
+        ensures number { result ≡ self.now.session.under }
+        ensures own { has_number self.now.session.has self.now.session.under ≡ true }
+        ensures small { self.now.session.under < 65 }
+        ensures opened { is_opened self.now.session.seen ≡ true }
+        ensures pass { (n : ℕ) → n < 65 → has_number self.now.session.has n ≡ true → has_number self.now.pass.has n ≡ true }
+    {
+        self.session.number()
     }
 
     /// The greatest number of a durable commit that it has seen, 0 where it has seen none.

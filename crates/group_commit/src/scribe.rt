@@ -7,7 +7,7 @@ ghost use Rattle.journal.specs.Groups.{is_next};
 ghost use Rattle.journal.specs.Views.{TakesGroups};
 ghost use Rattle.shared_store.specs.Lists.{book_of, drained_in, is_opened};
 ghost use Rattle.group_commit.specs.Marks.{durable_in, last_commit};
-ghost use Rattle.group_commit.specs.Members.{IsAnswered};
+ghost use Rattle.group_commit.specs.Members.{IsAnswered, IsMadeDurable};
 ghost use Rattle.group_commit.specs.Written.{LeavesWritten};
 ghost use Rattle.group_commit.specs.inside.Scribes.{began_after, IsScribe, marks_in, scribe_of};
 
@@ -141,12 +141,33 @@ impl<C: TreeCall + Drop, B: NodeRead + Drop, J: Disk> Scribe<C, B, J> {
         if number <= self.durable {
             return Ok(number);
         }
+        self.settle_all(rt, alloc, store, session)?;
+        Ok(number)
+    }
+
+    /// Makes all commits durable that are visible by now, those that the session has seen among them. Where all are, the journal's disk isn't called.
+    pub fn settle_all<R: Wait>(
+        &mut self,
+        rt: &R,
+        alloc: Global,
+        store: &Store<C, B>,
+        session: &mut Session<C, B>,
+    ) -> Result<(), StoreError>
+        requires store { (self.old.session.lock ≡ store.now) × (session.old.lock ≡ store.now) }
+        ensures session { session.new ≡ session.old }
+        ensures opening { (self.new.session ≡ self.old.session) × (self.new.opening ≡ self.old.opening) }
+        ensures answer { IsMadeDurable (marks_in self.old) session.old.under (last_commit session.old.seen) result (marks_in self.new) }
+        ensures moments { IsTrue J.is_known → LeavesWritten self.old.opening (began_after self.old) self.old.written
+            (last_commit self.new.drainer.seen) self.old.journal.history self.new.journal.history }
+    {
+        // Called for its contract: between two calls of the journal all is synced.
+        self.journal.is_usable();
         if let Some(failed) = &self.failure {
             return Err(StoreError::Halted {
                 faults: failed.faults,
             });
         }
-        self.write(rt, alloc, store, session, number)
+        self.write(rt, alloc, store, session)
     }
 
     // Writes all commits that are visible by now.
@@ -156,29 +177,29 @@ impl<C: TreeCall + Drop, B: NodeRead + Drop, J: Disk> Scribe<C, B, J> {
         alloc: Global,
         store: &Store<C, B>,
         session: &mut Session<C, B>,
-        number: u32,
-    ) -> Result<u32, StoreError>
+    ) -> Result<(), StoreError>
         requires store { (self.old.session.lock ≡ store.now) × (session.old.lock ≡ store.now) }
-        requires number { (number ≡ last_commit session.old.seen) × (began_after self.old < number) }
-        requires later { self.old.durable < number }
         requires unfailed { self.old.failure ≡ None }
         ensures session { session.new ≡ session.old }
         ensures opening { (self.new.session ≡ self.old.session) × (self.new.opening ≡ self.old.opening) }
-        ensures answer { IsAnswered (marks_in self.old) session.old.under number result (marks_in self.new) }
+        ensures answer { IsMadeDurable (marks_in self.old) session.old.under (last_commit session.old.seen) result (marks_in self.new) }
         ensures moments { IsTrue J.is_known → LeavesWritten self.old.opening (began_after self.old) self.old.written
             (last_commit self.new.drainer.seen) self.old.journal.history self.new.journal.history }
     {
-        let commits = gather(rt, alloc, store, &mut self.drainer, session);
-        let pending = commits.as_slice();
         // Called for its contract: between two calls of the journal all is synced.
         self.journal.is_usable();
+        let commits = gather(rt, alloc, store, &mut self.drainer, session);
+        if commits.is_empty() {
+            return Ok(());
+        }
+        let pending = commits.as_slice();
         let appended = self.journal.append_groups(pending);
         let faults = self.journal.faults();
         match appended {
             Ok(()) => {
                 self.durable = last_number(pending);
                 self.written += pending.len() as u32;
-                Ok(number)
+                Ok(())
             }
             Err(_) => {
                 let by = session.number();

@@ -1,5 +1,5 @@
 -- The value behind the journal's turn, and what its type keeps.
-use Rattle.std.specs.Prelude.{◌≡◌, ◌≢◌, ℕ, zero, suc, ◌+◌, ◌<◌, ◌≤◌, Bool, true, false, List, [], ◌∷◌, ◌++◌, length, map, Option, Some, None, Ok, IsTrue}
+use Rattle.std.specs.Prelude.{◌≡◌, ℕ, zero, suc, ◌+◌, ◌<◌, ◌≤◌, Bool, true, false, List, ◌∷◌, ◌++◌, length, map, Option, Some, None, Ok, IsTrue}
 use Rattle.outside_traits.specs.Moments.{IsAllSynced}
 use Rattle.outside_traits.specs.Faults.{FaultCounted}
 use Rattle.node_records.specs.Pending.{FollowOn}
@@ -19,6 +19,7 @@ use Rattle.shared_store.specs.Bodies.{bodies_of}
 use Rattle.shared_store.specs.Lists.{book_of, drained_in, is_opened, OpensFrom}
 use Rattle.shared_store.specs.Sessions.{SessionView}
 use Rattle.shared_store.specs.declared.desk.Entry.{Entry}
+use Rattle.group_commit.specs.Closings.{AreOthers}
 use Rattle.group_commit.specs.Marks.{durable_in, durables, failures, last_commit}
 use Rattle.group_commit.specs.Members.{Marks, MemberView}
 use Rattle.group_commit.specs.Written.{HasWritten}
@@ -43,11 +44,6 @@ scribe_of journal drainer session opening written durable failure =
 abbrev pub reached : ℕ → ℕ → ℕ
 reached after zero = 0
 reached after (suc n) = after + suc n
-
--- no entry of the book is of this session
-abbrev pub AreOthers : {C : Type 0} → ℕ → Book C → Type 0
-AreOthers s [] = Unit {0}
-AreOthers s (n ∷ ns) = (n.session ≢ s) × AreOthers s ns
 
 -- each commit of the book ends a transaction
 abbrev pub IsCounted : {C : Type 0} → Book C → Type 0

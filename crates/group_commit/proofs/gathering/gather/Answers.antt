@@ -1,5 +1,3 @@
-use Rattle.std.proofs.Common.{◌≡◌, sym, ap, ◌∙◌}
-use Rattle.shared_store.specs.Sessions.{having_seen, SessionView}
 use Rattle.group_commit.proofs.Gathered.{covered, drainer_is, gathered, met_as}
 use Rattle.group_commit.proofs.gathering.gather.Goals as goal
 

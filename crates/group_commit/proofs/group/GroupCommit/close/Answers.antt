@@ -1,4 +1,4 @@
-use Rattle.std.proofs.Common.{◌≡◌, ◌+◌, ◌<◌, ℕ, true, ap, sym, subst, ◌∙◌}
+use Rattle.std.proofs.Common.{◌≡◌, ◌<◌, ℕ, true, ap, sym, subst, ◌∙◌}
 use Rattle.std.specs.Prelude.{None}
 use Rattle.call_contract.specs.Sessions.{live_in}
 use Rattle.turn_lock.specs.Turns.{HasAll, has_number}
@@ -59,6 +59,9 @@ returns-clause-opened g c =
     subst (λ (v : MemberView _ _). IsOpenedAs g.B.NodeRead.unchanged v.session.seen c.close-core.result) c.member.view_is
     (closed_opened g.C.TreeCall.meaning g.B.NodeRead.contents g.J.Disk.is_known (member m.session m.pass) m.durable c.member.invariant c.close.result c.into_parts-journal.ensures.keeps c.close.ensures c.into_parts-journal.result.1 c.join.new.session c.into_parts-journal.ensures.drainer c.join.ensures.kept c.join.ensures.goes_on
     c.join.ensures.other_goes_on g.B.NodeRead.unchanged c.close-core.result c.close-core.ensures.book c.close-core.ensures.opened)
+
+pub returns-clause-sessions : goal.returns-clause-sessions
+returns-clause-sessions g c = c.close-core.ensures.sessions
 
 pub returns-clause-journal : goal.returns-clause-journal
 returns-clause-journal g c =

@@ -5,7 +5,7 @@ use Rattle.shared_store.specs.Sessions.{SessionView}
 use Rattle.group_commit.specs.Members.{GroupView, HasCommittedAll, IsAnswered, MemberView}
 use Rattle.group_commit.specs.inside.Scribes.{marks_in}
 use Rattle.group_commit.proofs.Belonging.{done_grown, grown_committed, member, member_stays}
-use Rattle.group_commit.proofs.Committing.{gives, opening_lock, refused, settle_number, turned, turned_member, visible}
+use Rattle.group_commit.proofs.Committing.{answered_adds, gives, opening_lock, refused, settle_number, turned, turned_member, visible}
 use Rattle.group_commit.proofs.group.GroupCommit.commit.Goals as goal
 
 pub settle-result-requires-clause-store : goal.settle-result-requires-clause-store
@@ -28,7 +28,7 @@ give-requires-clause-grew g c =
     let m = c.member.inside in
     let stays = member_stays m.session c.commit.new.self m.pass m.durable c.member.invariant c.commit.ensures.done.same
     (done_grown m.session c.commit.new.self _ c.commit.ensures.done (grown_committed g.B.NodeRead.contents g.C.TreeCall.meaning c.commit.ensures.done.before c.commit.new.self.seen m.session.under c.commit.result c.commit.ensures.done.did)) in
-    gives m.pass c.take-turn.new.pass c.take-turn.new.pass _ _ c.take-turn.ensures.pass c.commit.new.self.under c.in_ok-number.number c.settle-result.result stays.own c.settle-result.ensures.answer
+    gives m.pass c.take-turn.new.pass c.take-turn.new.pass _ _ c.take-turn.ensures.pass (answered_adds m.pass.has (marks_in c.take-turn.result.value) (marks_in c.settle-result.new.self) c.commit.new.self.under c.in_ok-number.number c.settle-result.result stays.own c.settle-result.ensures.answer)
 
 -- what the session's own call was answered, where that isn't a number
 pub invariant_of-member : goal.invariant_of-member
@@ -51,8 +51,8 @@ invariant_of-member-2 g c =
     let m = c.member.inside in
     let stays = member_stays m.session c.commit.new.self m.pass m.durable c.member.invariant c.commit.ensures.done.same
     (done_grown m.session c.commit.new.self _ c.commit.ensures.done (grown_committed g.B.NodeRead.contents g.C.TreeCall.meaning c.commit.ensures.done.before c.commit.new.self.seen m.session.under c.commit.result c.commit.ensures.done.did)) in
-    turned_member m.pass c.take-turn.new.pass c.give.new.pass _ _ c.take-turn.ensures.pass c.give.ensures.pass c.commit.new.self c.settle-result.new.session m.durable c.durable-member-inside.result c.in_ok-number.number c.settle-result.result
-    stays c.settle-result.ensures.session c.take-turn.ensures.goes_on c.settle-result.ensures.answer c.durable-member-inside.ensures
+    turned_member m.pass c.take-turn.new.pass c.give.new.pass _ _ c.take-turn.ensures.pass c.give.ensures.pass c.commit.new.self c.settle-result.new.session m.durable c.durable-member-inside.result
+    stays c.settle-result.ensures.session c.take-turn.ensures.goes_on (answered_adds m.pass.has (marks_in c.take-turn.result.value) (marks_in c.settle-result.new.self) c.commit.new.self.under c.in_ok-number.number c.settle-result.result stays.own c.settle-result.ensures.answer) c.durable-member-inside.ensures
 
 pub returns : goal.returns
 returns g c =

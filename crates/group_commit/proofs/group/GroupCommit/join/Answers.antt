@@ -3,7 +3,6 @@ use Rattle.std.specs.Prelude.{None}
 use Rattle.call_contract.specs.Sessions.{live_in}
 use Rattle.turn_lock.specs.Turns.{longer, PassView}
 use Rattle.shared_store.specs.Lists.{book_of}
-use Rattle.shared_store.specs.Sessions.{SessionView}
 use Rattle.group_commit.specs.Members.{GoesOnIn, GroupView, joined, MemberView}
 use Rattle.group_commit.proofs.Belonging.{member}
 use Rattle.group_commit.proofs.Grouping.{goes_on_in, member_joined}

@@ -1,6 +1,5 @@
-use Rattle.std.proofs.Common.{◌≡◌, ap, sym, subst, ◌∙◌}
+use Rattle.std.proofs.Common.{ap, sym, subst, ◌∙◌}
 use Rattle.turn_lock.specs.Turns.{longer, PassView}
-use Rattle.shared_store.specs.Sessions.{SessionView}
 use Rattle.group_commit.specs.Members.{GoesOnIn, GroupView, MemberView, met}
 use Rattle.group_commit.proofs.Belonging.{member}
 use Rattle.group_commit.proofs.Grouping.{goes_on_in, member_met, same_member}

@@ -1,7 +1,7 @@
-use Rattle.std.proofs.Common.{◌≡◌, ◌≢◌, ℕ, [], ◌∷◌, true, ap, sym, subst, ◌∙◌, refl, lit<}
-use Rattle.std.specs.Prelude.{None, slice_set}
+use Rattle.std.proofs.Common.{◌≡◌, [], ◌∷◌, ap, sym, subst, ◌∙◌, refl, lit<}
+use Rattle.std.specs.Prelude.{None}
 use Rattle.call_contract.specs.Sessions.{live_in}
-use Rattle.turn_lock.specs.Turns.{first_pass, has_number, longer, merged, only_number, PassView}
+use Rattle.turn_lock.specs.Turns.{first_pass, longer, merged}
 use Rattle.shared_store.specs.Lists.{book_of}
 use Rattle.shared_store.specs.Sessions.{SessionView}
 use Rattle.group_commit.specs.declared.mark.Mark.TheVariants as mark

@@ -2,7 +2,6 @@ use Rattle.std.proofs.Common.{◌≡◌, ◌≢◌, ◌<◌, ℕ, true, ap, sym,
 use Rattle.turn_lock.specs.Turns.{has_number}
 use Rattle.shared_store.specs.Sessions.{SessionView}
 use Rattle.group_commit.specs.Members.{GroupView, MemberView, only_with, without_number}
-use Rattle.group_commit.proofs.Belonging.{member}
 use Rattle.group_commit.proofs.Grouping.{another_left, given_member, kept_member}
 use Rattle.group_commit.proofs.group.GroupCommit.split.Goals as goal
 
