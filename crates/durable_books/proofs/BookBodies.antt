@@ -25,11 +25,11 @@ use Rattle.durable_books.proofs.WrittenChanges.{AreValidCalls, body_read}
 abbrev pub bodies_in : List Pending → List (List ℕ)
 bodies_in ps = map (λ (p : Pending). p.body) ps
 
-abbrev first_or : List ℕ → List (List ℕ) → List ℕ
+abbrev pub first_or : List ℕ → List (List ℕ) → List ℕ
 first_or other [] = other
 first_or other (x ∷ xs) = x
 
-abbrev others_in : List (List ℕ) → List (List ℕ)
+abbrev pub others_in : List (List ℕ) → List (List ℕ)
 others_in [] = []
 others_in (x ∷ xs) = xs
 

@@ -3,4 +3,5 @@ mod WrittenChanges
 mod ValidCommits
 mod BookCounts
 mod BookBodies
+mod Standing
 mod Written

@@ -9,10 +9,7 @@ use Rattle.outside_traits.specs.Moments.{AllImages, History, IsAllSynced, Leaves
 use Rattle.outside_traits.proofs.ImageLaws.{image-all_synced}
 use Rattle.outside_traits.proofs.MomentLaws.{started, weaker}
 use Rattle.tree_model.specs.Entries.{Entries}
-use Rattle.tree_model.specs.StoredTree.{broken_at}
-use Rattle.tree_model.specs.Tree.{Tree, map_of}
-use Rattle.tree_model.specs.ValidTrees.{IsValidTree}
-use Rattle.tree_model.proofs.UnbrokenTrees.{unbroken}
+use Rattle.tree_model.specs.Tree.{Tree}
 use Rattle.node_records.specs.Pending.{FollowOn}
 use Rattle.node_records.specs.declared.pending.Pending.{Pending}
 use Rattle.node_seq.specs.Trees.{StandsFor}
@@ -24,17 +21,18 @@ use Rattle.journal.specs.Views.{JournalView}
 use Rattle.journal.specs.declared.group.Groups.{Groups}
 use Rattle.recovery.specs.Openings.{TakesBehind}
 use Rattle.store_contents.specs.StoredTrees.{StandFor}
-use Rattle.store_contents.proofs.CommitLaws.{many_more, same_groups}
+use Rattle.store_contents.proofs.CommitLaws.{same_groups}
 use Rattle.call_contract.specs.Books.{commits, HasValidCalls}
 use Rattle.call_contract.specs.Calls.{CallLaws, CallMeaning}
-use Rattle.call_contract.specs.SerialRuns.{Committed, serial}
+use Rattle.call_contract.specs.SerialRuns.{Committed}
 use Rattle.call_contract.specs.Sessions.{commits_in}
 use Rattle.tx_core.specs.Cores.{CoreView, IsUndrained}
 use Rattle.shared_store.specs.Bodies.{bodies_of, HasBodies, HaveLastBodies}
 use Rattle.shared_store.proofs.Bodies.{as_listed}
 use Rattle.durable_books.specs.WrittenBooks.{HasWrittenBook, HoldsBook, HoldsBookOrNone, LeavesBookOrNone, StandAfter}
-use Rattle.durable_books.proofs.BookBodies.{bodies_in, bodies_lead, goes_on, last_is, made_length, serial_valid}
+use Rattle.durable_books.proofs.BookBodies.{bodies_in, made_length}
 use Rattle.durable_books.proofs.BookCounts.{no_more}
+use Rattle.durable_books.proofs.Standing.{stand_after}
 use Rattle.durable_books.proofs.ValidCommits.{commits_valid}
 
 -- where no commit waits the answer is that none does
@@ -100,26 +98,10 @@ module _ {C B : Type 0} (is_valid : C → Type 0) (m : CallMeaning C) (laws : Ca
       let same = length-map ps (λ (p : Pending). p.body) in
       behind_none last.earlier (bodies_in ps) (bodies_of m t core.book) last.parts (omega (arith, made, same, few))
 
-  number_is : (t : Tree) → StandsFor (told core.opening) t → n + length (commits core.book) ≡ n + length ps
-  number_is t stands =
-      let made = made_length is_valid m laws (commits core.book) t in
-      let same = length-map ps (λ (p : Pending). p.body) in
-      let all = ap length (all_bodies t stands) in
-      omega (arith, made, same, all)
-
   -- bytes with them behind the groups stand for the tree after the whole book
   holds : (before journal : List ℕ) (groups : Groups) → read before ≡ Ok groups → groups.images ≡ None → read journal ≡ Ok (with_commits groups (commits_of (pairs_of ps))) → HoldsBook m told core before journal
   holds before journal groups old none new t pages stands stood =
-      let ds = commits core.book in
-      let good = commits_valid is_valid core.book valid in
-      let tree = (serial m ds t).tree in
-      let leads = bodies_lead is_valid m laws ds t ps stands.valid good (all_bodies t stands) in
-      let formed : IsValidTree tree = serial_valid is_valid m laws ds t stands.valid good in
-      record {
-        is_valid_tree = formed;
-        opens = many_more before journal pages groups (commits_of (pairs_of ps)) (record { entries = map_of t; number = n }) old none new stood.opens (goes_on n ps follow) (ap broken_at leads ∙ unbroken tree formed)
-            ∙ (λ i. Ok (record { entries = leads i; number = (last_is n ps follow ∙ sym (number_is t stands)) i }));
-      }
+      stand_after is_valid m laws t n (commits core.book) ps before journal pages groups (commits_valid is_valid core.book valid) (all_bodies t stands) follow old none new stood
 
   all_or_none : (before journal : List ℕ) (groups : Groups) → read before ≡ Ok groups → groups.images ≡ None → IsAllOrNone groups (commits_of (pairs_of ps)) journal → HoldsBookOrNone m told core before journal
   all_or_none before journal groups old none (inl same) t pages stands stood = inl (record { is_valid_tree = stood.is_valid_tree; opens = same_groups before journal pages groups old same ∙ stood.opens })

@@ -1,5 +1,5 @@
 -- What writing the commits of a core's book leaves of a store's two files (docs/FILE_FORMAT.md, "Appending").
-use Rattle.std.specs.Prelude.{◌⊎◌, ℕ, ◌+◌, List, length, Option}
+use Rattle.std.specs.Prelude.{◌⊎◌, ℕ, ◌+◌, ◌≤◌, List, length, Option, take}
 use Rattle.outside_traits.specs.CrashImages.{IsImage}
 use Rattle.outside_traits.specs.Moments.{History, IsAllSynced, LeavesOnly}
 use Rattle.tree_model.specs.Entries.{Entries}
@@ -19,6 +19,13 @@ module _ {C : Type 0} (m : CallMeaning C) where
   -- after none of them, or after all
   abbrev pub StandAfterNoneOrAll : Tree → ℕ → List (Committed C) → List ℕ → List ℕ → Type 0
   StandAfterNoneOrAll t n done journal pages = StandFor journal pages t n ⊎ StandAfter t n done journal pages
+
+  -- after the first of them, so many at least
+  pub record StandAfterSome (t : Tree) (n : ℕ) (done : List (Committed C)) (least : ℕ) (journal pages : List ℕ) : Type 0 where
+    pub count : ℕ
+    pub enough : least ≤ count
+    pub within : count ≤ length done
+    pub stands : StandAfter t n (take count done) journal pages
 
 module _ {C B : Type 0} (m : CallMeaning C) (told : B → Option Entries) (core : CoreView C B) where
   -- so it is beside each page file beside which the journal's bytes stood for the tree and the number of the core's opening

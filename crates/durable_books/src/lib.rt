@@ -3,6 +3,8 @@
 //! Who fills the book, and when what it answers is told, is left to the crates above.
 #![tactic(auto)]
 
+mod laws;
 mod waiting;
 
+pub use laws::first_commits_stand;
 pub use waiting::write_waiting;
