@@ -1,19 +1,21 @@
 -- That a text of replies in their places is shown by its book.
-use Rattle.std.proofs.Common.{◌≡◌, ℕ, true, false, cond, eqb, List, [], ◌∷◌, ◌++◌, length, map, refl, sym, ap, subst, arith}
-use Rattle.std.specs.Prelude.{Result, Ok, Err, IfOk}
+use Rattle.std.proofs.Common.{◌≡◌, ℕ, true, false, cond, eqb, List, [], ◌∷◌, ◌++◌, length, map, refl, sym, ap, ◌∙◌, subst, arith}
+use Rattle.std.specs.Prelude.{Result, Ok, Err, IfErr, IfOk}
 use Rattle.call_contract.specs.Books.{Book, IsLegal}
 use Rattle.call_contract.specs.Calls.{CallMeaning}
-use Rattle.call_contract.specs.States.{start}
+use Rattle.call_contract.specs.States.{State, start}
+use Rattle.command_lines.specs.declared.command.Command.{Command}
 use Rattle.command_lines.specs.declared.command.StoreCall.{StoreCall}
 use Rattle.command_lines.specs.declared.line_reply.LineReply.{LineReply}
 use Rattle.tree_model.specs.Tree.{Tree}
-use Rattle.worker_run.specs.Workers.{own_exchanges}
+use Rattle.worker_run.specs.Workers.{own_exchanges, own_lines}
 use Rattle.workers_script.specs.Entries.{commands_in, in_places}
 use Rattle.workers_script.specs.declared.entry.Entry.{Entry}
 use Rattle.workers_script.specs.declared.entry.Entry.TheVariants.{Asked, Bad}
-use Rattle.workers_text.specs.Asking.{doing_of, own_printed, printed}
-use Rattle.workers_text.specs.Sessions.{Does, Printed}
-use Rattle.workers_text.specs.WorkersText.{Line, HasReplies, WorkersText, order_of, printed_of}
+use Rattle.workers_text.specs.Asking.{doing_of, own_doings, own_printed, printed}
+use Rattle.workers_text.specs.Sessions.{Does, DoesSome, Printed, doings_of}
+use Rattle.workers_text.specs.WorkersText.{Line, HasReplies, WorkersText, asked_of, order_of, printed_of}
+use Rattle.workers_text.proofs.InPart.{done_in_part}
 use Rattle.workers_replies.specs.Shown.{IsShownBy, lines_in}
 
 pub may_be_printed : {C : Type 0} (m : CallMeaning C) (t : Tree) (number limit : ℕ) (book : Book C) (lines : List (Line C)) (text : List LineReply)
@@ -62,6 +64,40 @@ module _ (m : CallMeaning StoreCall) (t : Tree) (number limit : ℕ) (book : Boo
     does = λ s. subst (Does m s (start t number limit) book) (sym (printed_in_places s es rs all)) (does s);
   }
 
+-- ---- what was asked
+
+-- what the lines ask of a session is what their commands do
+asked_in : (s : ℕ) (es : List Entry) → asked_of s (lines_in es) ≡ own_doings (λ call. call) s (commands_in es)
+asked_in s [] = refl
+asked_in s (Bad b ∷ es) = asked_in s es
+asked_in s (Asked c ∷ es) =
+    let there = asked_in s es in
+    let d = doing_of as_it_is c.what in
+    let asked = asked_of s (lines_in es) in
+    let own = own_lines s (commands_in es) in
+    elim (eqb c.session s) as (λ v. cond v (d ∷ asked) asked ≡ map (λ (k : Command). doing_of as_it_is k.what) (cond v (c ∷ own) own)) [ true ↦ ap (λ ds. d ∷ ds) there | false ↦ there ]
+
+-- and what the commands with their replies were asked
+doings_in : (s : ℕ) (cs : List Command) (rs : List LineReply) → length rs ≡ length cs → doings_of (own_printed (λ call. call) s cs rs) ≡ own_doings (λ call. call) s cs
+doings_in s [] rs all = refl
+doings_in s (c ∷ cs) [] all = absurd (omega arith)
+doings_in s (c ∷ cs) (r ∷ rs) all =
+    let there = doings_in s cs rs (omega arith) in
+    let d = doing_of as_it_is c.what in
+    let given = own_exchanges s cs rs in
+    let own = own_lines s cs in
+    elim (eqb c.session s) as (λ v. doings_of (map (printed as_it_is) (cond v ((c, r) ∷ given) given)) ≡ map (λ (k : Command). doing_of as_it_is k.what) (cond v (c ∷ own) own)) [ true ↦ ap (λ ds. d ∷ ds) there | false ↦ there ]
+
+-- where there are replies, all lines are done, and so are the first of them
+pub stops_in : {E : Type 0} (m : CallMeaning StoreCall) (first : Tree → State StoreCall) (stands : Tree → Type 0) (book : Book StoreCall) (es : List Entry) (replies : Result (List LineReply) E) → IfOk replies (λ rs. length rs ≡ length (commands_in es))
+    → IfOk replies (λ rs. (t : Tree) → stands t → (s : ℕ) → Does m s (first t) book (own_printed (λ call. call) s (commands_in es) rs))
+    → IfErr replies (λ _. (t : Tree) → stands t → (s : ℕ) → DoesSome m s (first t) book (own_doings (λ call. call) s (commands_in es)))
+    → (t : Tree) → stands t → (s : ℕ) → DoesSome m s (first t) book (asked_of s (lines_in es))
+stops_in m first stands book es (Ok rs) all does stops t is s =
+    let done = done_in_part m s (first t) book (own_printed (λ call. call) s (commands_in es) rs) (does t is s) in
+    subst (DoesSome m s (first t) book) (doings_in s (commands_in es) rs all ∙ sym (asked_in s es)) done
+stops_in m first stands book es (Err e) all does stops t is s = subst (DoesSome m s (first t) book) (sym (asked_in s es)) (stops t is s)
+
 -- ---- answers that rest on others
 
 both_hold : {U E : Type 0} (r : Result U E) (P Q : U → Type 0) → IfOk r P → IfOk r Q → IfOk r (λ u. P u × Q u)
@@ -82,3 +118,8 @@ module _ {T U E : Type 0} where
   pub leads_on_both : (r : Result T E) (x : Result U E) (M : T → U → Type 0) (P Q : U → Type 0) (R : T → Type 0) → IfOk r (λ t. (u : U) × (x ≡ Ok u) × M t u) → IfOk x P → IfOk x Q
       → ((t : T) (u : U) → M t u → P u → Q u → R t) → IfOk r R
   leads_on_both r x M P Q R made p q on = leads_on r x M (λ u. P u × Q u) R made (both_hold x P Q p q) (λ t u is pq. on t u is pq.0 pq.1)
+
+-- where there is no answer
+pub if_err_so : {T E : Type 0} (P : Type 0) (r : Result T E) → P → IfErr r (λ _. P)
+if_err_so P (Ok t) h = tt
+if_err_so P (Err e) h = h

@@ -1,21 +1,26 @@
 //! The text of a whole script.
-ghost use Rattle.std.specs.Prelude.{◌≡◌, List, [], ◌∷◌, ◌++◌, length, flat_map, Ok, IfOk, OnOk};
+ghost use Rattle.std.specs.Prelude.{◌≡◌, ◌+◌, ℕ, List, [], ◌∷◌, ◌++◌, length, flat_map, Ok, IfOk, IfErr, IsTrue, OnOk};
 ghost use Rattle.call_contract.specs.Books.{IsBookFrom};
+ghost use Rattle.call_contract.specs.States.{start};
 ghost use Rattle.command_lines.specs.Replies.{reply_text};
 ghost use Rattle.command_lines.specs.declared.line_reply.LineReply.{LineReply};
+ghost use Rattle.journal.specs.Groups.{is_next};
+ghost use Rattle.journal.specs.Views.{TakesGroups};
 ghost use Rattle.node_seq.specs.Trees.{StandsFor};
-ghost use Rattle.shared_store.specs.Bodies.{HasBodies};
 ghost use Rattle.shared_store.specs.Lists.{SessionsFit};
 ghost use Rattle.store_calls.specs.StoreCalls.{store_meaning, IsValidStoreCall};
 ghost use Rattle.tree_model.specs.Tree.{Tree};
 ghost use Rattle.workers_replies.specs.Shown.{lines_in, IsShownBy};
 ghost use Rattle.workers_script.specs.Entries.{commands_in, in_places};
-ghost use Rattle.workers_text.specs.WorkersText.{order_of};
+ghost use Rattle.workers_text.specs.Journals.{WroteAll, WroteFirst};
+ghost use Rattle.workers_text.specs.Sessions.{DoesSome};
+ghost use Rattle.workers_text.specs.WorkersText.{asked_of, order_of};
 
 use command_lines::{LineReply, write_reply};
 use dewey_labels::{List, NoMemory};
+use journal::Journal;
 use node_seq::NodeRead;
-use outside_traits::Gate;
+use outside_traits::{Disk, Gate};
 use std::alloc::Global;
 use std::sync::Wait;
 use std::thread::Threads;
@@ -25,10 +30,11 @@ use worker_run::PortFault;
 use workers_script::Script;
 use workers_text::{Ran, order_line, run_lines};
 
-/// The core when the workers have ended, and the text of the script, or why there is none.
+/// The core and the journal when the workers have ended, and the text of the script, or why there is none.
 #[derive(Drop)]
-pub struct Answered<B: NodeRead + Drop> {
+pub struct Answered<B: NodeRead + Drop, J: Disk> {
     pub core: Core<StoreOp, B>,
+    pub journal: Journal<J>,
     pub text: Result<Vec<u8>, PortFault>,
 }
 
@@ -84,26 +90,44 @@ fn write_order<B: NodeRead + Drop>(
 /// Does a whole script, each session's lines in their order by a worker of its own, in threads of their own where these can be made, and answers its text.
 ///
 /// The core's book is the one book of the run. Where there is a text, this book shows it: each session's lines are among its entries with the replies that stand in their places,
-/// a line that is no command has its own, and the order line is last. Where a line met a fault there is none.
-/// No commit was handed out: those of the book wait, in their order, to be made durable.
-pub fn answer_script<R: Threads + Wait + Sync, B: NodeRead + Drop + Send, G: Gate + Sync>(
+/// a line that is no command has its own, and the order line is last. Where a line met a fault, or memory was wanting for the text, there is none, and the book has of each session the first of its lines,
+/// the last of them as far as it came. Each commit is in the journal before its line is answered; the journal holds the first commits of the book, and all of them where there is a text.
+pub fn answer_script<
+    R: Threads + Wait + Sync,
+    B: NodeRead + Drop + Send,
+    J: Disk + Send,
+    G: Gate + Sync,
+>(
     rt: &R,
     alloc: Global,
     core: Core<StoreOp, B>,
+    journal: Journal<J>,
     script: &Script,
     gate: &G,
-) -> Answered<B>
-    requires { core.book ≡ [] }
+) -> Answered<B, J>
+    requires book { core.book ≡ [] }
+    requires takes { TakesGroups journal × IsTrue (is_next journal.last (core.number + 1)) }
     ensures opened { (result.core.opening ≡ core.opening) × (result.core.number ≡ core.number) × (result.core.limit ≡ core.limit) }
     ensures base { B.unchanged core.base result.core.base }
     ensures legal { (t : Tree) → StandsFor (B.contents core.opening) t → IsBookFrom IsValidStoreCall store_meaning t core.number core.limit result.core.book }
     ensures sessions { SessionsFit result.core.book }
-    ensures undrained { IfOk result.text (λ _. (result.core.undrained.after ≡ core.number) × HasBodies store_meaning B.contents result.core) }
+    ensures wrote { WroteFirst store_meaning B.contents J.is_known journal 0 result.core result.journal }
+    ensures durable { IfOk result.text (λ _. WroteAll store_meaning B.contents J.is_known journal result.core result.journal) }
     ensures text { IfOk result.text (λ text. (lines : List LineReply) × (text.items ≡ flat_map reply_text lines)
         × ((t : Tree) → StandsFor (B.contents core.opening) t
         → IsShownBy store_meaning t core.number core.limit result.core.book (lines_in script.now.entries) lines)) }
+    ensures stops { IfErr result.text (λ _. (t : Tree) → StandsFor (B.contents core.opening) t
+        → (s : ℕ) → DoesSome store_meaning s (start t core.number core.limit) result.core.book (asked_of s (lines_in script.now.entries))) }
 {
-    let Ran { core, replies } = run_lines(rt, alloc, core, script.commands(), gate);
+    let Ran {
+        core,
+        journal,
+        replies,
+    } = run_lines(rt, alloc, core, journal, script.commands(), gate);
     let text = text_of(alloc, script, replies, &core);
-    Answered { core, text }
+    Answered {
+        core,
+        journal,
+        text,
+    }
 }

@@ -1,6 +1,6 @@
 //! A whole script done by its workers over a core, and the text of it: the replies in the order of the lines, and then the order line.
-//! The core's own book shows the text (`IsShownBy`). All memory of the text is taken before it is there, so that whoever makes its commits durable asks for none behind.
-//! Who reads the script, makes the commits durable and writes the text is left to the caller.
+//! The core's own book shows the text (`IsShownBy`), and the journal holds its commits. Where a line met a fault, or memory was wanting for the text, the journal holds the first commits of the book.
+//! Who reads the script and writes the text is left to the caller.
 #![tactic(auto)]
 
 mod answering;

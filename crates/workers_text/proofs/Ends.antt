@@ -31,13 +31,15 @@ use Rattle.shared_store.proofs.Done.{book_append}
 use Rattle.worker_run.specs.Ports.{Ended, LineDone}
 use Rattle.worker_run.specs.declared.port.PortFault.{PortFault}
 use Rattle.workers_text.specs.Asking.{doing_of}
-use Rattle.workers_text.specs.Sessions.{AreOthers, Ends, IsAbort}
+use Rattle.workers_text.specs.Sessions.{AreOthers, Ends, IsAbort, Printed}
 use Rattle.workers_text.specs.StorePorts.{GrewFor, HasEnd, HasPart, PortView, store_ports}
 use Rattle.workers_text.specs.inside.Answering.{LineLeaves}
+use Rattle.workers_text.specs.inside.Joining.{member_of}
 use Rattle.workers_text.specs.inside.PortLaws.{book_grew, grew_on}
 use Rattle.workers_text.proofs.Calls.{core_of, none_is_no_some}
 use Rattle.workers_text.proofs.Lines.{grew_by_one, grew_by_others, others_in, same_number}
 use Rattle.workers_text.proofs.OtherSessions.{same_live}
+use Rattle.workers_text.proofs.Passes.{same_pass}
 
 module _ {C : Type 0} (m : CallMeaning C) (s : ℕ) where
   -- ---- entries of others leave an end
@@ -98,24 +100,24 @@ module _ {C B : Type 0} (told : B → Option Entries) (m : CallMeaning C) where
 
   module _ (made : StoreCall → C) where
     pub line_done : (p q : PortView C B) (c : Command) (a : LineAnswer) → c.session ≡ p.session.under → p.fault ≡ None → q.fault ≡ p.fault
-        → LineLeaves told m p.session (doing_of made c.what) q.session (Ok a) → LineDone (store_ports told m made) p c q (Ok (Said c.session false a))
+        → LineLeaves told m (member_of p) (doing_of made c.what) (member_of q) (Ok a) → LineDone (store_ports told m made) p c q (Ok (Said c.session false a))
     line_done p q c a same usable kept h =
-        let under : q.session.under ≡ p.session.under = ap (λ (v : SessionView C B). v.under) h.same in (
-          (h.same, subst (λ (u : ℕ). HasPart told m p.session.has p.session.under p.session.seen q.session.seen (record { doing = doing_of made c.what; reply = Said u false a } ∷ [])) (sym same) h.leaves),
+        let line : ℕ → Printed C = λ u. record { doing = doing_of made c.what; reply = Said u false a } in (
+          (h.same, subst (λ (u : ℕ). HasPart told m p.session.has p.session.under p.session.seen q.session.seen (line u ∷ [])) (sym same) h.leaves, h.pass),
           kept ∙ usable,
-          under,
+          ap (λ (v : SessionView C B). v.under) h.same,
         )
 
     pub line_failed : (p q : PortView C B) (c : Command) (fault : PortFault) → q.fault ≡ Some fault
-        → LineLeaves told m p.session (doing_of made c.what) q.session (Err fault) → LineDone (store_ports told m made) p c q (Err fault)
-    line_failed p q c fault told_so h = ((h.same, h.leaves), told_so, ap (λ (v : SessionView C B). v.under) h.same)
+        → LineLeaves told m (member_of p) (doing_of made c.what) (member_of q) (Err fault) → LineDone (store_ports told m made) p c q (Err fault)
+    line_failed p q c fault told_so h = ((h.same, h.leaves, h.pass), told_so, ap (λ (v : SessionView C B). v.under) h.same)
 
     pub port_ended : (p q : PortView C B) (r : Result (Unit {0}) StoreError) → has_number p.session.has p.session.under ≡ true → q.fault ≡ p.fault
-        → HasDone p.session q.session (λ before after. HasAborted before p.session.under r after) → live_in (book_of q.session.seen) q.session.under ≡ None → Ended (store_ports told m made) p q
-    port_ended p q r own kept h empty =
+        → HasDone p.session q.session (λ before after. HasAborted before p.session.under r after) → q.pass ≡ p.pass → live_in (book_of q.session.seen) q.session.under ≡ None → Ended (store_ports told m made) p q
+    port_ended p q r own kept h stays empty =
         let under : q.session.under ≡ p.session.under = ap (λ (v : SessionView C B). v.under) h.same in
         record {
-          ended = (h.same, end_leaves p.session q.session r own h (subst (λ (u : ℕ). live_in (book_of q.session.seen) u ≡ None) under empty));
+          ended = (h.same, end_leaves p.session q.session r own h (subst (λ (u : ℕ). live_in (book_of q.session.seen) u ≡ None) under empty), same_pass p.pass q.pass stays);
           session = under;
           fault = kept;
           live = ap is_some empty;

@@ -1,8 +1,7 @@
 -- Ports come back and are joined, and what they had seen is in the list at the end.
-use Rattle.std.proofs.Common.{◌≡◌, ◌≢◌, ◌∙◌, ◌⊎◌, ℕ, Bool, true, false, refl, sym, ap, subst, arith, is_some, List, [], ◌∷◌, ◌++◌, length, append_assoc, append-nil, true≢false, inl, inr}
+use Rattle.std.proofs.Common.{◌≡◌, ◌≢◌, ◌∙◌, ◌⊎◌, ℕ, Bool, true, false, refl, sym, ap, subst, arith, is_some, List, [], ◌∷◌, ◌++◌, length, append_assoc, append-nil, true≢false, inl, inr, ◌||◌}
 use Rattle.std.specs.Prelude.{Option, Some, None, Result, Err}
 use Rattle.std.specs.List.{AllByRecursion, AllZip}
-use Rattle.atomic_table.specs.Seated.{TableId}
 use Rattle.tree_model.specs.Entries.{Entries}
 use Rattle.call_contract.specs.Books.{Book}
 use Rattle.call_contract.specs.Calls.{CallMeaning}
@@ -11,18 +10,18 @@ use Rattle.call_contract.specs.States.{Live}
 use Rattle.command_lines.specs.declared.command.Command.{Command}
 use Rattle.command_lines.specs.declared.command.StoreCall.{StoreCall}
 use Rattle.command_lines.specs.declared.line_reply.LineReply.{LineReply}
-use Rattle.turn_lock.specs.Turns.{AreForeign, GoesOn, has_number, is_own, merged}
+use Rattle.turn_lock.specs.Turns.{AreForeign, has_number, is_own, merged}
 use Rattle.turn_lock.proofs.Numbers.{bool_cases, merged_at, or_left, or_right}
 use Rattle.shared_store.specs.Lists.{book_of, number_of}
 use Rattle.shared_store.specs.Sessions.{SessionView, having_seen}
 use Rattle.shared_store.specs.declared.desk.Entry.{Entry}
+use Rattle.group_commit.specs.Members.{GoesOnIn, GroupView, IsOf, MemberView, joined as both}
 use Rattle.worker_run.specs.Ports.{Ended, Exchange}
-use Rattle.worker_run.specs.Workers.{DoesLines, HasWorked, Went}
+use Rattle.worker_run.specs.Workers.{DoesLines, HasWorked, Went, own_lines}
 use Rattle.worker_run.specs.declared.port.PortFault.{PortFault}
-use Rattle.workers_text.specs.StorePorts.{PortView, store_ports}
-use Rattle.workers_text.specs.inside.Joining.{CameBack, GoesFrom, IsFresh, IsJoinedTo, MayJoin}
-
--- ---- lists that go on
+use Rattle.workers_text.specs.StorePorts.{IsSamePass, PortView, store_ports}
+use Rattle.workers_text.specs.inside.Joining.{CameBack, GoesFrom, IsFresh, IsJoinedTo, MayJoin, member_of}
+use Rattle.workers_text.specs.inside.PortLaws.{pass_itself, pass_on}
 
 -- ---- the last item
 
@@ -42,6 +41,8 @@ pub all_to : {X : Type 0} (P Q : X → Type 0) (xs : List X) → ((x : X) → P 
 all_to P Q [] on a = tt
 all_to P Q (x ∷ xs) on a = (on x a.0, all_to P Q xs on a.1)
 
+-- ---- lists that go on
+
 module _ {E : Type 0} (number : E → Option ℕ) where
   own_less : (a b : List Bool) → ((k : ℕ) → has_number a k ≡ true → has_number b k ≡ true) → (o : Option ℕ) → is_own b o ≡ false → is_own a o ≡ false
   own_less a b on None e = refl
@@ -59,35 +60,62 @@ module _ {E : Type 0} (number : E → Option ℕ) where
   foreign_append a [] fs f g = g
   foreign_append a (e ∷ es) fs f g = (f.0, foreign_append a es fs f.1 g)
 
-module _ {C B : Type 0} where
-  pub goes_from_itself : (a : SessionView C B) → GoesFrom a a
-  goes_from_itself a = record { has = λ k h. h; goes_on = ([], sym (append-nil a.seen), tt) }
+module _ {X : Type 0} where
+  -- a list begins with another
+  abbrev pub Longer : List X → List X → Type 0
+  Longer xs ys = (added : List X) × (ys ≡ xs ++ added)
 
-  pub goes_further : (a b c : SessionView C B) → GoesFrom a b → GoesFrom b c → GoesFrom a c
+  longer_on : (xs ys zs : List X) → Longer xs ys → Longer ys zs → Longer xs zs
+  longer_on xs ys zs a b = (a.0 ++ b.0, b.1 ∙ ap (λ (l : List X). l ++ b.0) a.1 ∙ append_assoc xs a.0 b.0)
+
+-- a number of either is one of both
+in_both : (a b c : List Bool) (k : ℕ) → c ≡ merged a b → (has_number a k || has_number b k) ≡ true → has_number c k ≡ true
+in_both a b c k is h = ap (λ (x : List Bool). has_number x k) is ∙ merged_at a b k ∙ h
+
+module _ {C B : Type 0} where
+  pub goes_from_itself : (a : MemberView C B) → GoesFrom a a
+  goes_from_itself a = record { has = λ k h. h; goes_on = ([], sym (append-nil a.session.seen), tt); zero = λ h. h; marks = ([], sym (append-nil a.pass.seen)) }
+
+  pub goes_further : (a b c : MemberView C B) → GoesFrom a b → GoesFrom b c → GoesFrom a c
   goes_further a b c x y = record {
     has = λ k h. y.has k (x.has k h);
     goes_on = (
       x.goes_on.0 ++ y.goes_on.0,
-      y.goes_on.1 ∙ ap (λ (l : List (Entry C B)). l ++ y.goes_on.0) x.goes_on.1 ∙ append_assoc a.seen x.goes_on.0 y.goes_on.0,
-      foreign_append number_of a.has x.goes_on.0 y.goes_on.0 x.goes_on.2 (foreign_less number_of a.has b.has x.has y.goes_on.0 y.goes_on.2),
+      y.goes_on.1 ∙ ap (λ (l : List (Entry C B)). l ++ y.goes_on.0) x.goes_on.1 ∙ append_assoc a.session.seen x.goes_on.0 y.goes_on.0,
+      foreign_append number_of a.session.has x.goes_on.0 y.goes_on.0 x.goes_on.2 (foreign_less number_of a.session.has b.session.has x.has y.goes_on.0 y.goes_on.2),
     );
+    zero = λ h. y.zero (x.zero h);
+    marks = longer_on a.pass.seen b.pass.seen c.pass.seen x.marks y.marks;
   }
 
-  pub joined_kept : (a b c : SessionView C B) → c.has ≡ merged a.has b.has → GoesOn number_of a.has a.seen c.seen → GoesFrom a c
-  joined_kept a b c is g = record { has = λ k h. subst (λ (x : List Bool). has_number x k ≡ true) (sym is) (merged_at a.has b.has k ∙ or_left (has_number a.has k) (has_number b.has k) h); goes_on = g }
+  pub joined_kept : (a b c : MemberView C B) → c ≡ both a b → GoesOnIn a c → GoesFrom a c
+  joined_kept a b c is g = record {
+    has = λ k h. in_both a.session.has b.session.has c.session.has k (ap (λ (v : MemberView C B). v.session.has) is) (or_left (has_number a.session.has k) (has_number b.session.has k) h);
+    goes_on = g.session;
+    zero = λ h. in_both a.pass.has b.pass.has c.pass.has 0 (ap (λ (v : MemberView C B). v.pass.has) is) (or_left (has_number a.pass.has 0) (has_number b.pass.has 0) h);
+    marks = (g.pass.0, g.pass.1);
+  }
 
-  pub joined_other : (a b c : SessionView C B) → c.has ≡ merged a.has b.has → GoesOn number_of b.has b.seen c.seen → GoesFrom b c
-  joined_other a b c is g = record { has = λ k h. subst (λ (x : List Bool). has_number x k ≡ true) (sym is) (merged_at a.has b.has k ∙ or_right (has_number a.has k) (has_number b.has k) h); goes_on = g }
+  pub joined_other : (a b c : MemberView C B) → c ≡ both a b → GoesOnIn b c → GoesFrom b c
+  joined_other a b c is g = record {
+    has = λ k h. in_both a.session.has b.session.has c.session.has k (ap (λ (v : MemberView C B). v.session.has) is) (or_right (has_number a.session.has k) (has_number b.session.has k) h);
+    goes_on = g.session;
+    zero = λ h. in_both a.pass.has b.pass.has c.pass.has 0 (ap (λ (v : MemberView C B). v.pass.has) is) (or_right (has_number a.pass.has 0) (has_number b.pass.has 0) h);
+    marks = (g.pass.0, g.pass.1);
+  }
+
+  pub joined_of : (group : GroupView) (a b c : MemberView C B) → c ≡ both a b → IsOf group a → IsOf group c
+  joined_of group a b c is of = (ap (λ (v : MemberView C B). v.session.lock) is ∙ of.0, ap (λ (v : MemberView C B). v.pass.lock) is ∙ of.1)
 
   -- ---- joining one after another
 
-  -- whoever goes on from this session, and has joined the ports that are left, has joined all of them
-  abbrev pub JoinsRest : List (PortView C B) → SessionView C B → List (PortView C B) → Type 0
-  JoinsRest all now rest = (z : SessionView C B) → GoesFrom now z → AllByRecursion (IsJoinedTo z) rest → AllByRecursion (IsJoinedTo z) all
+  -- whoever goes on from this member, and has joined the ports that are left, has joined all of them
+  abbrev pub JoinsRest : List (PortView C B) → MemberView C B → List (PortView C B) → Type 0
+  JoinsRest all now rest = (z : MemberView C B) → GoesFrom now z → AllByRecursion (IsJoinedTo z) rest → AllByRecursion (IsJoinedTo z) all
 
-  pub joins_next : (all rest : List (PortView C B)) (now next : SessionView C B) (p : PortView C B) (left : List (PortView C B)) → left ≡ rest ++ p ∷ [] → GoesFrom now next → GoesFrom p.session next → JoinsRest all now left → JoinsRest all next rest
+  pub joins_next : (all rest : List (PortView C B)) (now next : MemberView C B) (p : PortView C B) (left : List (PortView C B)) → left ≡ rest ++ p ∷ [] → GoesFrom now next → GoesFrom (member_of p) next → JoinsRest all now left → JoinsRest all next rest
   joins_next all rest now next p left is main other joins z to joined =
-      joins z (goes_further now next z main to) (subst (AllByRecursion (IsJoinedTo z)) (sym is) (all_with_last (IsJoinedTo z) rest p joined (goes_further p.session next z other to)))
+      joins z (goes_further now next z main to) (subst (AllByRecursion (IsJoinedTo z)) (sym is) (all_with_last (IsJoinedTo z) rest p joined (goes_further (member_of p) next z other to)))
 
 -- ---- ports that came back
 
@@ -95,44 +123,49 @@ module _ {C B : Type 0} (told : B → Option Entries) (m : CallMeaning C) (made 
   with_seen : (p q r : SessionView C B) → q ≡ having_seen q.seen p → r ≡ having_seen r.seen q → r ≡ having_seen r.seen p
   with_seen p q r e f = f ∙ ap (having_seen r.seen) e
 
-  itself : (p : SessionView C B) → p ≡ having_seen p.seen p
-  itself p = refl
+  -- the same session with the same pass, which has seen more
+  pub record WentOn (p q : PortView C B) : Type 0 where
+    pub same : q.session ≡ having_seen q.session.seen p.session
+    pub more : Longer p.session.seen q.session.seen
+    pub pass : IsSamePass p.pass q.pass
 
-  did_same : (lines : List Command) (gave : List Exchange) (p q : PortView C B) (o : Option PortFault) → Went (store_ports told m made) lines gave p q o → q.session ≡ having_seen q.session.seen p.session
-  did_same lines gave p q None w = w.did.0
-  did_same lines gave p q (Some f) w = with_seen p.session w.before.session q.session w.did.0 w.met.0
-
-  does_same : (lines : List Command) (gave : List Exchange) (p q : PortView C B) (o : Option PortFault) → DoesLines (store_ports told m made) lines gave p q o → q.session ≡ having_seen q.session.seen p.session
-  does_same lines gave p q None d = did_same _ gave p q q.fault d
-  does_same lines gave p q (Some f) d = ap (λ (v : PortView C B). v.session) d.1 ∙ itself p.session ∙ ap (λ (v : PortView C B). having_seen v.session.seen p.session) (sym d.1)
-
-  -- ---- and that its list goes on
-
-  abbrev More : List (Entry C B) → List (Entry C B) → Type 0
-  More xs ys = (added : List (Entry C B)) × (ys ≡ xs ++ added)
-
-  more_on : (xs ys zs : List (Entry C B)) → More xs ys → More ys zs → More xs zs
-  more_on xs ys zs a b = (a.0 ++ b.0, b.1 ∙ ap (λ (l : List (Entry C B)). l ++ b.0) a.1 ∙ append_assoc xs a.0 b.0)
-
-  did_more : (lines : List Command) (gave : List Exchange) (p q : PortView C B) (o : Option PortFault) → Went (store_ports told m made) lines gave p q o → More p.session.seen q.session.seen
-  did_more lines gave p q None w = (w.did.1.grew.added, w.did.1.grew.list)
-  did_more lines gave p q (Some f) w = more_on p.session.seen w.before.session.seen q.session.seen (w.did.1.grew.added, w.did.1.grew.list) (w.met.1.added, w.met.1.list)
-
-  does_more : (lines : List Command) (gave : List Exchange) (p q : PortView C B) (o : Option PortFault) → DoesLines (store_ports told m made) lines gave p q o → More p.session.seen q.session.seen
-  does_more lines gave p q None d = did_more _ gave p q q.fault d
-  does_more lines gave p q (Some f) d = ([], ap (λ (v : PortView C B). v.session.seen) d.1 ∙ sym (append-nil p.session.seen))
-
-  ended_back : (p q : PortView C B) → Ended (store_ports told m made) p q → CameBack p q
-  ended_back p q e = record { same = e.ended.0; goes_on = (e.ended.1.grew.added, e.ended.1.grew.list); live = e.live }
-
-  worked_back : (lines : List Command) (p q : PortView C B) → HasWorked (store_ports told m made) lines p q → CameBack p q
-  worked_back lines p q w = record {
-    same = with_seen p.session w.last.session q.session (does_same lines w.gave p w.last p.fault w.does) w.ended.ended.0;
-    goes_on = more_on p.session.seen w.last.session.seen q.session.seen (does_more lines w.gave p w.last p.fault w.does) (w.ended.ended.1.grew.added, w.ended.ended.1.grew.list);
-    live = w.ended.live;
+  went_further : (p q r : PortView C B) → WentOn p q → WentOn q r → WentOn p r
+  went_further p q r a b = record {
+    same = with_seen p.session q.session r.session a.same b.same;
+    more = longer_on p.session.seen q.session.seen r.session.seen a.more b.more;
+    pass = pass_on p.pass q.pass r.pass a.pass b.pass;
   }
 
-  zip_to : {X Y : Type 0} (R S : X → Y → Type 0) (xs : List X) (ys : List Y) → ((x : X) (y : Y) → R x y → S x y) → AllZip R xs ys → AllZip S xs ys
+  did_on : (p q : PortView C B) (xs : List Exchange) → (store_ports told m made).did p xs q → WentOn p q
+  did_on p q xs d = record { same = d.0; more = (d.1.grew.added, d.1.grew.list); pass = d.2 }
+
+  met_on : (p q : PortView C B) (c : Command) (f : PortFault) → (store_ports told m made).met p c f q → WentOn p q
+  met_on p q c f d = record { same = d.0; more = (d.1.grew.added, d.1.grew.list); pass = d.2 }
+
+  ended_on : (p q : PortView C B) → Ended (store_ports told m made) p q → WentOn p q
+  ended_on p q e = record { same = e.ended.0; more = (e.ended.1.grew.added, e.ended.1.grew.list); pass = e.ended.2 }
+
+  stayed_on : (p q : PortView C B) → q ≡ p → WentOn p q
+  stayed_on p q e = subst (WentOn p) (sym e) (record { same = refl; more = ([], sym (append-nil p.session.seen)); pass = pass_itself p.pass })
+
+  pub went_on : (own : List Command) (gave : List Exchange) (p q : PortView C B) (o : Option PortFault) → Went (store_ports told m made) own gave p q o → WentOn p q
+  went_on own gave p q None w = did_on p q gave w.did
+  went_on own gave p q (Some f) w = went_further p w.before q (did_on p w.before gave w.did) (met_on w.before q w.at f w.met)
+
+  does_on : (lines : List Command) (gave : List Exchange) (p q : PortView C B) (o : Option PortFault) → DoesLines (store_ports told m made) lines gave p q o → WentOn p q
+  does_on lines gave p q None d = went_on (own_lines p.session.under lines) gave p q q.fault d
+  does_on lines gave p q (Some f) d = stayed_on p q d.1
+
+  came_back : (p q : PortView C B) → WentOn p q → is_some (live_in (book_of q.session.seen) q.session.under) ≡ false → CameBack p q
+  came_back p q w live = record { same = w.same; pass = w.pass; goes_on = w.more; live = live }
+
+  ended_back : (p q : PortView C B) → Ended (store_ports told m made) p q → CameBack p q
+  ended_back p q e = came_back p q (ended_on p q e) e.live
+
+  worked_back : (lines : List Command) (p q : PortView C B) → HasWorked (store_ports told m made) lines p q → CameBack p q
+  worked_back lines p q w = came_back p q (went_further p w.last q (does_on lines w.gave p w.last p.fault w.does) (ended_on w.last q w.ended)) w.ended.live
+
+  pub zip_to : {X Y : Type 0} (R S : X → Y → Type 0) (xs : List X) (ys : List Y) → ((x : X) (y : Y) → R x y → S x y) → AllZip R xs ys → AllZip S xs ys
   zip_to R S [] [] on z = tt
   zip_to R S [] (y ∷ ys) on z = z
   zip_to R S (x ∷ xs) [] on z = z
@@ -148,21 +181,26 @@ none_lives None e = refl
 none_lives (Some t) e = absurd (true≢false e)
 
 module _ {C B : Type 0} where
-  -- a port that was split off before any entry of the book may be joined at once
-  pub fresh_may_join : (lock : TableId) (seen : List (Entry C B)) (p : PortView C B) → IsFresh lock seen p → book_of seen ≡ [] → MayJoin lock p
-  fresh_may_join lock seen p f empty = record {
-    store = ap (λ (v : SessionView C B). v.lock) f.session;
-    ended = ap (λ (v : SessionView C B). live_in (book_of v.seen) p.session.under) f.session ∙ ap (λ (b : Book C). live_in b p.session.under) empty;
+  pub fresh_of : (group : GroupView) (first : MemberView C B) (p : PortView C B) → IsOf group first → IsFresh first p → IsOf group (member_of p)
+  fresh_of group first p of f = (ap (λ (v : SessionView C B). v.lock) f.session ∙ of.0, f.pass.0 ∙ of.1)
+
+  pub may_join : (group : GroupView) (p q : PortView C B) → IsOf group (member_of p) → CameBack p q → MayJoin group q
+  may_join group p q of b = record { group_is = (ap (λ (v : SessionView C B). v.lock) b.same ∙ of.0, b.pass.lock ∙ of.1); ended = none_lives _ b.live }
+
+  pub all_may_join : (group : GroupView) (old new : List (PortView C B)) → AllByRecursion (λ p. IsOf group (member_of p)) old → AllZip CameBack old new → AllByRecursion (MayJoin group) new
+  all_may_join group [] [] a z = tt
+  all_may_join group [] (q ∷ qs) a z = absurd z
+  all_may_join group (p ∷ ps) [] a z = absurd z
+  all_may_join group (p ∷ ps) (q ∷ qs) a z = (may_join group p q a.0 z.0, all_may_join group ps qs a.1 z.1)
+
+  -- a port of a session with an empty book may come back as it is
+  pub back_as_it_is : (p : PortView C B) → book_of p.session.seen ≡ [] → CameBack p p
+  back_as_it_is p empty = record {
+    same = refl;
+    pass = pass_itself p.pass;
+    goes_on = ([], sym (append-nil p.session.seen));
+    live = ap (λ (b : Book C). is_some (live_in b p.session.under)) empty;
   }
-
-  pub may_join : (lock : TableId) (p q : PortView C B) → p.session.lock ≡ lock → CameBack p q → MayJoin lock q
-  may_join lock p q is b = record { store = ap (λ (v : SessionView C B). v.lock) b.same ∙ is; ended = none_lives _ b.live }
-
-  pub all_may_join : (lock : TableId) (old new : List (PortView C B)) → AllByRecursion (λ p. p.session.lock ≡ lock) old → AllZip CameBack old new → AllByRecursion (MayJoin lock) new
-  all_may_join lock [] [] a z = tt
-  all_may_join lock [] (q ∷ qs) a z = absurd z
-  all_may_join lock (p ∷ ps) [] a z = absurd z
-  all_may_join lock (p ∷ ps) (q ∷ qs) a z = (may_join lock p q a.0 z.0, all_may_join lock ps qs a.1 z.1)
 
   pub not_empty : (old : List (PortView C B)) (p : PortView C B) (new : List (PortView C B)) → AllZip CameBack (old ++ p ∷ []) new → new ≢ []
   not_empty [] p [] z = absurd z

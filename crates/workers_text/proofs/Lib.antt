@@ -1,14 +1,20 @@
 mod OtherSessions
+pub mod InPart
+mod Passes
 mod Lines
+mod Broken
 mod Calls
 mod Waits
 mod Ends
 mod Answered
 mod Splits
 mod Joins
+mod Came
 mod Runs
 mod Orders
-mod Undrained
 mod Started
+mod Opened
+mod Handed
 mod Over
+mod Finish
 mod Told

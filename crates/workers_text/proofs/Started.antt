@@ -1,5 +1,5 @@
 -- A store over a core with an empty book: what its list tells at the start, and of the core at the end.
-use Rattle.std.proofs.Common.{◌≡◌, ◌∙◌, true, refl, sym, ap, subst, arith, List, [], ◌∷◌, ◌++◌, length}
+use Rattle.std.proofs.Common.{◌≡◌, ◌∙◌, ◌+◌, ℕ, true, refl, sym, ap, subst, arith, List, [], ◌∷◌, ◌++◌, length}
 use Rattle.std.specs.Prelude.{Option, Some}
 use Rattle.tree_model.specs.Entries.{Entries}
 use Rattle.tree_model.specs.Tree.{Tree}
@@ -14,14 +14,19 @@ use Rattle.shared_store.specs.Lists.{book_of, drained_in, is_opened, list_of, Se
 use Rattle.shared_store.specs.Sessions.{IsOpenedAs}
 use Rattle.shared_store.specs.declared.desk.Entry.{Entry}
 use Rattle.shared_store.specs.declared.desk.Entry.TheVariants as kind
+use Rattle.group_commit.specs.Marks.{last_commit}
 use Rattle.workers_text.specs.StorePorts.{IsOpenedOver}
+use Rattle.workers_text.specs.inside.Handing.{IsFrom}
 
-some_same : {X : Type 0} (a b : X) → Some a ≡ Some b → b ≡ a
+pub some_same : {X : Type 0} (a b : X) → Some a ≡ Some b → b ≡ a
 some_same a b e = cc
 
 none_waits : (waiting : List Pending) → length waiting ≡ 0 → waiting ≡ []
 none_waits [] e = refl
 none_waits (p ∷ ps) e = absurd (omega (arith, e))
+
+with_none : (n : ℕ) → n + 0 ≡ n
+with_none n = omega arith
 
 module _ {C B : Type 0} (first : CoreView C B) (empty : first.book ≡ []) where
   -- no commit of an empty book waits
@@ -47,8 +52,12 @@ module _ {C B : Type 0} (first : CoreView C B) (empty : first.book ≡ []) where
     pub begun_book : book_of seen ≡ []
     begun_book = ap book_of (begun seen is)
 
-    pub begun_drained : drained_in seen ≡ first.undrained.after
-    begun_drained = ap drained_in (begun seen is)
+    -- the last commit that it tells is the one before, and all up to it were handed out
+    pub begun_last : last_commit seen ≡ first.number
+    begun_last = ap last_commit (begun seen is) ∙ with_none first.number
+
+    pub begun_drained : IsUndrained first → drained_in seen ≡ last_commit seen
+    begun_drained undrained = ap drained_in (begun seen is) ∙ fresh_after undrained ∙ sym begun_last
 
     pub begun_over : (told : B → Option Entries) (t : Tree) → StandsFor (told first.opening) t → IsOpenedOver told seen t first.number first.limit
     begun_over told t stands = subst (λ (es : List (Entry C B)). IsOpenedOver told es t first.number first.limit) (sym (begun seen is)) (record { opened = refl; tree = stands; number = refl; limit = refl })
@@ -57,19 +66,18 @@ module _ {C B : Type 0} (first : CoreView C B) (empty : first.book ≡ []) where
       here : IsOpenedAs unchanged Begun core
       here = subst (λ (es : List (Entry C B)). IsOpenedAs unchanged es core) (begun seen is) opened
 
-      pub same_opening : core.opening ≡ first.opening
-      same_opening = some_same first.opening core.opening here.opening
-
-      pub same_number : core.number ≡ first.number
-      same_number = sym here.number
-
-      pub same_limit : core.limit ≡ first.limit
-      same_limit = sym here.limit
-
-      pub same_base : unchanged first.base core.base
-      same_base = here.base
+      pub from_opened : IsFrom unchanged first core
+      from_opened = record {
+        opening = some_same first.opening core.opening here.opening;
+        number = sym here.number;
+        limit = sym here.limit;
+        base = here.base;
+      }
 
 module _ {C B : Type 0} (unchanged : B → B → Type 0) where
+  pub from_itself : ((b : B) → unchanged b b) → (first : CoreView C B) → IsFrom unchanged first first
+  from_itself itself first = record { opening = refl; number = refl; limit = refl; base = itself first.base }
+
   -- what a list tells of the opening, its first part tells
   pub opened_before : (seen list added : List (Entry C B)) (core : CoreView C B) → is_opened seen ≡ true → list ≡ seen ++ added → IsOpenedAs unchanged list core → IsOpenedAs unchanged seen core
   opened_before [] list added core is e h = cc

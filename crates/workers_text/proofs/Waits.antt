@@ -33,9 +33,10 @@ use Rattle.shared_store.specs.declared.errors.StoreError.{StoreError}
 use Rattle.shared_store.specs.declared.errors.StoreError.TheVariants as store_error
 use Rattle.shared_store.proofs.Done.{book_append}
 use Rattle.workers_text.specs.Sessions.{AreOthers, IsReplyOr, Meets, Part, Printed, Retries, is_wait}
-use Rattle.workers_text.specs.StorePorts.{GrewFor, HasPart, IsOpenedOver}
-use Rattle.workers_text.specs.inside.Answering.{LineLeaves, Leaves, as_ended, ended_as}
-use Rattle.workers_text.specs.inside.PortLaws.{book_grew, grew_nothing, grew_on, opened_on}
+use Rattle.workers_text.specs.StorePorts.{GrewFor, HasBroken, HasPart, IsOpenedOver}
+use Rattle.workers_text.specs.inside.Answering.{Leaves, as_ended, ended_as}
+use Rattle.workers_text.specs.inside.PortLaws.{book_grew, grew_on, opened_on}
+use Rattle.workers_text.proofs.Broken.{BreaksOn, breaks_behind, breaks_behind_wait, breaks_by_failure, breaks_nothing, is_broken}
 use Rattle.workers_text.proofs.Calls.{call_refused, refused_line}
 use Rattle.workers_text.proofs.Lines.{behind_others, entry_part, grew_by_one, grew_by_others, others_in, same_number}
 
@@ -58,50 +59,50 @@ end_is_shown : (e : Ended) → shown (said.Call (answer_of e)) ≡ ended_as e
 end_is_shown (ended.Answered r) = refl
 end_is_shown (ended.Deadlock cycle) = refl
 
--- ---- lists go on
-
 module _ {C B : Type 0} (count : B → ℕ) (told : B → Option Entries) (m : CallMeaning C) (has : List Bool) (s : ℕ) where
-  grew_as : (from to : List (Entry C B)) → to ≡ from → GrewFor has s from to
-  grew_as from to is = subst (λ (z : List (Entry C B)). GrewFor has s from z) (sym is) (grew_nothing has s from)
+  -- ---- a call that met a fault
 
-  retry_grew : (from to : List (Entry C B)) (a : Answer) (b : Bool) → to ≡ with_retry from s a b → GrewFor has s from to
-  retry_grew from to a true is = grew_by_one has s from to event.Retry (said.Call a) is
-  retry_grew from to a false is = grew_as from to is
+  module _ (own : has_number has s ≡ true) (call : C) where
+    abbrev Breaking : Bool → List (Entry C B) → List (Entry C B) → Type 0
+    Breaking waits from to = BreaksOn has s (doing.Call call) waits from to
 
-  tried_grew : (before after : List (Entry C B)) (call : C) (e : StoreError) → IsLeft count before s call e after → GrewFor has s before after
-  tried_grew before after call (store_error.Session e) is = grew_as before after is
-  tried_grew before after call store_error.NoMemory (inl is) = grew_as before after is
-  tried_grew before after call store_error.NoMemory (inr is) = grew_by_one has s before after (event.Fail (Some call) is.0 None) said.Nothing is.2
-  tried_grew before after call store_error.DiskFault is = grew_by_one has s before after (event.Fail (Some call) is.0 (Some is.1)) said.Nothing is.2
-  tried_grew before after call (store_error.Halted faults) is = absurd is
+    nothing_broken : (waits : Bool) (from to : List (Entry C B)) → to ≡ from → Breaking waits from to
+    nothing_broken waits from to is = breaks_nothing has s (doing.Call call) waits from to is
 
-  given_up_grew : (before after : List (Entry C B)) (e : StoreError) → IsGivenUp count before s e after → GrewFor has s before after
-  given_up_grew before after (store_error.Session e) is = absurd is
-  given_up_grew before after store_error.NoMemory is = grew_by_one has s before after (event.Fail None is.0 None) said.Nothing is.1
-  given_up_grew before after store_error.DiskFault is = grew_by_one has s before after (event.Fail None is.0 (Some is.1)) said.Nothing is.2
-  given_up_grew before after (store_error.Halted faults) is = absurd is
+    tried_breaks : (before after : List (Entry C B)) (e : StoreError) → IsLeft count before s call e after → Breaking false before after
+    tried_breaks before after (store_error.Session e) is = nothing_broken false before after is
+    tried_breaks before after store_error.NoMemory (inl is) = nothing_broken false before after is
+    tried_breaks before after store_error.NoMemory (inr is) = breaks_by_failure has s (doing.Call call) false (Some call) is.0 None before after is.2
+    tried_breaks before after store_error.DiskFault is = breaks_by_failure has s (doing.Call call) false (Some call) is.0 (Some is.1) before after is.2
+    tried_breaks before after (store_error.Halted faults) is = absurd is
 
-  again_grew : (before after : List (Entry C B)) (r : Result (Option Answer) StoreError) → HasTriedAgain count told m before s r after → GrewFor has s before after
-  again_grew before after (Ok None) h = grew_as before after h.ok.1
-  again_grew before after (Ok (Some a)) h = retry_grew before after a h.ok.1.noted h.ok.1.list
-  again_grew before after (Err e) h = given_up_grew before after e h.err
+    given_up_breaks : (before after : List (Entry C B)) (e : StoreError) → IsGivenUp count before s e after → Breaking true before after
+    given_up_breaks before after (store_error.Session e) is = absurd is
+    given_up_breaks before after store_error.NoMemory is = breaks_by_failure has s (doing.Call call) true None is.0 None before after is.1
+    given_up_breaks before after store_error.DiskFault is = breaks_by_failure has s (doing.Call call) true None is.0 (Some is.1) before after is.2
+    given_up_breaks before after (store_error.Halted faults) is = absurd is
 
-  waited_grew : (n : ℕ) (from after : List (Entry C B)) → HaveWaited count told m has from s n after → GrewFor has s from after
-  waited_grew zero from after h = grew_as from after h
-  waited_grew (suc n) from after h =
-      grew_on has s from h.1 after (grew_on has s from h.0 h.1 (waited_grew n from h.0 h.3) (grew_by_others has s h.0 h.1 h.4)) (again_grew h.1 after (Ok (Some h.2)) h.6)
+    -- behind a retry that waits, which may be no entry
+    breaks_behind_retry : (found mid to : List (Entry C B)) (a : Answer) (noted : Bool) → store_waits.is_wait a ≡ true → mid ≡ with_retry found s a noted → Breaking true mid to → Breaking true found to
+    breaks_behind_retry found mid to a false w is on = subst (λ (z : List (Entry C B)). Breaking true z to) is on
+    breaks_behind_retry found mid to a true w is on = breaks_behind_wait has s (doing.Call call) true event.Retry (said.Call a) found mid to refl (event_waits a w) is on
 
-  called_again_grew : (from after : List (Entry C B)) (r : Result Ended StoreError) → HasCalledAgain count told m has from s r after → GrewFor has s from after
-  called_again_grew from after r h =
-      grew_on has s from h.found after (grew_on has s from h.mid h.found (waited_grew h.waits from h.mid h.waited) (grew_by_others has s h.mid h.found h.goes_on)) (again_grew h.found after (as_later r) h.last)
+    breaks_behind_retries : (n : ℕ) (from mid to : List (Entry C B)) → HaveWaited count told m has from s n mid → Breaking true mid to → Breaking true from to
+    breaks_behind_retries zero from mid to h on = subst (λ (z : List (Entry C B)). Breaking true z to) h on
+    breaks_behind_retries (suc n) from mid to h on =
+        let here = breaks_behind_retry h.1 mid to h.2 h.6.ok.1.noted h.5 h.6.ok.1.list on in
+        breaks_behind_retries n from h.0 to h.3 (breaks_behind has s (doing.Call call) own true h.0 h.1 to h.4 here)
 
-  -- a call that met a fault
-  pub failed_grew : (before after : List (Entry C B)) (call : C) (e : StoreError) → HasCalled count told m has before s call (Err e) after → GrewFor has s before after
-  failed_grew before after call e h = go h.steps
-    where
-      go : HasTried count before s call (as_first (Err e)) after ⊎ HasWaited count told m has before s call (Err e) after → GrewFor has s before after
-      go (inl t) = tried_grew before after call e t.err
-      go (inr w) = grew_on has s before w.waiting after (grew_by_one has s before w.waiting (event.Call call) (said.Call w.given) w.tried.ok) (called_again_grew w.waiting after (Err e) w.again)
+    called_again_breaks : (waiting after : List (Entry C B)) (e : StoreError) → HasCalledAgain count told m has waiting s (Err e) after → Breaking true waiting after
+    called_again_breaks waiting after e h =
+        breaks_behind_retries h.waits waiting h.mid after h.waited (breaks_behind has s (doing.Call call) own true h.mid h.found after h.goes_on (given_up_breaks h.found after e h.last.err))
+
+    pub failed_breaks : (before after : List (Entry C B)) (e : StoreError) → HasCalled count told m has before s call (Err e) after → BreaksOn has s (doing.Call call) false before after
+    failed_breaks before after e h = go h.steps
+      where
+        go : HasTried count before s call (as_first (Err e)) after ⊎ HasWaited count told m has before s call (Err e) after → Breaking false before after
+        go (inl t) = tried_breaks before after e t.err
+        go (inr w) = breaks_behind_wait has s (doing.Call call) false (event.Call call) (said.Call w.given) before w.waiting after refl (event_waits w.given w.waits) w.tried.ok (called_again_breaks w.waiting after e w.again)
 
   -- a call that is refused added nothing
   pub refused_same : (before after : List (Entry C B)) (call : C) (e : SessionError) → HasCalled count told m has before s call (Err (store_error.Session e)) after → after ≡ before
@@ -206,11 +207,13 @@ module _ {C B : Type 0} (count : B → ℕ) (told : B → Option Entries) (m : C
 
 module _ {C B : Type 0} (count : B → ℕ) (told : B → Option Entries) (m : CallMeaning C) where
   pub call_leaves : (p q : SessionView C B) (call : C) (r : Result Ended StoreError) → has_number p.has p.under ≡ true → HasDone p q (λ before after. HasCalled count told m p.has before p.under call r after)
-      → LineLeaves told m p (doing.Call call) q (as_ended r)
-  call_leaves p q call r own h = record { same = h.same; leaves = go r h.did }
+      → Leaves told m p (doing.Call call) q (as_ended r)
+  call_leaves p q call r own h = go r h.did
     where
-      fails : (e : StoreError) → HasCalled count told m p.has h.before p.under call (Err e) q.seen → GrewFor p.has p.under p.seen q.seen
-      fails e did = grew_on p.has p.under p.seen h.before q.seen (grew_by_others p.has p.under p.seen h.before h.goes_on) (failed_grew count told m p.has p.under h.before q.seen call e did)
+      fails : (e : StoreError) → HasCalled count told m p.has h.before p.under call (Err e) q.seen → HasBroken p.has p.under (doing.Call call) p.seen q.seen
+      fails e did =
+          let by = failed_breaks count told m p.has p.under own call h.before q.seen e did in
+          is_broken p.has p.under (doing.Call call) p.seen q.seen (breaks_behind p.has p.under (doing.Call call) own false p.seen h.before q.seen h.goes_on by)
 
       go : (r : Result Ended StoreError) → HasCalled count told m p.has h.before p.under call r q.seen → Leaves told m p (doing.Call call) q (as_ended r)
       go (Ok e) did = call_part count told m p.has p.under own p.seen h.before q.seen call e h.goes_on did

@@ -8,7 +8,7 @@ use Rattle.command_lines.specs.declared.line_reply.LineReply.{LineReply}
 use Rattle.session_driver.specs.declared.doing.Doing.{Doing}
 use Rattle.session_driver.specs.declared.doing.Doing.TheVariants as doing
 use Rattle.worker_run.specs.Ports.{Exchange}
-use Rattle.worker_run.specs.Workers.{own_exchanges}
+use Rattle.worker_run.specs.Workers.{own_exchanges, own_lines}
 use Rattle.workers_text.specs.Sessions.{Printed}
 
 module _ {C : Type 0} (made : StoreCall → C) where
@@ -26,3 +26,7 @@ module _ {C : Type 0} (made : StoreCall → C) where
   -- the lines of a session, each with the reply that stands in its place
   abbrev pub own_printed : ℕ → List Command → List LineReply → List (Printed C)
   own_printed s lines replies = map printed (own_exchanges s lines replies)
+
+  -- what a session is asked by these lines
+  abbrev pub own_doings : ℕ → List Command → List (Doing C)
+  own_doings s lines = map (λ (c : Command). doing_of c.what) (own_lines s lines)

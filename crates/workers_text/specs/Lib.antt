@@ -2,5 +2,6 @@ pub mod Sessions
 pub mod WorkersText
 pub mod Asking
 pub mod StorePorts
+pub mod Journals
 -- words that private functions alone use
 pub mod inside

@@ -1,10 +1,11 @@
 -- What one session's lines do among all entries of a book, where waits aren't printed (docs/PROFILE.md, "Workers").
-use Rattle.std.specs.Prelude.{◌≡◌, ◌==◌, ◌⊎◌, ℕ, Bool, true, false, List, [], ◌∷◌, ◌++◌, Option, Some, None}
+use Rattle.std.specs.Prelude.{◌≡◌, ◌==◌, ◌⊎◌, ℕ, Bool, true, false, List, [], ◌∷◌, ◌++◌, map, Option, Some, None}
 use Rattle.std.specs.List.{AllByRecursion}
 use Rattle.call_contract.specs.Books.{Book, last, next}
 use Rattle.call_contract.specs.Calls.{CallMeaning}
 use Rattle.call_contract.specs.States.{State, of_session}
 use Rattle.call_contract.specs.declared.events.Answer.TheVariants as answer
+use Rattle.call_contract.specs.declared.events.Event.{Event}
 use Rattle.call_contract.specs.declared.events.Event.TheVariants as event
 use Rattle.call_contract.specs.declared.events.EventAnswer.{EventAnswer}
 use Rattle.call_contract.specs.declared.events.EventAnswer.TheVariants as said
@@ -33,9 +34,45 @@ abbrev pub IsReplyOr : ℕ → EventAnswer → LineReply → (Option LineReply �
 IsReplyOr s a reply behind true = behind (Some reply)
 IsReplyOr s a reply behind false = (line_of s false a ≡ reply ∷ []) × behind None
 
+-- the attempt of a call failed
+abbrev pub is_failure : {C : Type 0} → Event C → Bool
+is_failure (event.Fail call k f) = true
+is_failure e = false
+
 -- all entries are other sessions'
 abbrev pub AreOthers : {C : Type 0} → ℕ → Book C → Type 0
 AreOthers s book = AllByRecursion (λ n. (n.session == s) ≡ false) book
+
+module _ {C : Type 0} where
+  -- ---- a line that isn't answered
+
+  -- an attempt of what a session was asked; while its call waits, a retry
+  abbrev pub IsAttempt : Doing C → Bool → Event C → Type 0
+  IsAttempt d false e = e ≡ event_of d
+  IsAttempt d true e = e ≡ event.Retry
+
+  -- an entry of the session is an attempt after which the call waits; or it is the last: an attempt, or the failure of one
+  abbrev pub IsUnanswered : ℕ → Doing C → Bool → Noted C → Book C → Type 0 → Type 0
+  IsUnanswered s d waits n ns behind = (IsAttempt d waits n.event × (is_wait n.answer ≡ true) × behind) ⊎ ((IsAttempt d waits n.event ⊎ (is_failure n.event ≡ true)) × AreOthers s ns)
+
+  -- one of another session is passed over
+  abbrev pub MeetsUnanswered : ℕ → Doing C → Bool → Noted C → Book C → (Bool → Type 0) → Bool → Type 0
+  MeetsUnanswered s d waits n ns behind true = IsUnanswered s d waits n ns (behind true)
+  MeetsUnanswered s d waits n ns behind false = behind waits
+
+  -- the entries have of the session those of this line, as far as it came
+  abbrev pub Breaks : ℕ → Doing C → Bool → Book C → Type 0
+  Breaks s d waits [] = Unit {0}
+  Breaks s d waits (n ∷ ns) = MeetsUnanswered s d waits n ns (λ w. Breaks s d w ns) (n.session == s)
+
+  -- .. of the next of these lines, if there is one
+  abbrev pub BreaksNext : ℕ → List (Doing C) → Book C → Type 0
+  BreaksNext s [] book = AreOthers s book
+  BreaksNext s (d ∷ ds) book = Breaks s d false book
+
+  -- what was asked, without the replies
+  abbrev pub doings_of : List (Printed C) → List (Doing C)
+  doings_of ps = map (λ p. p.doing) ps
 
 module _ {C : Type 0} (m : CallMeaning C) where
   -- ---- lines that are refused
@@ -101,3 +138,16 @@ module _ {C : Type 0} (m : CallMeaning C) where
     pub book : whole ≡ entries ++ rest
     pub lines : Part s st entries None ps
     pub ends : Ends s (last m st entries) rest
+
+  -- The book has the entries of the first of these lines of the session, then those of the next one as far as it came, then perhaps the session's abort, and no other entry of it.
+  pub record DoesSome (s : ℕ) (st : State C) (whole : Book C) (asked : List (Doing C)) : Type 0 where
+    pub entries : Book C
+    pub broken : Book C
+    pub rest : Book C
+    pub book : whole ≡ entries ++ (broken ++ rest)
+    pub done : List (Printed C)
+    pub left : List (Doing C)
+    pub all : asked ≡ doings_of done ++ left
+    pub lines : Part s st entries None done
+    pub breaks : BreaksNext s left broken
+    pub ends : Ends s (last m st (entries ++ broken)) rest

@@ -7,6 +7,7 @@ use Rattle.command_lines.specs.declared.line_reply.LineReply.{LineReply}
 use Rattle.command_lines.specs.declared.line_reply.LineReply.TheVariants.{Order}
 use Rattle.session_driver.specs.Lines.{Asked}
 use Rattle.tree_model.specs.Tree.{Tree}
+use Rattle.session_driver.specs.declared.doing.Doing.{Doing}
 use Rattle.workers_text.specs.Sessions.{Does, Printed}
 
 -- a line that isn't blank: what a session is asked, or a bad line with its reply
@@ -28,6 +29,12 @@ printed_of s [] rs = []
 printed_of s (line ∷ lines) [] = []
 printed_of s (asked a ∷ lines) (r ∷ rs) = if a.session == s then record { doing = a.doing; reply = r } ∷ printed_of s lines rs else printed_of s lines rs
 printed_of s (bad b ∷ lines) (r ∷ rs) = printed_of s lines rs
+
+-- what these lines ask of a session
+abbrev pub asked_of : {C : Type 0} → ℕ → List (Line C) → List (Doing C)
+asked_of s [] = []
+asked_of s (asked a ∷ lines) = if a.session == s then a.doing ∷ asked_of s lines else asked_of s lines
+asked_of s (bad b ∷ lines) = asked_of s lines
 
 -- session and ordinal of each committed transaction, in the order of their commits
 abbrev pub order_of : {C : Type 0} → Book C → LineReply

@@ -1,7 +1,7 @@
 //! The answers of a session's calls, as lines of a worker have them.
 ghost use Rattle.std.specs.Prelude.{◌≡◌};
 ghost use Rattle.session_driver.specs.Driving.{shown_why};
-ghost use Rattle.workers_text.specs.inside.Answering.{as_ended, as_error, as_nothing, as_number, as_reply};
+ghost use Rattle.workers_text.specs.inside.Answering.{as_ended, as_error, as_fault, as_nothing, as_number, as_reply};
 
 use command_lines::{LineAnswer, LineReply, SessionRefusal};
 use shared_store::{Ended, StoreError};
@@ -35,6 +35,17 @@ fn error(error: StoreError) -> Result<LineAnswer, PortFault>
         StoreError::DiskFault => Err(PortFault::DiskFault),
         StoreError::NoMemory => Err(PortFault::NoMemory),
         StoreError::Halted { faults } => Err(PortFault::Halted { faults }),
+    }
+}
+
+/// Why a port does no more lines, by the error of a call that can't be refused.
+pub(crate) fn fault_of(error: StoreError) -> PortFault
+    ensures { result ≡ as_fault error }
+{
+    match error {
+        StoreError::Session(_) | StoreError::NoMemory => PortFault::NoMemory,
+        StoreError::DiskFault => PortFault::DiskFault,
+        StoreError::Halted { faults } => PortFault::Halted { faults },
     }
 }
 

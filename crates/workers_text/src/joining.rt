@@ -1,17 +1,20 @@
-//! Ports for the sessions of a script, split off one session and joined again.
-ghost use Rattle.std.specs.Prelude.{◌≡◌, ◌≢◌, ◌<◌, ◌∷◌, ◌++◌, [], length, true, false, vec_capacity, slice_set, IsTrue};
+//! Ports for the sessions of a script, split off one member and joined again.
+ghost use Rattle.std.specs.Prelude.{◌≡◌, ◌≢◌, ◌<◌, ◌∷◌, ◌++◌, [], length, true, vec_capacity, is_some};
 ghost use Rattle.std.specs.List.{AllByRecursion};
-ghost use Rattle.turn_lock.specs.Turns.{all_numbers, has_number};
+ghost use Rattle.turn_lock.specs.Turns.{has_number};
+ghost use Rattle.group_commit.specs.Marks.{opening_in};
+ghost use Rattle.group_commit.specs.Members.{IsOf, without_number};
 ghost use Rattle.workers_text.specs.StorePorts.{HaveSessions, IsSessionNumber, store_ports};
-ghost use Rattle.workers_text.specs.inside.Joining.{GoesFrom, HaveGivenOnes, IsFresh, IsJoinedTo, IsServed, MayJoin, SplitSoFar, fresh_port, having_numbers};
+ghost use Rattle.workers_text.specs.inside.Joining.{GoesFrom, HasGivenAway, HaveGivenOnes, IsFirst, IsFresh, IsJoinedTo, IsServed, MayJoin, fresh_port};
 
 use crate::line_call::LineCall;
 use crate::port::StorePort;
 use call_contract::TreeCall;
 use command_lines::Command;
 use dewey_labels::List;
+use group_commit::{GroupCommit, Member};
 use node_seq::NodeRead;
-use shared_store::{Session, Store};
+use outside_traits::Disk;
 
 /// Keeps an item; there is room for it.
 pub(crate) fn keep<X: Drop>(items: &mut Vec<X>, item: X)
@@ -24,41 +27,41 @@ pub(crate) fn keep<X: Drop>(items: &mut Vec<X>, item: X)
 }
 
 /// Splits off a port under a number; there is room for it.
-fn split_port<'a, C: TreeCall + LineCall + Drop, B: NodeRead + Drop>(
-    store: &'a Store<C, B>,
-    main: &mut Session<C, B>,
+fn split_port<'a, C: TreeCall + LineCall + Drop, B: NodeRead + Drop, J: Disk>(
+    group: &'a GroupCommit<C, B, J>,
+    main: &mut Member<C, B, J>,
     number: u32,
-    ports: &mut Vec<StorePort<'a, C, B>>,
+    ports: &mut Vec<StorePort<'a, C, B, J>>,
 )
-    requires store { main.old.lock ≡ store.now }
-    requires number { (has_number main.old.has number ≡ true) × (main.old.under ≢ number) }
+    requires group { IsOf group.now main.old }
+    requires opened { is_some (opening_in main.old.pass.seen) ≡ true }
+    requires number { (has_number main.old.session.has number ≡ true) × (main.old.session.under ≢ number) }
     requires session { IsSessionNumber number }
     requires room { length ports.old.items < vec_capacity ports.old }
-    ensures main { main.new ≡ having_numbers (slice_set main.old.has number false) main.old }
+    ensures main { main.new ≡ without_number number main.old }
     ensures ports { ports.new.items ≡ ports.old.items ++ fresh_port main.old number ∷ [] }
 {
-    let session = main.split(store, number);
-    keep(ports, StorePort::new(store, session, number));
+    let member = group.split(main, number);
+    keep(ports, StorePort::new(group, member, number));
 }
 
-/// Splits off a port for each session that has lines, but for the one that the session itself works under. False for want of memory.
-pub(crate) fn split_ports<'a, C: TreeCall + LineCall + Drop, B: NodeRead + Drop>(
-    store: &'a Store<C, B>,
-    main: &mut Session<C, B>,
+/// Splits off a port for each session that has lines, but for the one that the member itself works under. False for want of memory.
+pub(crate) fn split_ports<'a, C: TreeCall + LineCall + Drop, B: NodeRead + Drop, J: Disk>(
+    group: &'a GroupCommit<C, B, J>,
+    main: &mut Member<C, B, J>,
     own: u32,
     lines: &[Command],
-    ports: &mut Vec<StorePort<'a, C, B>>,
+    ports: &mut Vec<StorePort<'a, C, B, J>>,
 ) -> bool
-    requires store { main.old.lock ≡ store.now }
-    requires own { own ≡ main.old.under }
+    requires first { IsFirst group.now main.old }
+    requires own { own ≡ main.old.session.under }
     requires lines { HaveSessions lines.now }
-    requires all { (main.old.has ≡ all_numbers) × (main.old.under < 65) }
     requires none { ports.old.items ≡ [] }
-    ensures main { main.new ≡ having_numbers main.new.has main.old }
-    ensures own { has_number main.new.has main.new.under ≡ true }
-    ensures fresh { AllByRecursion (IsFresh main.old.lock main.old.seen) ports.new.items }
-    ensures given { HaveGivenOnes (store_ports B.contents C.meaning C.made) main.new ports.new.items }
-    ensures served { result ≡ true → AllByRecursion (IsServed main.new) lines.now }
+    ensures main { HasGivenAway main.old main.new }
+    ensures own { has_number main.new.session.has main.new.session.under ≡ true }
+    ensures fresh { AllByRecursion (IsFresh main.old) ports.new.items }
+    ensures given { HaveGivenOnes (store_ports B.contents C.meaning C.made) main.new.session ports.new.items }
+    ensures served { result ≡ true → AllByRecursion (IsServed main.new.session) lines.now }
 {
     for command in lines {
         let number = command.session;
@@ -66,45 +69,45 @@ pub(crate) fn split_ports<'a, C: TreeCall + LineCall + Drop, B: NodeRead + Drop>
             if ports.reserve(1).is_err() {
                 return false;
             }
-            split_port(store, main, number, ports);
+            split_port(group, main, number, ports);
         }
     }
     true
 }
 
-/// Joins ports to a session.
-pub(crate) fn join_ports<C: TreeCall + LineCall + Drop, B: NodeRead + Drop>(
-    store: &Store<C, B>,
-    main: &mut Session<C, B>,
-    mut ports: Vec<StorePort<'_, C, B>>,
+/// Joins ports to a member.
+pub(crate) fn join_ports<C: TreeCall + LineCall + Drop, B: NodeRead + Drop, J: Disk>(
+    group: &GroupCommit<C, B, J>,
+    main: &mut Member<C, B, J>,
+    mut ports: Vec<StorePort<'_, C, B, J>>,
 )
-    requires store { main.old.lock ≡ store.now }
-    requires ports { AllByRecursion (MayJoin store.now) ports.items }
-    ensures store { main.new.lock ≡ store.now }
+    requires group { IsOf group.now main.old }
+    requires ports { AllByRecursion (MayJoin group.now) ports.items }
+    ensures group { IsOf group.now main.new }
     ensures main { GoesFrom main.old main.new }
     ensures ports { AllByRecursion (IsJoinedTo main.new) ports.entry.items }
 {
     while let Some(port) = ports.pop() {
-        store.join(main, port.into_session());
+        group.join(main, port.into_member());
     }
 }
 
 /// Joins all ports to the last one.
-pub(crate) fn join_all<C: TreeCall + LineCall + Drop, B: NodeRead + Drop>(
-    store: &Store<C, B>,
-    ports: List<StorePort<'_, C, B>>,
-) -> Session<C, B>
+pub(crate) fn join_all<C: TreeCall + LineCall + Drop, B: NodeRead + Drop, J: Disk>(
+    group: &GroupCommit<C, B, J>,
+    ports: List<StorePort<'_, C, B, J>>,
+) -> Member<C, B, J>
     requires some { ports ≢ [] }
-    requires ports { AllByRecursion (MayJoin store.now) ports }
-    ensures store { result.lock ≡ store.now }
+    requires ports { AllByRecursion (MayJoin group.now) ports }
+    ensures group { IsOf group.now result }
     ensures ports { AllByRecursion (IsJoinedTo result) ports.entry }
 {
     let mut ports = ports.into_vec();
     match ports.pop() {
         None => unreachable!(),
         Some(port) => {
-            let mut main = port.into_session();
-            join_ports(store, &mut main, ports);
+            let mut main = port.into_member();
+            join_ports(group, &mut main, ports);
             main
         }
     }

@@ -4,7 +4,7 @@ ghost use Rattle.std.specs.Prelude.{◌≡◌, ◌==◌, ◌++◌, ℕ, List, []
 ghost use Rattle.call_contract.specs.Books.{Book, last, next};
 ghost use Rattle.call_contract.specs.States.{State, of_session};
 ghost use Rattle.call_contract.specs.declared.events.Noted.{Noted};
-ghost use Rattle.workers_text.specs.Sessions.{AreOthers, Part, Printed};
+ghost use Rattle.workers_text.specs.Sessions.{AreOthers, Does, DoesSome, Part, Printed, doings_of};
 
 use call_contract::TreeCall;
 
@@ -26,4 +26,10 @@ pub fn entries_of_others_are_passed_over<C: TreeCall>()
 pub fn entries_of_others_leave_a_session<C: TreeCall>()
     ensures live { (s : ℕ) (st : State C) (n : Noted C) → (n.session == s) ≡ false → of_session s (next C.meaning st n).live ≡ of_session s st.live }
     ensures ordinal { (s : ℕ) (st : State C) (n : Noted C) → (n.session == s) ≡ false → (next C.meaning st n).ordinals s ≡ st.ordinals s }
+{}
+
+/// What a book has of all of these lines of a session, it has of what was asked by them.
+#[tactic(auto, using(crate::proofs::InPart::done_in_part))]
+pub fn what_is_done_is_done_in_part<C: TreeCall>()
+    ensures { (s : ℕ) (st : State C) (book : Book C) (ps : List (Printed C)) → Does C.meaning s st book ps → DoesSome C.meaning s st book (doings_of ps) }
 {}

@@ -1,4 +1,4 @@
-//! The sessions of a store as the ports of workers.
+//! The members of a group commit as the ports of workers.
 ghost use Rattle.std.specs.Prelude.{◌≡◌, ◌≢◌, None, true};
 ghost use Rattle.command_lines.specs.ValidCommands.{IsValidCommand};
 ghost use Rattle.turn_lock.specs.Turns.{has_number};
@@ -12,24 +12,26 @@ use crate::asking::doing_of;
 use crate::line_call::LineCall;
 use call_contract::TreeCall;
 use command_lines::{Command, LineAnswer, LineReply};
+use group_commit::{GroupCommit, Member};
 use node_seq::NodeRead;
+use outside_traits::Disk;
 use session_driver::Doing;
-use shared_store::{Session, Store};
 use std::alloc::Global;
 use std::marker::Model;
 use std::sync::Wait;
 use worker_run::{PortFault, SessionPort};
 
-/// A session of a store that does lines: a call waits until it is answered, and nothing is written of that.
+/// A member of a group commit that does lines: a call waits until it is answered, and nothing is written of that; a commit is durable once it is answered.
 #[derive(Drop)]
-pub struct StorePort<'a, C: TreeCall + LineCall + Drop, B: NodeRead + Drop> {
-    store: &'a Store<C, B>,
-    session: Session<C, B>,
+pub struct StorePort<'a, C: TreeCall + LineCall + Drop, B: NodeRead + Drop, J: Disk> {
+    group: &'a GroupCommit<C, B, J>,
+    member: Member<C, B, J>,
     number: u32,
     fault: Option<PortFault>,
 }
 
-impl<'a, C: TreeCall + LineCall + Drop, B: NodeRead + Drop> Model for StorePort<'a, C, B> {
+impl<'a, C: TreeCall + LineCall + Drop, B: NodeRead + Drop, J: Disk> Model
+    for StorePort<'a, C, B, J> {
     ghost use Rattle.std.specs.Coded.{codes};
     ghost use Rattle.atomic_table.specs.Seated.{table_id_coded};
     ghost use Rattle.tree_model.specs.contracts.fragment.Fragment as fragment;
@@ -40,124 +42,129 @@ impl<'a, C: TreeCall + LineCall + Drop, B: NodeRead + Drop> Model for StorePort<
 
     ghost coded = { Prim.hlevel (codes, table_id_coded, fragment.the_row.coded) };
 
-    ghost view = { λ p. record { session = p.session; fault = p.fault } };
+    ghost view = { λ p. record { session = p.member.session; pass = p.member.pass; fault = p.fault } };
 
-    ghost invariant = { λ p. IsPort p.store.now p.session × (p.number ≡ p.session.under) };
+    ghost invariant = { λ p. IsPort p.group.now p.member × (p.number ≡ p.member.session.under) };
 }
 
-impl<'a, C: TreeCall + LineCall + Drop, B: NodeRead + Drop> StorePort<'a, C, B> {
+impl<'a, C: TreeCall + LineCall + Drop, B: NodeRead + Drop, J: Disk> StorePort<'a, C, B, J> {
     /// A port that has met no fault.
-    pub fn new(store: &'a Store<C, B>, session: Session<C, B>, number: u32) -> StorePort<'a, C, B>
-        requires { IsPort store.now session × (number ≡ session.under) }
-        ensures { result ≡ record { session = session; fault = None } }
+    pub fn new(
+        group: &'a GroupCommit<C, B, J>,
+        member: Member<C, B, J>,
+        number: u32,
+    ) -> StorePort<'a, C, B, J>
+        requires { IsPort group.now member × (number ≡ member.session.under) }
+        ensures { result ≡ record { session = member.session; pass = member.pass; fault = None } }
     {
         StorePort {
-            store,
-            session,
+            group,
+            member,
             number,
             fault: None,
         }
     }
 
-    /// The session.
-    pub fn into_session(self) -> Session<C, B>
-        ensures { result ≡ self.entry.session }
+    /// The member.
+    pub fn into_member(self) -> Member<C, B, J>
+        ensures { result ≡ record { session = self.entry.session; pass = self.entry.pass } }
     {
-        let StorePort { session, .. } = self;
-        session
+        let StorePort { member, .. } = self;
+        member
     }
 }
 
 /// Begins a transaction.
-fn begin<R: Wait, C: TreeCall + LineCall + Drop, B: NodeRead + Drop>(
+fn begin<R: Wait, C: TreeCall + LineCall + Drop, B: NodeRead + Drop, J: Disk>(
     rt: &R,
     alloc: Global,
-    store: &Store<C, B>,
-    session: &mut Session<C, B>,
+    group: &GroupCommit<C, B, J>,
+    member: &mut Member<C, B, J>,
 ) -> Result<LineAnswer, PortFault>
-    requires { IsPort store.now session.old }
-    ensures { LineLeaves B.contents C.meaning session.old asked.Begin session.new result }
+    requires { IsPort group.now member.old }
+    ensures { LineLeaves B.contents C.meaning member.old asked.Begin member.new result }
 {
-    number(session.begin(rt, alloc, store))
+    number(member.begin(rt, alloc, group.store()))
 }
 
 /// Commits.
-fn commit<R: Wait, C: TreeCall + LineCall + Drop, B: NodeRead + Drop>(
+fn commit<R: Wait, C: TreeCall + LineCall + Drop, B: NodeRead + Drop, J: Disk>(
     rt: &R,
     alloc: Global,
-    store: &Store<C, B>,
-    session: &mut Session<C, B>,
+    group: &GroupCommit<C, B, J>,
+    member: &mut Member<C, B, J>,
 ) -> Result<LineAnswer, PortFault>
-    requires { IsPort store.now session.old }
-    ensures { LineLeaves B.contents C.meaning session.old asked.Commit session.new result }
+    requires { IsPort group.now member.old }
+    ensures { LineLeaves B.contents C.meaning member.old asked.Commit member.new result }
 {
-    number(session.commit(rt, alloc, store))
+    number(group.commit(rt, alloc, member))
 }
 
 /// Aborts.
-fn abort<R: Wait, C: TreeCall + LineCall + Drop, B: NodeRead + Drop>(
+fn abort<R: Wait, C: TreeCall + LineCall + Drop, B: NodeRead + Drop, J: Disk>(
     rt: &R,
-    store: &Store<C, B>,
-    session: &mut Session<C, B>,
+    group: &GroupCommit<C, B, J>,
+    member: &mut Member<C, B, J>,
 ) -> Result<LineAnswer, PortFault>
-    requires { IsPort store.now session.old }
-    ensures { LineLeaves B.contents C.meaning session.old asked.Abort session.new result }
+    requires { IsPort group.now member.old }
+    ensures { LineLeaves B.contents C.meaning member.old asked.Abort member.new result }
 {
-    nothing(session.abort(rt, store))
+    nothing(member.abort(rt, group.store()))
 }
 
 /// Makes a call, which waits until it is answered.
-fn call<R: Wait, C: TreeCall + LineCall + Drop, B: NodeRead + Drop>(
+fn call<R: Wait, C: TreeCall + LineCall + Drop, B: NodeRead + Drop, J: Disk>(
     rt: &R,
     alloc: Global,
-    store: &Store<C, B>,
-    session: &mut Session<C, B>,
+    group: &GroupCommit<C, B, J>,
+    member: &mut Member<C, B, J>,
     call: C,
 ) -> Result<LineAnswer, PortFault>
-    requires { IsPort store.now session.old }
-    ensures { LineLeaves B.contents C.meaning session.old (asked.Call call) session.new result }
+    requires { IsPort group.now member.old }
+    ensures { LineLeaves B.contents C.meaning member.old (asked.Call call) member.new result }
 {
-    ended(session.call(rt, alloc, store, call))
+    ended(member.call(rt, alloc, group.store(), call))
 }
 
 /// Does what a line asks.
-fn answer<R: Wait, C: TreeCall + LineCall + Drop, B: NodeRead + Drop>(
+fn answer<R: Wait, C: TreeCall + LineCall + Drop, B: NodeRead + Drop, J: Disk>(
     rt: &R,
     alloc: Global,
-    store: &Store<C, B>,
-    session: &mut Session<C, B>,
+    group: &GroupCommit<C, B, J>,
+    member: &mut Member<C, B, J>,
     doing: Doing<C>,
 ) -> Result<LineAnswer, PortFault>
-    requires { IsPort store.now session.old }
-    ensures { LineLeaves B.contents C.meaning session.old doing session.new result }
+    requires { IsPort group.now member.old }
+    ensures { LineLeaves B.contents C.meaning member.old doing member.new result }
 {
     match doing {
-        Doing::Begin => begin(rt, alloc, store, session),
-        Doing::Commit => commit(rt, alloc, store, session),
-        Doing::Abort => abort(rt, store, session),
-        Doing::Call(made) => call(rt, alloc, store, session, made),
+        Doing::Begin => begin(rt, alloc, group, member),
+        Doing::Commit => commit(rt, alloc, group, member),
+        Doing::Abort => abort(rt, group, member),
+        Doing::Call(made) => call(rt, alloc, group, member, made),
     }
 }
 
 /// Does a command.
-fn command_answer<R: Wait, C: TreeCall + LineCall + Drop, B: NodeRead + Drop>(
+fn command_answer<R: Wait, C: TreeCall + LineCall + Drop, B: NodeRead + Drop, J: Disk>(
     rt: &R,
     alloc: Global,
-    store: &Store<C, B>,
-    session: &mut Session<C, B>,
+    group: &GroupCommit<C, B, J>,
+    member: &mut Member<C, B, J>,
     command: &Command,
 ) -> Result<LineAnswer, PortFault>
-    requires port { IsPort store.now session.old }
+    requires port { IsPort group.now member.old }
     requires valid { IsValidCommand command.now }
-    ensures { LineLeaves B.contents C.meaning session.old (meant C.made command.now.what) session.new result }
+    ensures { LineLeaves B.contents C.meaning member.old (meant C.made command.now.what) member.new result }
 {
     match command.what.copy(alloc) {
-        Ok(what) => answer(rt, alloc, store, session, doing_of(what)),
+        Ok(what) => answer(rt, alloc, group, member, doing_of(what)),
         Err(_) => Err(PortFault::NoMemory),
     }
 }
 
-impl<'a, C: TreeCall + LineCall + Drop, B: NodeRead + Drop> SessionPort for StorePort<'a, C, B> {
+impl<'a, C: TreeCall + LineCall + Drop, B: NodeRead + Drop, J: Disk> SessionPort
+    for StorePort<'a, C, B, J> {
     ghost use Rattle.workers_text.specs.StorePorts.{store_ports};
     ghost use Rattle.workers_text.specs.inside.PortLaws.{nothing_done, done_on};
 
@@ -169,7 +176,7 @@ impl<'a, C: TreeCall + LineCall + Drop, B: NodeRead + Drop> SessionPort for Stor
         alloc: Global,
         command: &Command,
     ) -> Result<LineReply, PortFault> {
-        let answer = command_answer(rt, alloc, self.store, &mut self.session, command);
+        let answer = command_answer(rt, alloc, self.group, &mut self.member, command);
         if let Err(fault) = answer {
             self.fault = Some(fault);
             return Err(fault);
@@ -186,7 +193,7 @@ impl<'a, C: TreeCall + LineCall + Drop, B: NodeRead + Drop> SessionPort for Stor
     }
 
     fn end<R: Wait>(&mut self, rt: &R) {
-        let _ended = self.session.abort(rt, self.store);
+        let _ended = self.member.abort(rt, self.group.store());
     }
 
     ghost did_nothing = { nothing_done B.contents C.meaning C.made };

@@ -21,7 +21,7 @@ use Rattle.durable_sessions.specs.Asked.{GrowsByOne, TakesNext}
 use Rattle.store_calls.specs.StoreCalls.{IsValidStoreCall, store_meaning}
 use Rattle.tx_core.specs.Cores.{state_from}
 use Rattle.xtc.specs.Checkpoints.{HoldFirst, fits, is_tried, last_made, made_or, tree_after}
-use Rattle.xtc.specs.StoreMachine.{HasAnswered, HasPages, HasRested, HoldMade, KeptStore, file_of}
+use Rattle.xtc.specs.StoreMachine.{HasAnswered, HasRested, HoldMade, KeptStore, file_of}
 use Rattle.xtc.proofs.CommitCounts.{commits_counted}
 use Rattle.xtc.proofs.SoundBooks.{sound_book}
 
@@ -89,10 +89,6 @@ module _ {P : Type 0} (is_known : Bool) (history : P → History) (faults : P �
   paged_still (Paged s) (Paged t) same is = refl
   paged_still (Paged s) (Copied seq count) same is = absurd same
   paged_still (Copied seq count) y same is = absurd cc
-
-  pub has_pages_still : (x y : Base P) (pages : Option P) → IsUnchanged is_known history faults x y → HasPages x pages → HasPages y pages
-  has_pages_still x y None same is = paged_still x y same is
-  has_pages_still x y (Some disk) same is = tt
 
 -- ---- a line
 

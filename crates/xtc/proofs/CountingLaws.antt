@@ -32,14 +32,14 @@ use Rattle.workload_gen.specs.Summaries.{after_line}
 use Rattle.workload_gen.specs.declared.line.Line.{Line}
 use Rattle.workload_gen.specs.declared.summary.Summary.{Summary}
 use Rattle.command_words.specs.Commands.{gen}
-use Rattle.durable_sessions.specs.Asked.{GrowsByOne, LeadsTo, LeavesEither}
+use Rattle.durable_sessions.specs.Asked.{LeadsTo, LeavesEither}
 use Rattle.durable_sessions.specs.InTurn.{AllAnswered, stop_of}
 use Rattle.durable_sessions.specs.Reasons.{first_reason, limit_of}
 use Rattle.durable_sessions.specs.Standing.{Stands}
 use Rattle.durable_sessions.specs.declared.halt.Halt.{Halt}
 use Rattle.durable_sessions.specs.declared.in_turn.Stop.TheVariants.{Refused}
 use Rattle.durable_sessions.proofs.InTurnLists.{after_on}
-use Rattle.durable_sessions.proofs.InTurnLaws.{image_holds, none_asked, step_moments, step_lines, step_stopped}
+use Rattle.durable_sessions.proofs.InTurnLaws.{image_holds, step_moments, step_lines, step_stopped}
 use Rattle.xtc.specs.Book.{after_asked}
 use Rattle.xtc.specs.Documents.{asks_of, gen_asks_of, has_documents}
 use Rattle.xtc.specs.Generated.{asked_in, counted, generated, generated_line}
@@ -72,12 +72,6 @@ pub line_asks : (line : Line) (read : Read) → read ≡ line_of (line_text line
 line_asks line read is = ap asked_in is
 
 module _ {B : Type 0} (contents : B → Option Entries) where
-  -- nothing is asked
-  pub made_nothing : (is_known : Bool) (s : State StoreCall) (core : CoreView StoreCall B) (journal : History) (now : List LineReply) → Stands store_meaning contents core s → now ≡ [] → Made contents is_known s [] journal core journal now
-  made_nothing is_known s core journal now stands none =
-      let one = none_asked IsValidStoreCall store_meaning contents limit_of is_known s core journal [] stands in
-      record { few = omega arith; valid = tt; leads = one.leads; moments = one.moments; still = one.still; replies = none }
-
   -- something is
   pub made_one : (is_known : Bool) (s : State StoreCall) (a : Asked StoreCall) → IsValidDoing IsValidStoreCall a.doing → (old new : History) → (a.doing ≢ Commit → new ≡ old) → (core : CoreView StoreCall B) (now : List LineReply)
       → LeadsTo store_meaning contents is_known old core new s (after_asked_line store_meaning s a).state → LeavesEither is_known old new s (after_asked_line store_meaning s a).state → now ≡ (after_asked_line store_meaning s a).lines
@@ -146,13 +140,6 @@ module _ {B : Type 0} (contents : B → Option Entries) where
       subst (λ (l : List (Asked StoreCall)). core.book ≡ first.book ++ (after_asked u l).book) is
       (book u stands ∙ ap (λ (b : Book StoreCall). first.book ++ b) (sym (append-nil (after_asked_line store_meaning u a).book)))
   book_asked (Err e) line a first core is book = tt
-
-  -- where nothing is asked there are none
-  pub book_unasked : (line : Line) (core : CoreView StoreCall B) → [] ≡ generated_line line → (u : State StoreCall) → Stands store_meaning contents core u → core.book ≡ core.book ++ (after_asked u (generated_line line)).book
-  book_unasked line core is u stands = subst (λ (l : List (Asked StoreCall)). core.book ≡ core.book ++ (after_asked u l).book) is (sym (append-nil core.book))
-
-  pub grows_by_none : (core : CoreView StoreCall B) → GrowsByOne core core
-  grows_by_none core = record { opening = refl; number = refl; limit = refl; more = []; book = sym (append-nil core.book); one = omega arith }
 
 -- ---- a store with documents
 

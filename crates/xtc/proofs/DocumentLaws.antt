@@ -405,13 +405,6 @@ module _ {T : Type 0} (is_known : Bool) (s : State StoreCall) (c : Command) (rea
 
 -- ---- a command that didn't begin
 
--- memory was wanting for it
-pub not_opened : {T : Type 0} (r : Result T Status) (status : Status) (is_known : Bool) (s : State StoreCall) (c : Command) (read : List ℕ) (journal : History) (bytes : T → List ℕ) → length read ≤ whole_limit → status ≡ NoMemory → IsErrAnd r (λ e. e ≡ status)
-    → DocumentDone is_known s c read journal journal bytes r
-not_opened r status is_known s c read journal bytes short no_memory is =
-    done_err r status is_known s c read journal journal bytes is
-    (subst (DocumentWent is_known s c read journal journal) (sym no_memory) (nothing_asked is_known s c read journal NoMemory tt (omega (arith, short))))
-
 -- a stop wrote nothing
 stop_unwritten : (status : Status) → IsStop status → IsUnwritten status
 stop_unwritten (DocumentRefused why) is = tt

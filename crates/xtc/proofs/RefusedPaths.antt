@@ -12,8 +12,8 @@ use Rattle.xpath_parser.specs.declared.path_error.PathError.TheVariants as error
 use Rattle.xtc.specs.Documents.{end_of, query_asks_of}
 use Rattle.xtc.specs.Statuses.{status_of_path}
 use Rattle.durable_sessions.specs.declared.reasons.Reason.TheVariants.{Path}
-use Rattle.xtc.specs.declared.status.Status.TheVariants.{DiskFault, DocumentRefused, NoMemory}
-use Rattle.xtc.specs.inside.Asking.{DocumentWent, IsStop}
+use Rattle.xtc.specs.declared.status.Status.TheVariants.{DocumentRefused, NoMemory}
+use Rattle.xtc.specs.inside.Asking.{DocumentWent}
 use Rattle.xtc.proofs.DocumentLaws.{nothing_asked}
 
 pub path_went : (is_known : Bool) (s : State StoreCall) (name : Name) (path : List ℕ) (e : PathError) (journal : History) → (e ≢ error.NoMemory → parsed path ≡ Err e)
@@ -25,15 +25,3 @@ path_went is_known s name path (error.Unsupported place what) journal refused =
     nothing_asked is_known s (query name path) [] journal (DocumentRefused (Path (error.Unsupported place what))) (ap (λ r. end_of (query name path) s (query_asks_of s name r)) (refused (λ is. cc))) (omega arith)
 path_went is_known s name path (error.Deep place) journal refused =
     nothing_asked is_known s (query name path) [] journal (DocumentRefused (Path (error.Deep place))) (ap (λ r. end_of (query name path) s (query_asks_of s name r)) (refused (λ is. cc))) (omega arith)
-
-pub path_stops : (e : PathError) → IsStop (status_of_path e)
-path_stops error.NoMemory = tt
-path_stops (error.Syntax place) = tt
-path_stops (error.Unsupported place what) = tt
-path_stops (error.Deep place) = tt
-
-pub path_no_fault : (e : PathError) → status_of_path e ≡ DiskFault → ⊥
-path_no_fault error.NoMemory is = cc
-path_no_fault (error.Syntax place) is = cc
-path_no_fault (error.Unsupported place what) is = cc
-path_no_fault (error.Deep place) is = cc

@@ -1,7 +1,6 @@
 -- What a run of the program leaves, by the status that it ends with.
-use Rattle.std.proofs.Common.{◌≡◌, ◌∙◌, Bool, true, false, not, ◌&&◌, true≢false, IsTrue, refl, sym, inl, inr, List, ℕ, zero, suc, ◌==◌, [], ap, subst}
+use Rattle.std.proofs.Common.{◌≡◌, ◌∙◌, Bool, true, false, not, ◌&&◌, true≢false, IsTrue, refl, sym, inl, inr, List, ℕ, [], ap, subst}
 use Rattle.std.specs.Prelude.{◌⊎◌, Option, None, Some}
-use Rattle.std.proofs.Math.Dec.{eqb-suc-zero}
 use Rattle.outside_traits.specs.DiskPairs.{PairsHave}
 use Rattle.tree_model.specs.declared.change.Change.{Change}
 use Rattle.tree_model.specs.Entries.{Entries, changed}
@@ -129,11 +128,6 @@ nothing_read lost (DocumentRefused why) P p = tt
 abbrev pub LosesOnly : Bool → End → Type 0
 LosesOnly lost e = (place : Place) → e ≡ end.Halted (halt.Damaged place) → IsTrue lost
 
--- what a test of a number says of whether it is positive
-pub positive_by : (every : ℕ) (b : Bool) → (every == 0) ≡ b → is_positive every ≡ not b
-positive_by zero b is = ap not is
-positive_by (suc n) b is = sym (ap not (eqb-suc-zero n)) ∙ ap not is
-
 -- a machine that makes checkpoints finds damage where nothing is known of the pages
 pub loses_by : (every : ℕ) (pages_known makes : Bool) (e : End) → is_positive every ≡ makes → ((place : Place) → e ≡ end.Halted (halt.Damaged place) → IsTrue makes × (IsTrue pages_known → ⊥)) → LosesOnly (may_lose (Some run) every pages_known) e
 loses_by every pages_known makes e policy damaged place it =
@@ -205,10 +199,6 @@ none_lost command every false known = absurd cc
 -- and doesn't end as damage, where the pages are known
 pub opened_not_damaged : (lost : Bool) (status : Status) (place : Place) → IsOfOpened lost status → lost ≡ false → status ≡ Damaged place → ⊥
 opened_not_damaged lost status place is none e = let no : IsOfOpened false (Damaged place) = subst (λ (x : Bool × Status). IsOfOpened x.0 x.1) (λ i. (none i, e i)) is in cc
-
--- nor as no command
-pub opened_not_usage : (lost : Bool) (status : Status) → IsOfOpened lost status → status ≡ Usage → ⊥
-opened_not_usage lost status is e = subst (IsOfOpened lost) e is
 
 -- where the page file is known, the map that is seen over it is known
 pub known_map : (is_known : Bool) → IsTrue is_known → (changes : List Change) (file : List ℕ) → (es : Entries) × (contents_after changes (map_of_file is_known file) ≡ Some es)

@@ -1,5 +1,5 @@
 -- A script that was run by workers: what it leaves of the whole store, by its status.
-use Rattle.std.proofs.Common.{◌≡◌, ◌≤◌, ℕ, ◌+◌, Bool, false, IsTrue, List, [], length, inl, inr, refl, sym, subst, arith}
+use Rattle.std.proofs.Common.{◌≡◌, ◌≤◌, ◌⊎◌, ℕ, ◌+◌, Bool, false, IsTrue, List, [], length, inl, inr, refl, sym, subst}
 use Rattle.std.specs.Prelude.{None, Some, Result, Ok, Err, IfOk, IfErr, IfSome, OnOk}
 use Rattle.outside_traits.specs.Bytes.{Took, TookPrefix}
 use Rattle.outside_traits.specs.CrashImages.{IsImage}
@@ -25,7 +25,7 @@ use Rattle.xtc.specs.declared.status.Status.{Status}
 use Rattle.xtc.specs.declared.status.Status.TheVariants.{Done, Usage, LineTooLong, Damaged, ReadFault, WriteFault, DiskFault, NoMemory, NotJsonMl, DocumentRefused}
 use Rattle.xtc.specs.inside.Asking.{IsQuiet, IsWriteEnd}
 use Rattle.xtc.specs.inside.CommandRuns.{RanWith, StandSettled}
-use Rattle.xtc.specs.inside.Working.{IfWorked, InputFailed, InputWorked, IsWorkersFault, IsWorkersStop, LeavesCommits, ScriptDone, Worked, WorkedAll, WorkedOrNot}
+use Rattle.xtc.specs.inside.Working.{IfWorked, InputFailed, InputWorked, IsWorkersFault, IsWorkersStop, LeavesCommits, ScriptDone, WorkedAll, WorkedSome}
 use Rattle.xtc.proofs.CommandRunLaws.{LosesOnlyAt, as_error}
 use Rattle.xtc.proofs.SoundBooks.{empty_legal, sound_book}
 use Rattle.xtc.proofs.WorkersCommits.{images_have, opens_none}
@@ -42,11 +42,11 @@ module _ (t : Tree) (n every : ℕ) (formed : IsValidTree t) (old : Pair) (files
 
   -- a crash at the start leaves none of a book's commits
   opening_has : (book : Book StoreCall) → PairsHave (OpenAfterCommits t n 0 book) old
-  opening_has book = images_have (OpenAfterCommits t n 0 book) old files.journal files.pages (opens_none t n book old.pages.now.reads 0 (omega arith) old.journal.now.reads files.stand)
+  opening_has book = images_have (OpenAfterCommits t n 0 book) old files.journal files.pages (opens_none t n book old.pages.now.reads old.journal.now.reads files.stand)
 
   -- lines were done, and the commits are found so
   with_book : (status : Status) (book : Book StoreCall) → IsBookFrom IsValidStoreCall store_meaning t n tx_limit book → LeavesCommits t n every book old o.new → PairsHave (OpenAfterCommits t n (durable_at status book) book) o.new
-      → IsWorkersOutput t n tx_limit status book o.read o.before o.now → IsWorkersEnd status o.read → NeedsWholeScript status Whole → IsOfOpened false status
+      → IsWorkersOutput t n tx_limit status book o.read o.before o.now → IsWorkersEnd status o.read → NeedsWholeScript status book Whole → IsOfOpened false status
       → (status ≡ Done → IsTrue (is_positive every) → AreMade (Some workers) every t n book o.new.journal.now.reads o.new.pages.now.reads) → Ran status
   with_book status book legal leaves left output end whole undamaged made = record {
     ran = record {
@@ -66,7 +66,7 @@ module _ (t : Tree) (n every : ℕ) (formed : IsValidTree t) (old : Pair) (files
   }
 
   -- none was done
-  with_none : (status : Status) → durable_at status [] ≡ 0 → IsWorkersOutput t n tx_limit status [] o.read o.before o.now → IsWorkersEnd status o.read → NeedsWholeScript status Whole → IsOfOpened false status → (status ≡ Done → ⊥)
+  with_none : (status : Status) → durable_at status [] ≡ 0 → IsWorkersOutput t n tx_limit status [] o.read o.before o.now → IsWorkersEnd status o.read → NeedsWholeScript status [] Whole → IsOfOpened false status → (status ≡ Done → ⊥)
       → o.new ≡ old → Ran status
   with_none status few output end whole undamaged other same =
       with_book status [] (empty_legal t n tx_limit formed)
@@ -81,11 +81,11 @@ module _ (t : Tree) (n every : ℕ) (formed : IsValidTree t) (old : Pair) (files
 
   all_worked : (status : Status) (text : List ℕ) → WorkedAll t n every lines old o.new text → too_long o.read ≡ None → Whole → IsWriteEnd status → WroteWhole status o.before o.now text → Ran status
   all_worked Done text all fits whole is wrote =
-      with_book Done all.worked.book all.worked.legal all.worked.leaves all.all.durable
-      (record { text = all.worked.text; shows = all.worked.shows; wrote = subst (Took o.before o.now) all.text_is wrote }) fits whole tt (λ done some. all.all.made some)
+      with_book Done all.book all.legal all.leaves all.all.durable
+      (record { text = all.text; shows = all.shows; wrote = subst (Took o.before o.now) all.bytes_are wrote }) fits whole tt (λ done some. all.all.made some)
   all_worked WriteFault text all fits whole is wrote =
-      with_book WriteFault all.worked.book all.worked.legal all.worked.leaves all.all.durable
-      (record { text = all.worked.text; shows = all.worked.shows; wrote = subst (TookPrefix o.before o.now) all.text_is wrote }) fits whole tt (λ done. absurd cc)
+      with_book WriteFault all.book all.legal all.leaves all.all.durable
+      (record { text = all.text; shows = all.shows; wrote = subst (TookPrefix o.before o.now) all.bytes_are wrote }) fits whole tt (λ done. absurd cc)
   all_worked Usage text all fits whole is wrote = absurd is
   all_worked (LineTooLong line) text all fits whole is wrote = absurd is
   all_worked (Damaged place) text all fits whole is wrote = absurd is
@@ -95,21 +95,21 @@ module _ (t : Tree) (n every : ℕ) (formed : IsValidTree t) (old : Pair) (files
   all_worked (NotJsonMl why) text all fits whole is wrote = absurd is
   all_worked (DocumentRefused why) text all fits whole is wrote = absurd is
 
-  -- they were done, and nothing is written
-  left_of : (worked : Worked t n every lines old o.new) → PairsHave (OpenAfterCommits t n 0 worked.book) o.new
+  -- some were, and nothing is written
+  left_of : (worked : WorkedSome t n every lines old o.new) → PairsHave (OpenAfterCommits t n 0 worked.book) o.new
   left_of worked = pairs_now (OpenAfterCommits t n 0 worked.book) old o.new worked.leaves.moments (opening_has worked.book)
 
-  disk_failed : WorkedOrNot t n every lines old o.new → too_long o.read ≡ None → Whole → o.now ≡ o.before → Ran DiskFault
-  disk_failed (inl worked) fits whole silent =
-      with_book DiskFault worked.book worked.legal worked.leaves (left_of worked) (inl (record { text = worked.text; shows = worked.shows; wrote = silent })) fits whole tt (λ done. absurd cc)
-  disk_failed (inr same) fits whole silent = with_none DiskFault refl (inr (refl, silent)) fits whole tt (λ done. cc) same
+  disk_failed : WorkedSome t n every lines old o.new → too_long o.read ≡ None → Whole → o.now ≡ o.before → Ran DiskFault
+  disk_failed worked fits whole silent =
+      with_book DiskFault worked.book worked.legal worked.leaves (left_of worked) (record { did = worked.did; silent = silent }) fits whole tt (λ done. absurd cc)
 
-  memory_failed : WorkedOrNot t n every lines old o.new → o.now ≡ o.before → Ran NoMemory
-  memory_failed (inl worked) silent =
-      with_book NoMemory worked.book worked.legal worked.leaves (left_of worked) (inl (record { text = worked.text; shows = worked.shows; wrote = silent })) tt tt tt (λ done. absurd cc)
-  memory_failed (inr same) silent = with_none NoMemory refl (inr (refl, silent)) tt tt tt (λ done. cc) same
+  memory_failed : (o.new ≡ old) ⊎ (Whole × WorkedSome t n every lines old o.new) → o.now ≡ o.before → Ran NoMemory
+  memory_failed (inr it) silent =
+      let worked = it.1 in
+      with_book NoMemory worked.book worked.legal worked.leaves (left_of worked) (inl (record { did = worked.did; silent = silent })) tt (inr it.0) tt (λ done. absurd cc)
+  memory_failed (inl same) silent = with_none NoMemory refl (inr (refl, silent)) tt (inl refl) tt (λ done. cc) same
 
-  err_worked : (T : Type 0) (bytes : T → List ℕ) (e : Status) → InputWorked {T = T} t n every o.read old o.new bytes (Err e) → IfWorked {T = T} (Err e) Whole → o.now ≡ o.before → Ran e
+  err_worked : (T : Type 0) (bytes : T → List ℕ) (e : Status) → InputWorked {T = T} t n every o.read Whole old o.new bytes (Err e) → IfWorked {T = T} (Err e) Whole → o.now ≡ o.before → Ran e
   err_worked T bytes DiskFault did whole silent = disk_failed did.1 did.0 whole silent
   err_worked T bytes (LineTooLong line) did whole silent = with_none (LineTooLong line) refl (refl, silent) did.0 tt tt (λ done. cc) did.1
   err_worked T bytes ReadFault did whole silent = with_none ReadFault refl (refl, silent) did.0 tt tt (λ done. cc) did.1
@@ -121,7 +121,7 @@ module _ (t : Tree) (n every : ℕ) (formed : IsValidTree t) (old : Pair) (files
   err_worked T bytes (NotJsonMl why) did whole silent = absurd did
   err_worked T bytes (DocumentRefused why) did whole silent = absurd did
 
-  pub workers_ran : {T : Type 0} (bytes : T → List ℕ) (r : Result T Status) (status : Status) → InputWorked t n every o.read old o.new bytes r → IfWorked r Whole
+  pub workers_ran : {T : Type 0} (bytes : T → List ℕ) (r : Result T Status) (status : Status) → InputWorked t n every o.read Whole old o.new bytes r → IfWorked r Whole
       → IfOk r (λ text. IsWriteEnd status × WroteWhole status o.before o.now (bytes text)) → IfErr r (λ e. (status ≡ e) × (o.now ≡ o.before)) → Ran status
   workers_ran bytes (Ok text) status did whole written silent = all_worked status (bytes text) did.1 did.0 whole written.0 written.1
   workers_ran {T} bytes (Err e) status did whole written silent = subst Ran (sym silent.0) (err_worked T bytes e did whole silent.1)
@@ -170,19 +170,19 @@ stops_fault lost (Ok x) is = tt
 stops_fault lost (Err e) is = stop_fault lost e is
 
 -- with the input that was read
-pub input_worked : {T : Type 0} (t : Tree) (n every : ℕ) (read : List ℕ) (asked : List (Line StoreCall)) (old new : Pair) (bytes : T → List ℕ) (r : Result T Status) → asked ≡ lines_in (entries_of read) → too_long read ≡ None
-    → ScriptDone t n every asked old new bytes r → InputWorked t n every read old new bytes r
-input_worked t n every read asked old new bytes (Ok text) same fits did = (fits, subst (λ (ls : List (Line StoreCall)). WorkedAll t n every ls old new (bytes text)) same did)
-input_worked t n every read asked old new bytes (Err DiskFault) same fits did = (fits, subst (λ (ls : List (Line StoreCall)). WorkedOrNot t n every ls old new) same did)
-input_worked t n every read asked old new bytes (Err NoMemory) same fits did = subst (λ (ls : List (Line StoreCall)). WorkedOrNot t n every ls old new) same did
-input_worked t n every read asked old new bytes (Err Done) same fits did = did
-input_worked t n every read asked old new bytes (Err Usage) same fits did = did
-input_worked t n every read asked old new bytes (Err (LineTooLong line)) same fits did = absurd did
-input_worked t n every read asked old new bytes (Err (Damaged place)) same fits did = did
-input_worked t n every read asked old new bytes (Err ReadFault) same fits did = absurd did
-input_worked t n every read asked old new bytes (Err WriteFault) same fits did = did
-input_worked t n every read asked old new bytes (Err (NotJsonMl why)) same fits did = did
-input_worked t n every read asked old new bytes (Err (DocumentRefused why)) same fits did = did
+pub input_worked : {T : Type 0} (t : Tree) (n every : ℕ) (read : List ℕ) (asked : List (Line StoreCall)) (whole : Type 0) (old new : Pair) (bytes : T → List ℕ) (r : Result T Status) → asked ≡ lines_in (entries_of read) → too_long read ≡ None
+    → whole → ScriptDone t n every asked old new bytes r → InputWorked t n every read whole old new bytes r
+input_worked t n every read asked whole old new bytes (Ok text) same fits end did = (fits, subst (λ (ls : List (Line StoreCall)). WorkedAll t n every ls old new (bytes text)) same did)
+input_worked t n every read asked whole old new bytes (Err DiskFault) same fits end did = (fits, subst (λ (ls : List (Line StoreCall)). WorkedSome t n every ls old new) same did)
+input_worked t n every read asked whole old new bytes (Err NoMemory) same fits end did = inr (end, subst (λ (ls : List (Line StoreCall)). WorkedSome t n every ls old new) same did)
+input_worked t n every read asked whole old new bytes (Err Done) same fits end did = did
+input_worked t n every read asked whole old new bytes (Err Usage) same fits end did = did
+input_worked t n every read asked whole old new bytes (Err (LineTooLong line)) same fits end did = absurd did
+input_worked t n every read asked whole old new bytes (Err (Damaged place)) same fits end did = did
+input_worked t n every read asked whole old new bytes (Err ReadFault) same fits end did = absurd did
+input_worked t n every read asked whole old new bytes (Err WriteFault) same fits end did = did
+input_worked t n every read asked whole old new bytes (Err (NotJsonMl why)) same fits end did = did
+input_worked t n every read asked whole old new bytes (Err (DocumentRefused why)) same fits end did = did
 
 -- it was read to its end where lines were done
 pub worked_whole : {T : Type 0} (r : Result T Status) (P : Type 0) → P → IfWorked r P
@@ -203,14 +203,14 @@ whole_at_end (Ok text) P p = p
 whole_at_end (Err e) P p = tt
 
 -- no script was had
-error_of : (error : ScriptError) (t : Tree) (n every : ℕ) (read : List ℕ) (files : Pair) → IsReadScript read (no_script error) → InputFailed t n every read files files (status_of_script error)
+error_of : (error : ScriptError) (t : Tree) (n every : ℕ) (read : List ℕ) (whole : Type 0) (files : Pair) → IsReadScript read (no_script error) → InputFailed t n every read whole files files (status_of_script error)
 unfolding too_long
-error_of (script.TooLong line) t n every read files is = (is, refl)
-error_of script.ReadFault t n every read files is = (is, refl)
-error_of script.NoMemory t n every read files is = inr refl
+error_of (script.TooLong line) t n every read whole files is = (is, refl)
+error_of script.ReadFault t n every read whole files is = (is, refl)
+error_of script.NoMemory t n every read whole files is = inl refl
 
-pub error_worked : (error : ScriptError) (status : Status) (t : Tree) (n every : ℕ) (read : List ℕ) (files : Pair) → status ≡ status_of_script error → IsReadScript read (no_script error) → InputFailed t n every read files files status
-error_worked error status t n every read files same is = subst (InputFailed t n every read files files) (sym same) (error_of error t n every read files is)
+pub error_worked : (error : ScriptError) (status : Status) (t : Tree) (n every : ℕ) (read : List ℕ) (whole : Type 0) (files : Pair) → status ≡ status_of_script error → IsReadScript read (no_script error) → InputFailed t n every read whole files files status
+error_worked error status t n every read whole files same is = subst (InputFailed t n every read whole files files) (sym same) (error_of error t n every read whole files is)
 
 -- why it isn't had
 script_fault : (lost : Bool) (error : ScriptError) → IsWorkersFault lost (status_of_script error)

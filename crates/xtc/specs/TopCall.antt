@@ -27,6 +27,8 @@ use Rattle.command_words.specs.Commands.{Command, run, workers, put, get, query,
 use Rattle.workers_script.specs.Entries.{entries_of}
 use Rattle.workers_script.specs.Limits.{too_long}
 use Rattle.workers_replies.specs.Shown.{lines_in, IsShownBy}
+use Rattle.workers_text.specs.Sessions.{DoesSome}
+use Rattle.workers_text.specs.WorkersText.{asked_of}
 use Rattle.xtc.specs.Checkpoints.{AreMade, tries}
 use Rattle.xtc.specs.Commands.{may_commit, reads_input}
 use Rattle.durable_sessions.specs.InTurn as turn
@@ -209,11 +211,11 @@ pub record DocumentRan (t : Tree) (n limit : ℕ) (c : Command) (status : Status
 
 -- ---- a script that was run by workers
 
--- the files stand for the tree and the number after none of this book's commits or after all, at least after so many
+-- the files stand for the tree and the number after the first of this book's commits, at least so many
 pub record OpenAfterCommits (t : Tree) (n least : ℕ) (book : Book StoreCall) (journal pages : List ℕ) : Type 0 where
   pub count : ℕ
   pub enough : least ≤ count
-  pub none_or_all : (count ≡ 0) ⊎ (count ≡ length (commits book))
+  pub within : count ≤ length (commits book)
   pub opens : StandFor journal pages (serial store_meaning (take count (commits book)) t).tree (n + count)
 
 -- what was written: the text that this book shows of the lines, whole where the status says so
@@ -222,17 +224,22 @@ pub record WroteShown (t : Tree) (n limit : ℕ) (status : Status) (book : Book 
   pub shows : IsShownBy store_meaning t n limit book (lines_in (entries_of read)) text
   pub wrote : WroteWhole status before now (replies_text text)
 
--- nothing of what lines may have done is written or found: the book is empty
+-- nothing is written, and the book has of each session the first of its lines, the last of them as far as it came
+pub record WroteNone (t : Tree) (n limit : ℕ) (book : Book StoreCall) (read : List ℕ) (before now : Option (List ℕ)) : Type 0 where
+  pub did : (s : ℕ) → DoesSome store_meaning s (start t n limit) book (asked_of s (lines_in (entries_of read)))
+  pub silent : now ≡ before
+
+-- nothing was done, and nothing is written
 abbrev pub IsUndone : Book StoreCall → Option (List ℕ) → Option (List ℕ) → Type 0
 IsUndone book before now = (book ≡ []) × (now ≡ before)
 
--- The workers did all lines, and the book shows a text of them, of which nothing is written where a disk failed behind them.
--- So it is where memory was wanting for a checkpoint. Where a disk's fault or want of memory came before the commits were written, and at any other status, all is undone.
+-- The workers did all lines, and the book shows a text of them. Where a disk failed, or memory was wanting, they may have done the first ones alone, and nothing is written;
+-- where memory was wanting for the script, and at any other status, they did none.
 abbrev pub IsWorkersOutput : Tree → ℕ → ℕ → Status → Book StoreCall → List ℕ → Option (List ℕ) → Option (List ℕ) → Type 0
 IsWorkersOutput t n limit Done book read before now = WroteShown t n limit Done book read before now
 IsWorkersOutput t n limit WriteFault book read before now = WroteShown t n limit WriteFault book read before now
-IsWorkersOutput t n limit DiskFault book read before now = WroteShown t n limit DiskFault book read before now ⊎ IsUndone book before now
-IsWorkersOutput t n limit NoMemory book read before now = WroteShown t n limit NoMemory book read before now ⊎ IsUndone book before now
+IsWorkersOutput t n limit DiskFault book read before now = WroteNone t n limit book read before now
+IsWorkersOutput t n limit NoMemory book read before now = WroteNone t n limit book read before now ⊎ IsUndone book before now
 IsWorkersOutput t n limit status book read before now = IsUndone book before now
 
 -- what a status says of the input
@@ -245,27 +252,28 @@ IsWorkersEnd (LineTooLong line) read = too_long read ≡ Some line
 IsWorkersEnd NoMemory read = Unit {0}
 IsWorkersEnd status read = ⊥
 
--- the statuses at which lines were done need the whole input
-abbrev pub NeedsWholeScript : Status → Type 0 → Type 0
-NeedsWholeScript Done P = P
-NeedsWholeScript WriteFault P = P
-NeedsWholeScript DiskFault P = P
-NeedsWholeScript status P = Unit {0}
+-- the statuses at which lines were done need the whole input; where memory was wanting, and it wasn't read to its end, the book is empty
+abbrev pub NeedsWholeScript : Status → Book StoreCall → Type 0 → Type 0
+NeedsWholeScript Done book P = P
+NeedsWholeScript WriteFault book P = P
+NeedsWholeScript DiskFault book P = P
+NeedsWholeScript NoMemory book P = (book ≡ []) ⊎ P
+NeedsWholeScript status book P = Unit {0}
 
--- how many of a book's commits are sure to be found: all, before the first byte of the text is written
+-- how many of a book's commits are sure to be found: all, where something may be written
 abbrev pub durable_at : Status → Book StoreCall → ℕ
 durable_at Done book = length (commits book)
 durable_at WriteFault book = length (commits book)
 durable_at status book = 0
 
 -- `workers` over a store that was opened as a tree and a number. One book, sound and that which the store kept, shows what was written;
--- the files, now and as a crash leaves them at any moment, stand for the tree after none of its commits or after all, and after all where anything was written.
+-- the files, now and as a crash leaves them at any moment, stand for the tree after the first of its commits, and after all where anything was written.
 pub record WorkersRan (t : Tree) (n limit : ℕ) (status : Status) (opening : Pair) (o : Outcome) : Type 0 where
   pub book : Book StoreCall
   pub sound : IsSoundBook t n limit book
   pub output : IsWorkersOutput t n limit status book o.read o.before o.now
   pub end : IsWorkersEnd status o.read
-  pub whole : NeedsWholeScript status (IfSome o.left (λ rest. rest ≡ []))
+  pub whole : NeedsWholeScript status book (IfSome o.left (λ rest. rest ≡ []))
   pub short : length o.read ≤ whole_limit + piece
   -- a crash at any moment since the opening, a crash now, and the files as they read
   pub any_moment : PairsLeave (OpenAfterCommits t n 0 book) opening o.new

@@ -158,7 +158,7 @@ fn run_command<
     R: Threads + Wait + Sync,
     S: Source,
     K: Sink,
-    J: Disk,
+    J: Disk + Send,
     P: Disk + Drop + Send,
     G: Gate + Sync,
 >(

@@ -1,5 +1,5 @@
 // The command that runs a whole script by workers, over a store that was opened.
-ghost use Rattle.std.specs.Prelude.{◌≡◌, ◌+◌, ◌≤◌, ℕ, List, [], length, Err, IfErr, IfSome, IsTrue, OnOk, Some};
+ghost use Rattle.std.specs.Prelude.{◌≡◌, ◌+◌, ◌≤◌, ℕ, List, [], length, Err, IfErr, IfOk, IfSome, IsTrue, OnOk, Some};
 ghost use Rattle.outside_traits.specs.Bytes.{Gave};
 ghost use Rattle.outside_traits.specs.DiskPairs.{pair_of};
 ghost use Rattle.outside_traits.specs.Moments.{IsAllSynced};
@@ -17,18 +17,20 @@ ghost use Rattle.xtc.specs.Checkpoints.{may_lose};
 ghost use Rattle.xtc.specs.StoreMachine.{HasPages, pages_of, told};
 ghost use Rattle.xtc.specs.TopCall.{whole_limit};
 ghost use Rattle.xtc.specs.inside.CommandRuns.{HasTree, RunsCommand, StandSettled};
-ghost use Rattle.xtc.specs.inside.Working.{HasCommits, IfWorked, InputWorked, IsBegun, IsNew, IsWorkersFault, IsWorkersStop, LeavesCommits, MayCommit, ScriptDone, counts_beside, files_beside};
+ghost use Rattle.xtc.specs.inside.Renewing.{ReadsGroups};
+ghost use Rattle.xtc.specs.inside.Working.{HasCommits, IfWorked, InputWorked, IsBegun, IsNew, IsWorkersFault, IsWorkersStop, LeavesCommits, MayEnd, ScriptDone, counts_beside, files_beside};
 
-use crate::checkpoints::{Checkpoints, DoneOver};
+use crate::checkpoints::Checkpoints;
 use crate::document::written;
 use crate::status::Status;
 use crate::store::OpenStore;
 use crate::top_call::{Finish, TX_LIMIT, with_files};
 use checkpoint::Base;
-use durable_books::write_waiting;
+use durable_books::first_commits_stand;
 use journal::Journal;
 use outside_traits::{Disk, Gate, Sink, Source};
 use std::alloc::Global;
+use std::snapshot::Snapshot;
 use std::sync::Wait;
 use std::thread::Threads;
 use store_calls::StoreOp;
@@ -36,12 +38,21 @@ use tx_core::{Core, NoCore};
 use workers_replies::{Answered, answer_script};
 use workers_script::{Script, read_script};
 
-/// Reads the whole script, does it by workers and makes its commits durable; then it writes their text.
+/// What workers over a store have to write, or why there is nothing to be written, with the journal and what they worked over.
+#[derive(Drop)]
+pub struct WorkedOver<J: Disk, P: Disk + Drop> {
+    pub text: Result<Vec<u8>, Status>,
+    pub journal: Journal<J>,
+    pub base: Base<P>,
+    pub checkpoints: Checkpoints<P>,
+}
+
+/// Reads the whole script and does it by workers, who make their commits durable; then it writes their text.
 pub fn run_workers<
     R: Threads + Wait + Sync,
     S: Source,
     K: Sink,
-    J: Disk,
+    J: Disk + Send,
     P: Disk + Drop + Send,
     G: Gate + Sync,
 >(
@@ -71,175 +82,202 @@ pub fn run_workers<
 {
     let OpenStore {
         base,
-        mut journal,
+        journal,
         number,
     } = store;
     let checkpoints = Checkpoints::new(every, number);
     let base = Base::Paged(base);
-    let DoneOver {
+    let WorkedOver {
         text,
+        journal,
         base,
         checkpoints,
-    } = work_input(
-        rt,
-        alloc,
-        source,
-        base,
-        checkpoints,
-        number,
-        &mut journal,
-        gate,
-    );
+    } = work_input(rt, alloc, source, base, checkpoints, number, journal, gate);
     with_files(written(sink, text), journal, checkpoints.disk_beside(base))
 }
 
 /// Does the whole input over a base, and answers the text to write.
-fn work_input<R: Threads + Wait + Sync, S: Source, J: Disk, P: Disk + Drop + Send, G: Gate + Sync>(
+fn work_input<
+    R: Threads + Wait + Sync,
+    S: Source,
+    J: Disk + Send,
+    P: Disk + Drop + Send,
+    G: Gate + Sync,
+>(
     rt: &R,
     alloc: Global,
     source: &mut S,
     base: Base<P>,
     checkpoints: Checkpoints<P>,
     number: u32,
-    journal: &mut Journal<J>,
+    journal: Journal<J>,
     gate: &G,
-) -> DoneOver<P>
-    requires begun { IsBegun P.is_known P.history base number journal.old checkpoints }
+) -> WorkedOver<J, P>
+    requires begun { IsBegun P.is_known P.history base number journal checkpoints }
     requires tree { IsTrue P.is_known → HasTree (contents_of P.is_known P.history base) }
     ensures done { (read : List ℕ) × Gave (S.left source.old) (S.left source.new) read × (S.given source.new ≡ S.given source.old + length read)
         × (length read ≤ whole_limit + piece) × (IsTrue J.is_known → IsTrue P.is_known → (t : Tree) → StandsFor (contents_of P.is_known P.history base) t
-        → StandSettled (files_beside P.history journal.old base checkpoints) t number
-        → InputWorked t number checkpoints.every read (files_beside P.history journal.old base checkpoints)
-        (files_beside P.history journal.new result.base result.checkpoints) (λ text. text.items) result.text) }
+        → StandSettled (files_beside P.history journal base checkpoints) t number
+        → InputWorked t number checkpoints.every read (IfSome (S.left source.new) (λ rest. rest ≡ [])) (files_beside P.history journal base checkpoints)
+        (files_beside P.history result.journal result.base result.checkpoints) (λ text. text.items) result.text) }
     ensures whole { IfWorked result.text (IfSome (S.left source.new) (λ rest. rest ≡ [])) }
     ensures fault { IfErr result.text (IsWorkersFault (may_lose (Some workers_command) checkpoints.every P.is_known)) }
     ensures pages { HasPages result.base result.checkpoints.pages }
     ensures read { CountedWhere (result.text ≡ Err Status.ReadFault) (S.faults source.old) (S.faults source.new) }
     ensures counts { DisksCountedWhere (result.text ≡ Err Status.DiskFault)
-        (counts_beside P.faults journal.old base checkpoints) (counts_beside P.faults journal.new result.base result.checkpoints) }
+        (counts_beside P.faults journal base checkpoints) (counts_beside P.faults result.journal result.base result.checkpoints) }
 {
     match read_script(alloc, source) {
         Ok(script) => work_over(rt, alloc, &script, base, checkpoints, number, journal, gate),
-        Err(error) => DoneOver {
+        Err(error) => WorkedOver {
             text: Err(Status::from(error)),
+            journal,
             base,
             checkpoints,
         },
     }
 }
 
-/// Does a script by workers over a base, then makes its commits durable, and answers the text to write.
-fn work_over<R: Threads + Wait + Sync, J: Disk, P: Disk + Drop + Send, G: Gate + Sync>(
+/// Does a script by workers over a base, and answers the text to write.
+fn work_over<R: Threads + Wait + Sync, J: Disk + Send, P: Disk + Drop + Send, G: Gate + Sync>(
     rt: &R,
     alloc: Global,
     script: &Script,
     base: Base<P>,
     checkpoints: Checkpoints<P>,
     number: u32,
-    journal: &mut Journal<J>,
+    journal: Journal<J>,
     gate: &G,
-) -> DoneOver<P>
-    requires begun { IsBegun P.is_known P.history base number journal.old checkpoints }
+) -> WorkedOver<J, P>
+    requires begun { IsBegun P.is_known P.history base number journal checkpoints }
     requires tree { IsTrue P.is_known → HasTree (contents_of P.is_known P.history base) }
     ensures done { IsTrue J.is_known → IsTrue P.is_known → (t : Tree) → StandsFor (contents_of P.is_known P.history base) t
-        → StandSettled (files_beside P.history journal.old base checkpoints) t number
-        → ScriptDone t number checkpoints.every (lines_in script.now.entries) (files_beside P.history journal.old base checkpoints)
-        (files_beside P.history journal.new result.base result.checkpoints) (λ text. text.items) result.text }
+        → StandSettled (files_beside P.history journal base checkpoints) t number
+        → ScriptDone t number checkpoints.every (lines_in script.now.entries) (files_beside P.history journal base checkpoints)
+        (files_beside P.history result.journal result.base result.checkpoints) (λ text. text.items) result.text }
     ensures stops { IfErr result.text (IsWorkersStop (may_lose (Some workers_command) checkpoints.every P.is_known)) }
     ensures pages { HasPages result.base result.checkpoints.pages }
     ensures counts { DisksCountedWhere (result.text ≡ Err Status.DiskFault)
-        (counts_beside P.faults journal.old base checkpoints) (counts_beside P.faults journal.new result.base result.checkpoints) }
+        (counts_beside P.faults journal base checkpoints) (counts_beside P.faults result.journal result.base result.checkpoints) }
 {
     match Core::new(alloc, base, number, TX_LIMIT) {
         Ok(core) => work(rt, alloc, script, core, checkpoints, journal, gate),
-        Err(NoCore { base }) => DoneOver {
+        Err(NoCore { base }) => WorkedOver {
             text: Err(Status::NoMemory),
+            journal,
             base,
             checkpoints,
         },
     }
 }
 
-/// Does a script by workers over a core that was opened, then makes its commits durable, and answers the text to write.
-/// The text is made before the commits are written, so that none is wanting once they may be found. Where a line met a fault of the base, nothing is written.
-fn work<R: Threads + Wait + Sync, J: Disk, P: Disk + Drop + Send, G: Gate + Sync>(
+/// Does a script by workers over a core that was opened, and answers the text to write. Each commit is durable before its line is answered.
+/// Where a fault was counted there is no text.
+fn work<R: Threads + Wait + Sync, J: Disk + Send, P: Disk + Drop + Send, G: Gate + Sync>(
     rt: &R,
     alloc: Global,
     script: &Script,
     core: Core<StoreOp, Base<P>>,
     checkpoints: Checkpoints<P>,
-    journal: &mut Journal<J>,
+    journal: Journal<J>,
     gate: &G,
-) -> DoneOver<P>
+) -> WorkedOver<J, P>
     requires opened { IsNew (contents_of P.is_known P.history) core }
-    requires begun { IsBegun P.is_known P.history core.base core.number journal.old checkpoints }
+    requires begun { IsBegun P.is_known P.history core.base core.number journal checkpoints }
     requires tree { IsTrue P.is_known → HasTree (contents_of P.is_known P.history core.base) }
     ensures done { IsTrue J.is_known → IsTrue P.is_known → (t : Tree) → StandsFor (contents_of P.is_known P.history core.base) t
-        → StandSettled (files_beside P.history journal.old core.base checkpoints) t core.number
-        → ScriptDone t core.number checkpoints.every (lines_in script.now.entries) (files_beside P.history journal.old core.base checkpoints)
-        (files_beside P.history journal.new result.base result.checkpoints) (λ text. text.items) result.text }
+        → StandSettled (files_beside P.history journal core.base checkpoints) t core.number
+        → ScriptDone t core.number checkpoints.every (lines_in script.now.entries) (files_beside P.history journal core.base checkpoints)
+        (files_beside P.history result.journal result.base result.checkpoints) (λ text. text.items) result.text }
     ensures stops { IfErr result.text (IsWorkersStop (may_lose (Some workers_command) checkpoints.every P.is_known)) }
     ensures pages { HasPages result.base result.checkpoints.pages }
     ensures counts { DisksCountedWhere (result.text ≡ Err Status.DiskFault)
-        (counts_beside P.faults journal.old core.base checkpoints) (counts_beside P.faults journal.new result.base result.checkpoints) }
+        (counts_beside P.faults journal core.base checkpoints) (counts_beside P.faults result.journal result.base result.checkpoints) }
 {
-    let before = core.faults();
-    let Answered { mut core, text } = answer_script(rt, alloc, core, script, gate);
-    let mut checkpoints = checkpoints;
-    if core.faults() != before {
-        return without_text(Status::DiskFault, core, checkpoints);
+    let pages_before = core.faults();
+    let journal_before = journal.faults();
+    // Called for its contract: the journal is read as commits.
+    journal.is_usable();
+    let first = Snapshot::of(&journal);
+    let Answered {
+        core,
+        journal,
+        text,
+    } = answer_script(rt, alloc, core, journal, script, gate);
+    // Called for its contract: the commits that were written stand for the tree after them.
+    first_commits_stand::<StoreOp>();
+    let pages_now = core.faults();
+    if pages_now != pages_before {
+        return without_text(Status::DiskFault, core, journal, checkpoints);
     }
-    let Ok(text) = text else {
-        // No line met a fault of the base, so that memory was wanting.
-        return without_text(Status::NoMemory, core, checkpoints);
-    };
-    match commit_all(alloc, &mut core, journal, &mut checkpoints) {
-        Ok(()) => DoneOver {
-            text: Ok(text),
-            base: core.into_base(),
-            checkpoints,
-        },
-        Err(status) => without_text(status, core, checkpoints),
+    let journal_now = journal.faults();
+    if journal_now != journal_before {
+        return without_text(Status::DiskFault, core, journal, checkpoints);
+    }
+    match text {
+        Ok(text) => end_all(alloc, first, text, core, journal, checkpoints),
+        // No fault was counted, so that memory was wanting.
+        Err(_) => without_text(Status::NoMemory, core, journal, checkpoints),
     }
 }
 
 /// There is no text, for this reason.
-fn without_text<P: Disk + Drop>(
+fn without_text<J: Disk, P: Disk + Drop>(
     why: Status,
     core: Core<StoreOp, Base<P>>,
+    journal: Journal<J>,
     checkpoints: Checkpoints<P>,
-) -> DoneOver<P>
-    ensures { result ≡ record { text = Err why; base = core.base; checkpoints = checkpoints } }
+) -> WorkedOver<J, P>
+    ensures { result ≡ record { text = Err why; journal = journal; base = core.base; checkpoints = checkpoints } }
 {
-    DoneOver {
+    WorkedOver {
         text: Err(why),
+        journal,
         base: core.into_base(),
         checkpoints,
     }
 }
 
-/// Makes the commits of a book durable, and behind them a checkpoint, where there are as many as one is made behind.
-fn commit_all<J: Disk, P: Disk + Drop>(
+/// Makes a checkpoint behind the commits of workers, where there are as many as one is made behind, and hands on the text.
+/// `first` is the journal as it was when the store was opened.
+fn end_all<J: Disk, P: Disk + Drop>(
     alloc: Global,
-    core: &mut Core<StoreOp, Base<P>>,
-    journal: &mut Journal<J>,
-    checkpoints: &mut Checkpoints<P>,
-) -> Result<(), Status>
-    requires { MayCommit P.is_known P.history core.old journal.old checkpoints.old }
-    ensures leaves { IsTrue J.is_known → IsTrue P.is_known → (t : Tree) → StandsFor (contents_of P.is_known P.history core.old.opening) t
-        → IsBookFrom IsValidStoreCall store_meaning t core.old.number core.old.limit core.old.book
-        → StandSettled (files_beside P.history journal.old core.old.base checkpoints.old) t core.old.number
-        → LeavesCommits t core.old.number checkpoints.old.every core.old.book
-        (files_beside P.history journal.old core.old.base checkpoints.old) (files_beside P.history journal.new core.new.base checkpoints.new)
-        × OnOk result (HasCommits t core.old.number checkpoints.old.every core.old.book (files_beside P.history journal.new core.new.base checkpoints.new)) }
-    ensures stops { IfErr result (IsWorkersStop (may_lose (Some workers_command) checkpoints.old.every P.is_known)) }
-    ensures pages { HasPages core.new.base checkpoints.new.pages }
-    ensures counts { DisksCountedWhere (result ≡ Err Status.DiskFault)
-        (counts_beside P.faults journal.old core.old.base checkpoints.old) (counts_beside P.faults journal.new core.new.base checkpoints.new) }
+    first: Snapshot<Journal<J>>,
+    text: Vec<u8>,
+    core: Core<StoreOp, Base<P>>,
+    journal: Journal<J>,
+    checkpoints: Checkpoints<P>,
+) -> WorkedOver<J, P>
+    requires may { MayEnd J.is_known P.is_known P.history first.value core journal checkpoints }
+    requires reads { ReadsGroups J.is_known first.value }
+    ensures leaves { IsTrue J.is_known → IsTrue P.is_known → (t : Tree) → StandsFor (contents_of P.is_known P.history core.opening) t
+        → IsBookFrom IsValidStoreCall store_meaning t core.number core.limit core.book
+        → StandSettled (files_beside P.history first.value core.base checkpoints) t core.number
+        → LeavesCommits t core.number checkpoints.every core.book
+        (files_beside P.history first.value core.base checkpoints) (files_beside P.history result.journal result.base result.checkpoints)
+        × OnOk result.text (HasCommits t core.number checkpoints.every core.book (files_beside P.history result.journal result.base result.checkpoints)) }
+    ensures text { IfOk result.text (λ bytes. bytes ≡ text) }
+    ensures stops { IfErr result.text (IsWorkersStop (may_lose (Some workers_command) checkpoints.every P.is_known)) }
+    ensures pages { HasPages result.base result.checkpoints.pages }
+    ensures counts { DisksCountedWhere (result.text ≡ Err Status.DiskFault)
+        (counts_beside P.faults journal core.base checkpoints) (counts_beside P.faults result.journal result.base result.checkpoints) }
 {
-    write_waiting(alloc, core, journal)?;
-    checkpoints.make_at_end(alloc, core, journal)?;
-    // Called for its contract: the journal's bytes are read as commits.
+    let (mut core, mut journal, mut checkpoints) = (core, journal, checkpoints);
+    // Called for its contract: all is synced.
     journal.is_usable();
-    Ok(())
+    // Called for its contract: the commits that were written stand for the tree after them.
+    first_commits_stand::<StoreOp>();
+    match checkpoints.make_at_end(alloc, &mut core, &mut journal) {
+        Ok(()) => {
+            // Called for its contract: the journal's bytes are read as commits.
+            journal.is_usable();
+            WorkedOver {
+                text: Ok(text),
+                journal,
+                base: core.into_base(),
+                checkpoints,
+            }
+        }
+        Err(error) => without_text(Status::from(error), core, journal, checkpoints),
+    }
 }

@@ -10,6 +10,7 @@ use Rattle.command_lines.specs.declared.line_reply.LineReply.TheVariants.{Said}
 use Rattle.command_lines.specs.declared.line_reply.SessionRefusal.{SessionRefusal}
 use Rattle.session_driver.specs.Driving.{shown_why}
 use Rattle.session_driver.specs.declared.doing.Doing.{Doing}
+use Rattle.group_commit.specs.Members.{MemberView}
 use Rattle.shared_store.specs.Sessions.{SessionView, having_seen}
 use Rattle.shared_store.specs.declared.ended.Ended.{Ended}
 use Rattle.shared_store.specs.declared.ended.Ended.TheVariants as ended
@@ -17,7 +18,7 @@ use Rattle.shared_store.specs.declared.errors.StoreError.{StoreError}
 use Rattle.shared_store.specs.declared.errors.StoreError.TheVariants as store_error
 use Rattle.worker_run.specs.declared.port.PortFault.{PortFault}
 use Rattle.worker_run.specs.declared.port.PortFault.TheVariants as fault
-use Rattle.workers_text.specs.StorePorts.{GrewFor, HasPart}
+use Rattle.workers_text.specs.StorePorts.{HasBroken, HasPart, IsSamePass}
 
 -- ---- answers
 
@@ -31,6 +32,13 @@ as_error (store_error.Session why) = refused_by (shown_why why)
 as_error store_error.DiskFault = Err fault.DiskFault
 as_error store_error.NoMemory = Err fault.NoMemory
 as_error (store_error.Halted faults) = Err (fault.Halted faults)
+
+-- of a call that can't be refused
+abbrev pub as_fault : StoreError → PortFault
+as_fault (store_error.Session why) = fault.NoMemory
+as_fault store_error.DiskFault = fault.DiskFault
+as_fault store_error.NoMemory = fault.NoMemory
+as_fault (store_error.Halted faults) = fault.Halted faults
 
 abbrev pub as_number : Result ℕ StoreError → Result LineAnswer PortFault
 as_number (Ok n) = Ok (line_answer.Reply (reply.Number n))
@@ -55,11 +63,13 @@ as_reply s (Err why) = Err why
 -- ---- lines
 
 module _ {C B : Type 0} (told : B → Option Entries) (m : CallMeaning C) where
-  -- a line was answered, and what was added to the list has it; or it met a fault, and of the session's numbers it alone has added entries
+  -- a line was answered, and what was added to the list has it; or it met a fault, and what was added has of it what it came to
   abbrev pub Leaves : SessionView C B → Doing C → SessionView C B → Result LineAnswer PortFault → Type 0
   Leaves p d q (Ok a) = HasPart told m p.has p.under p.seen q.seen (record { doing = d; reply = Said p.under false a } ∷ [])
-  Leaves p d q (Err why) = GrewFor p.has p.under p.seen q.seen
+  Leaves p d q (Err why) = HasBroken p.has p.under d p.seen q.seen
 
-  pub record LineLeaves (p : SessionView C B) (d : Doing C) (q : SessionView C B) (answer : Result LineAnswer PortFault) : Type 0 where
-    pub same : q ≡ having_seen q.seen p
-    pub leaves : Leaves p d q answer
+  -- so it is of a member, whose pass of the journal's turn stays
+  pub record LineLeaves (p : MemberView C B) (d : Doing C) (q : MemberView C B) (answer : Result LineAnswer PortFault) : Type 0 where
+    pub same : q.session ≡ having_seen q.session.seen p.session
+    pub pass : IsSamePass p.pass q.pass
+    pub leaves : Leaves p.session d q.session answer

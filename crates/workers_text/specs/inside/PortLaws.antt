@@ -14,10 +14,11 @@ use Rattle.shared_store.specs.Sessions.{SessionView, having_seen}
 use Rattle.shared_store.specs.declared.desk.Entry.{Entry}
 use Rattle.shared_store.specs.declared.desk.Entry.TheVariants as kind
 use Rattle.shared_store.proofs.Done.{book_append}
+use Rattle.group_commit.specs.Members.{MarksPass}
 use Rattle.worker_run.specs.Ports.{Exchange}
 use Rattle.workers_text.specs.Asking.{printed}
 use Rattle.workers_text.specs.Sessions.{Part, Printed}
-use Rattle.workers_text.specs.StorePorts.{GrewFor, HasPart, IsOnlyOf, IsOpenedOver, PortView, store_ports}
+use Rattle.workers_text.specs.StorePorts.{GrewFor, HasPart, IsOnlyOf, IsOpenedOver, IsSamePass, PortView, store_ports}
 use Rattle.workers_text.specs.inside.SessionLaws.{stretches}
 
 pub all_append : {X : Type 0} (P : X → Type 0) (xs ys : List X) → AllByRecursion P xs → AllByRecursion P ys → AllByRecursion P (xs ++ ys)
@@ -39,6 +40,14 @@ module _ {C B : Type 0} where
 
   pub book_grew : (xs ys added : List (Entry C B)) → ys ≡ xs ++ added → book_of ys ≡ book_of xs ++ book_of added
   book_grew xs ys added e = ap book_of e ∙ book_append xs added
+
+  -- ---- passes
+
+  pub pass_itself : (p : MarksPass C B) → IsSamePass p p
+  pass_itself p = record { lock = refl; has = refl; opening = refl }
+
+  pub pass_on : (p q r : MarksPass C B) → IsSamePass p q → IsSamePass q r → IsSamePass p r
+  pass_on p q r a b = record { lock = b.lock ∙ a.lock; has = b.has ∙ a.has; opening = b.opening ∙ a.opening }
 
   -- ---- openings
 
@@ -77,7 +86,7 @@ module _ {C B : Type 0} (told : B → Option Entries) (m : CallMeaning C) where
 
   module _ (made : StoreCall → C) where
     pub nothing_done : (p : PortView C B) → (store_ports told m made).did p [] p
-    nothing_done p = (refl, part_nothing p.session.has p.session.under p.session.seen)
+    nothing_done p = (refl, part_nothing p.session.has p.session.under p.session.seen, pass_itself p.pass)
 
     pub done_on : (p q r : PortView C B) (xs ys : List Exchange) → (store_ports told m made).did p xs q → (store_ports told m made).did q ys r → (store_ports told m made).did p (xs ++ ys) r
     done_on p q r xs ys a b =
@@ -88,4 +97,5 @@ module _ {C B : Type 0} (told : B → Option Entries) (m : CallMeaning C) where
           b.0 ∙ ap (having_seen r.session.seen) a.0,
           subst (HasPart told m p.session.has p.session.under p.session.seen r.session.seen) (sym (map-append (printed made) xs ys))
               (part_on p.session.has p.session.under p.session.seen q.session.seen r.session.seen (map (printed made) xs) (map (printed made) ys) a.1 later_on),
+          pass_on p.pass q.pass r.pass a.2 b.2,
         )

@@ -8,11 +8,11 @@ use Rattle.journal.specs.Views.{JournalView}
 use Rattle.recovery.specs.Openings.{TakesBehind}
 use Rattle.script_runs.specs.Counts.{Counts}
 use Rattle.call_contract.specs.Books.{Book, IsBookFrom, commits}
+use Rattle.call_contract.specs.States.{start}
 use Rattle.command_lines.specs.declared.command.StoreCall.{StoreCall}
 use Rattle.command_lines.specs.declared.line_reply.LineReply.{LineReply}
 use Rattle.command_words.specs.Commands.{workers}
 use Rattle.store_calls.specs.StoreCalls.{IsValidStoreCall, store_meaning}
-use Rattle.shared_store.specs.Bodies.{HasBodies}
 use Rattle.tx_core.specs.Cores.{CoreView, opened_over}
 use Rattle.checkpoint.specs.Bases.{contents_of, is_paged}
 use Rattle.checkpoint.specs.Renewals.{pages_of as base_pages}
@@ -20,7 +20,9 @@ use Rattle.checkpoint.specs.declared.base.Base.{Base}
 use Rattle.workers_replies.specs.Shown.{IsShownBy, lines_in}
 use Rattle.workers_script.specs.Entries.{entries_of}
 use Rattle.workers_script.specs.Limits.{too_long}
-use Rattle.workers_text.specs.WorkersText.{Line}
+use Rattle.workers_text.specs.Journals.{WroteAll}
+use Rattle.workers_text.specs.Sessions.{DoesSome}
+use Rattle.workers_text.specs.WorkersText.{asked_of, Line}
 use Rattle.xtc.specs.Book.{replies_text}
 use Rattle.xtc.specs.Checkpoints.{AreMade, is_positive}
 use Rattle.xtc.specs.StoreMachine.{faults_of, file_of}
@@ -53,17 +55,16 @@ pub record IsBegun {P : Type 0} (is_known : Bool) (history : P → History) (bas
   pub inside : checkpoints.pages ≡ None
   pub opened : checkpoints.opened ≡ number
 
--- all commits of this core's book wait to be written; it was opened over the map of a tree
-pub record MayCommit {P : Type 0} (is_known : Bool) (history : P → History) (core : CoreView StoreCall (Base P)) (journal : JournalView) (checkpoints : Checkpoints P) : Type 0 where
-  pub begun : IsBegun is_known history core.base core.number journal checkpoints
+-- The workers have ended over this core, and all commits of its book are in the journal, which was the first one at the opening; it was opened over the map of a tree.
+pub record MayEnd {P : Type 0} (journal_known is_known : Bool) (history : P → History) (first : JournalView) (core : CoreView StoreCall (Base P)) (journal : JournalView) (checkpoints : Checkpoints P) : Type 0 where
+  pub begun : IsBegun is_known history core.base core.number first checkpoints
   pub opened : IsTrue (is_paged core.opening)
   pub tree : IsTrue is_known → HasTree (contents_of is_known history core.opening)
-  pub first : core.undrained.after ≡ core.number
-  pub bodies : HasBodies store_meaning (contents_of is_known history) core
+  pub wrote : WroteAll store_meaning (contents_of is_known history) journal_known first core journal
 
 -- ---- the commits
 
--- a crash on the way leaves none of a book's commits or all, and without checkpoints the pages stay
+-- a crash on the way leaves the first of a book's commits, and without checkpoints the pages stay
 pub record LeavesCommits (t : Tree) (n every : ℕ) (book : Book StoreCall) (old new : Pair) : Type 0 where
   pub moments : PairsLeave (OpenAfterCommits t n 0 book) old new
   pub still : is_positive every ≡ false → new.pages ≡ old.pages
@@ -75,43 +76,42 @@ pub record HasCommits (t : Tree) (n every : ℕ) (book : Book StoreCall) (files 
 
 -- ---- the lines
 
--- the workers did these lines: one book shows a text of them
-pub record Worked (t : Tree) (n every : ℕ) (lines : List (Line StoreCall)) (old new : Pair) : Type 0 where
+-- the workers did the first of these lines: one book has of each session those that it came to
+pub record WorkedSome (t : Tree) (n every : ℕ) (lines : List (Line StoreCall)) (old new : Pair) : Type 0 where
+  pub book : Book StoreCall
+  pub legal : IsBookFrom IsValidStoreCall store_meaning t n tx_limit book
+  pub did : (s : ℕ) → DoesSome store_meaning s (start t n tx_limit) book (asked_of s lines)
+  pub leaves : LeavesCommits t n every book old new
+
+-- they did all of them: one book shows this text, and its commits are durable
+pub record WorkedAll (t : Tree) (n every : ℕ) (lines : List (Line StoreCall)) (old new : Pair) (bytes : List ℕ) : Type 0 where
   pub book : Book StoreCall
   pub legal : IsBookFrom IsValidStoreCall store_meaning t n tx_limit book
   pub text : List LineReply
   pub shows : IsShownBy store_meaning t n tx_limit book lines text
+  pub bytes_are : bytes ≡ replies_text text
   pub leaves : LeavesCommits t n every book old new
-
--- this is its text, and the commits are durable
-pub record WorkedAll (t : Tree) (n every : ℕ) (lines : List (Line StoreCall)) (old new : Pair) (text : List ℕ) : Type 0 where
-  pub worked : Worked t n every lines old new
-  pub all : HasCommits t n every worked.book new
-  pub text_is : text ≡ replies_text worked.text
-
--- the lines were done, or the files are as they were
-abbrev pub WorkedOrNot : Tree → ℕ → ℕ → List (Line StoreCall) → Pair → Pair → Type 0
-WorkedOrNot t n every lines old new = Worked t n every lines old new ⊎ (new ≡ old)
+  pub all : HasCommits t n every book new
 
 -- Known files that stood for the tree and the number at the start: the lines were done, and all is durable.
--- Or a disk failed, or memory was wanting: behind the lines, in writing the commits or in the checkpoint behind them, or before anything was written.
+-- Or a disk failed, or memory was wanting, before the last line was done or behind it.
 abbrev pub ScriptDone : {T : Type 0} → Tree → ℕ → ℕ → List (Line StoreCall) → Pair → Pair → (T → List ℕ) → Result T Status → Type 0
 ScriptDone t n every lines old new bytes (Ok text) = WorkedAll t n every lines old new (bytes text)
-ScriptDone t n every lines old new bytes (Err DiskFault) = WorkedOrNot t n every lines old new
-ScriptDone t n every lines old new bytes (Err NoMemory) = WorkedOrNot t n every lines old new
+ScriptDone t n every lines old new bytes (Err DiskFault) = WorkedSome t n every lines old new
+ScriptDone t n every lines old new bytes (Err NoMemory) = WorkedSome t n every lines old new
 ScriptDone t n every lines old new bytes (Err status) = ⊥
 
--- with this input; where it can't be had no line is done
-abbrev pub InputFailed : Tree → ℕ → ℕ → List ℕ → Pair → Pair → Status → Type 0
-InputFailed t n every read old new DiskFault = (too_long read ≡ None) × WorkedOrNot t n every (lines_in (entries_of read)) old new
-InputFailed t n every read old new NoMemory = WorkedOrNot t n every (lines_in (entries_of read)) old new
-InputFailed t n every read old new (LineTooLong line) = (too_long read ≡ Some line) × (new ≡ old)
-InputFailed t n every read old new ReadFault = (too_long read ≡ None) × (new ≡ old)
-InputFailed t n every read old new status = ⊥
+-- with this input; where it can't be had no line is done. `whole`: that the input was read to its end
+abbrev pub InputFailed : Tree → ℕ → ℕ → List ℕ → Type 0 → Pair → Pair → Status → Type 0
+InputFailed t n every read whole old new DiskFault = (too_long read ≡ None) × WorkedSome t n every (lines_in (entries_of read)) old new
+InputFailed t n every read whole old new NoMemory = (new ≡ old) ⊎ (whole × WorkedSome t n every (lines_in (entries_of read)) old new)
+InputFailed t n every read whole old new (LineTooLong line) = (too_long read ≡ Some line) × (new ≡ old)
+InputFailed t n every read whole old new ReadFault = (too_long read ≡ None) × (new ≡ old)
+InputFailed t n every read whole old new status = ⊥
 
-abbrev pub InputWorked : {T : Type 0} → Tree → ℕ → ℕ → List ℕ → Pair → Pair → (T → List ℕ) → Result T Status → Type 0
-InputWorked t n every read old new bytes (Ok text) = (too_long read ≡ None) × WorkedAll t n every (lines_in (entries_of read)) old new (bytes text)
-InputWorked t n every read old new bytes (Err status) = InputFailed t n every read old new status
+abbrev pub InputWorked : {T : Type 0} → Tree → ℕ → ℕ → List ℕ → Type 0 → Pair → Pair → (T → List ℕ) → Result T Status → Type 0
+InputWorked t n every read whole old new bytes (Ok text) = (too_long read ≡ None) × WorkedAll t n every (lines_in (entries_of read)) old new (bytes text)
+InputWorked t n every read whole old new bytes (Err status) = InputFailed t n every read whole old new status
 
 -- so it is where lines were done
 abbrev pub IfWorked : {T : Type 0} → Result T Status → Type 0 → Type 0

@@ -1,25 +1,31 @@
-use Rattle.std.proofs.Common.{rules, ◌≡◌, ◌∙◌, [], ◌∷◌, ◌++◌, sym, ap, subst}
+use Rattle.std.proofs.Common.{rules, ◌≡◌, [], ◌∷◌, ◌++◌, sym, subst}
 use Rattle.std.specs.List.{AllByRecursion}
-use Rattle.shared_store.specs.Sessions.{SessionView}
-use Rattle.workers_text.specs.inside.Joining.{GoesFrom, IsJoinedTo, MayJoin}
-use Rattle.workers_text.proofs.Joins.{all_first, goes_from_itself, goes_further, joined_kept, joined_other, joins_next}
+use Rattle.group_commit.specs.Members.{MemberView}
+use Rattle.workers_text.specs.inside.Joining.{GoesFrom, IsJoinedTo, MayJoin, member_of}
+use Rattle.workers_text.proofs.Joins.{all_first, all_last, goes_from_itself, goes_further, joined_kept, joined_of, joined_other, joins_next}
 use Rattle.workers_text.proofs.joining.join_ports.Goals as goal
+
+pub join-requires-clause-group : goal.join-requires-clause-group
+join-requires-clause-group g c =
+    let group = c.args.group.now in
+    let may = all_last (MayJoin group) c.pop.new.self.items c.in-Some.port (subst (AllByRecursion (MayJoin group)) c.in-Some.ensures.items c.loop-port.invariant.1) in
+    (c.loop-port.invariant.2, subst (λ (v : MemberView _ _). (v.session.lock ≡ group.store) × (v.pass.lock ≡ group.lock)) (sym c.into_member.ensures) may.group_is)
 
 pub loop-port-preserved : goal.loop-port-preserved
 loop-port-preserved g c =
     let before = c.loop-port.invariant in
+    let group = c.args.group.now in
     let main = c.loop-port.main in
-    let other = c.into_session.result in
-    let next = c.join.new.session in
+    let other = c.into_member.result in
+    let next = c.join.new.member in
     let rest = c.pop.new.self.items in
     let port = c.in-Some.port in
     let left : c.loop-port.ports.items ≡ rest ++ port ∷ [] = c.in-Some.ensures.items in
-    let has = ap (λ (v : SessionView _ _). v.has) c.join.ensures.kept in
-    let kept = joined_kept main other next has c.join.ensures.goes_on in
-    let came = subst (λ (v : SessionView _ _). GoesFrom v next) c.into_session.ensures (joined_other main other next has c.join.ensures.other_goes_on) in (
+    let kept = joined_kept main other next c.join.ensures.kept c.join.ensures.goes_on.0 in
+    let came = subst (λ (v : MemberView _ _). GoesFrom v next) c.into_member.ensures (joined_other main other next c.join.ensures.kept c.join.ensures.goes_on.1) in (
       joins_next c.args.ports.items rest main next port c.loop-port.ports.items left kept came before.0,
-      all_first (MayJoin c.args.store.now) rest (port ∷ []) (subst (AllByRecursion (MayJoin c.args.store.now)) left before.1),
-      ap (λ (v : SessionView _ _). v.lock) c.join.ensures.kept ∙ before.2,
+      all_first (MayJoin group) rest (port ∷ []) (subst (AllByRecursion (MayJoin group)) left before.1),
+      joined_of group main other next c.join.ensures.kept before.2,
       goes_further c.args.main.now main next before.3 kept,
     )
 

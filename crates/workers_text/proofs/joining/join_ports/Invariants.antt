@@ -1,11 +1,12 @@
-use Rattle.std.proofs.Common.{◌≡◌, length}
+use Rattle.std.proofs.Common.{length}
 use Rattle.std.specs.List.{AllByRecursion}
+use Rattle.group_commit.specs.Members.{IsOf}
 use Rattle.workers_text.specs.inside.Joining.{GoesFrom, MayJoin}
 use Rattle.workers_text.proofs.Joins.{JoinsRest}
 use Rattle.workers_text.proofs.joining.join_ports.Given as goal
 
 abbrev pub invariant-loop-port : goal.invariant-loop-port
-invariant-loop-port g l = JoinsRest l.fn.ports.items l.main l.ports.items × AllByRecursion (MayJoin l.fn.store) l.ports.items × (l.main.lock ≡ l.fn.store) × GoesFrom l.fn.main l.main
+invariant-loop-port g l = JoinsRest l.fn.ports.items l.main l.ports.items × AllByRecursion (MayJoin l.fn.group) l.ports.items × IsOf l.fn.group l.main × GoesFrom l.fn.main l.main
 
 abbrev pub decreases-loop-port : goal.decreases-loop-port
 decreases-loop-port g l = length l.ports.items

@@ -4,7 +4,7 @@ use Rattle.shared_store.specs.Sessions.{SessionView}
 use Rattle.command_lines.specs.declared.command.Command.{Command}
 use Rattle.workers_text.specs.StorePorts.{IsSessionNumber, store_ports}
 use Rattle.workers_text.specs.inside.Joining.{IsServed, SplitSoFar}
-use Rattle.workers_text.proofs.Splits.{at_line, split_nothing, split_one_more, split_passed}
+use Rattle.workers_text.proofs.Splits.{at_line, split_nothing, split_of, split_one_more, split_opened, split_passed}
 use Rattle.workers_text.proofs.joining.split_ports.Goals as goal
 use Rattle.workers_text.proofs.joining.split_ports.Goals.{then-number-own+then-has+else-is_err, else-number-own, else-number-own-via-then-number-own+else-has, else-number-own-via-else-number-own}
 
@@ -13,7 +13,13 @@ loop-command-init g c =
     let told = g.B.NodeRead.contents in
     let m = g.C.TreeCall.meaning in
     let made = g.C.LineCall.made in
-    subst (SplitSoFar (store_ports told m made) c.args.lines.now 0 c.args.main.now c.args.main.now) (sym c.requires.none) (split_nothing told m made c.args.lines.now c.args.main.now c.requires.all.0 c.requires.all.1)
+    subst (SplitSoFar (store_ports told m made) c.args.lines.now 0 c.args.main.now c.args.main.now) (sym c.requires.none) (split_nothing told m made c.args.group.now c.args.lines.now c.args.main.now c.requires.first)
+
+pub split_port-requires-clause-group : goal.split_port-requires-clause-group
+split_port-requires-clause-group g c = split_of c.args.group.now c.args.main.now c.loop-command.main c.requires.first c.loop-command.invariant.same
+
+pub split_port-requires-clause-opened : goal.split_port-requires-clause-opened
+split_port-requires-clause-opened g c = split_opened c.args.group.now c.args.main.now c.loop-command.main c.requires.first c.loop-command.invariant.same
 
 pub loop-command-preserved : goal.loop-command-preserved
 loop-command-preserved g c =
@@ -28,16 +34,16 @@ loop-command-preserved g c =
     let far = c.loop-command.invariant in
     let lt : c.loop-command.command-index < length c.args.lines.now = search rules in
     let at : c.command-item.result ≡ slice_index_or c.args.lines.now c.loop-command.command-index c.command-item.result = search rules in
-    let under : now.under ≡ c.args.own = ap (λ (v : SessionView _ _). v.under) far.same ∙ sym c.requires.own in
+    let under : now.session.under ≡ c.args.own = ap (λ (v : SessionView _ _). v.under) far.same.session ∙ sym c.requires.own in
     elim c.if-number-own.branch [
       | then-number-own+then-has+else-is_err w ↦
-          let there : has_number c.loop-command.main.has c.command-item.result.session ≡ true = search rules in
+          let there : has_number c.loop-command.main.session.has c.command-item.result.session ≡ true = search rules in
           let differs : c.command-item.result.session ≢ c.args.own = search rules in
           let kept : w.reserve.new.self.items ≡ c.loop-command.ports.items = search rules in
           let next = split_one_more told m made lines i first now c.loop-command.ports.items line lt at there (λ e. differs (sym e ∙ under)) (at_line (λ (d : Command). IsSessionNumber d.session) lines i line lt at c.requires.lines) far in
           rw (w.main-is, w.ports-is, w.split_port.ensures.main, w.split_port.ensures.ports, kept) next
       | else-number-own w ↦
-          let served : IsServed c.loop-command.main c.command-item.result = elim w.else-number-own.branch [
+          let served : IsServed c.loop-command.main.session c.command-item.result = elim w.else-number-own.branch [
             | else-number-own-via-then-number-own+else-has v ↦ inr (search rules)
             | else-number-own-via-else-number-own v ↦ let same : c.command-item.result.session ≡ c.args.own = search rules in inl (same ∙ sym under)
           ] in

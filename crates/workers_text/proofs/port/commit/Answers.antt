@@ -3,4 +3,4 @@ use Rattle.workers_text.proofs.port.commit.Goals as goal
 
 pub returns : goal.returns
 returns g c =
-    commit_line g.B.NodeRead.count g.B.NodeRead.contents g.C.TreeCall.meaning c.args.store.now c.args.session.now c.commit.new.self c.requires c.number.result c.commit.result c.commit.ensures.done c.number.ensures
+    commit_line g.B.NodeRead.count g.B.NodeRead.contents g.C.TreeCall.meaning c.args.group.now c.args.member.now c.commit.new.member c.requires c.number.result c.commit.result c.commit.ensures c.number.ensures

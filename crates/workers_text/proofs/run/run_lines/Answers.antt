@@ -1,58 +1,105 @@
-use Rattle.std.proofs.Common.{◌≡◌, ℕ, sym, ap, subst, length}
-use Rattle.std.specs.Prelude.{IfOk}
+use Rattle.std.proofs.Common.{◌≡◌, ◌<◌, ◌^◌, ℕ, sym, subst, length}
+use Rattle.std.specs.Prelude.{IfErr, IfOk}
 use Rattle.call_contract.specs.Books.{IsBookFrom}
 use Rattle.call_contract.specs.States.{start}
 use Rattle.node_seq.specs.Trees.{StandsFor}
 use Rattle.tree_model.specs.Tree.{Tree}
-use Rattle.shared_store.specs.Bodies.{HasBodies}
-use Rattle.shared_store.specs.Sessions.{SessionView}
-use Rattle.workers_text.specs.Asking.{own_printed}
-use Rattle.workers_text.specs.Sessions.{Does}
-use Rattle.workers_text.proofs.Told.{IsFrom, does_from, from_itself, from_opened, legal_from, undrained_from}
+use Rattle.shared_store.specs.Lists.{SessionsFit}
+use Rattle.workers_text.specs.Asking.{own_doings, own_printed}
+use Rattle.workers_text.specs.Journals.{WroteAll, WroteFirst}
+use Rattle.workers_text.specs.Sessions.{Does, DoesSome}
+use Rattle.workers_text.specs.inside.Handing.{IsAllHandedOut, IsFrom}
+use Rattle.workers_text.proofs.Handed.{given_all, given_first, wrote_nothing}
+use Rattle.workers_text.proofs.Started.{from_opened}
+use Rattle.workers_text.proofs.Told.{does_from, if_err_so, if_ok_to, legal_from, stops_at_once, stops_from}
 use Rattle.workers_text.proofs.run.run_lines.Goals as goal
 use Rattle.workers_text.proofs.run.run_lines.Goals.{in-Ok, in-Err}
 
 pub returns-clause-opened : goal.returns-clause-opened
 returns-clause-opened g c =
-    let unchanged = g.B.NodeRead.unchanged in
-    let first = c.args.core in
-    let from : IsFrom unchanged c.args.core c.match-new.ran.core = elim c.match-new.branch [
+    let from : IsFrom g.B.NodeRead.unchanged c.args.core c.match-open.ran.core = elim c.match-open.branch [
       | in-Ok w ↦
-          let seen = ap (λ (v : SessionView _ _). v.seen) w.in-Ok.ensures.ok in
-          subst (λ r. IsFrom unchanged c.args.core r.core) (sym w.ran-is) (from_opened unchanged first c.requires.book w.in-Ok.main.seen seen w.run_over-ran.result.core w.run_over-ran.ensures.opened)
-      | in-Err w ↦ subst (λ r. IsFrom unchanged c.args.core r.core) (sym w.ran-is) (subst (IsFrom unchanged c.args.core) (sym w.in-Err.ensures.err) (from_itself unchanged (g.met.B.NodeRead g.world.𝓛 g.world.𝓜 g.world.𝓡 ((λ s x. x), (λ x. x), (λ x. x), λ x. x)).unchanged_itself c.args.core))
+          let from = from_opened c.args.core c.requires.book w.in-Ok.main.session.seen w.in-Ok.ensures.seen g.B.NodeRead.unchanged w.run_over-ran.result.core w.run_over-ran.ensures.opened in
+          subst (λ r. IsFrom g.B.NodeRead.unchanged c.args.core r.core) (sym w.ran-is) from
+      | in-Err w ↦ subst (λ r. IsFrom g.B.NodeRead.unchanged c.args.core r.core) (sym w.ran-is) w.in-Err.ensures.err.0
     ] in
     (from.opening, from.number, from.limit)
 
 pub returns-clause-base : goal.returns-clause-base
 returns-clause-base g c =
-    let unchanged = g.B.NodeRead.unchanged in
-    let first = c.args.core in
-    let from : IsFrom unchanged c.args.core c.match-new.ran.core = elim c.match-new.branch [
+    let from : IsFrom g.B.NodeRead.unchanged c.args.core c.match-open.ran.core = elim c.match-open.branch [
       | in-Ok w ↦
-          let seen = ap (λ (v : SessionView _ _). v.seen) w.in-Ok.ensures.ok in
-          subst (λ r. IsFrom unchanged c.args.core r.core) (sym w.ran-is) (from_opened unchanged first c.requires.book w.in-Ok.main.seen seen w.run_over-ran.result.core w.run_over-ran.ensures.opened)
-      | in-Err w ↦ subst (λ r. IsFrom unchanged c.args.core r.core) (sym w.ran-is) (subst (IsFrom unchanged c.args.core) (sym w.in-Err.ensures.err) (from_itself unchanged (g.met.B.NodeRead g.world.𝓛 g.world.𝓜 g.world.𝓡 ((λ s x. x), (λ x. x), (λ x. x), λ x. x)).unchanged_itself c.args.core))
+          let from = from_opened c.args.core c.requires.book w.in-Ok.main.session.seen w.in-Ok.ensures.seen g.B.NodeRead.unchanged w.run_over-ran.result.core w.run_over-ran.ensures.opened in
+          subst (λ r. IsFrom g.B.NodeRead.unchanged c.args.core r.core) (sym w.ran-is) from
+      | in-Err w ↦ subst (λ r. IsFrom g.B.NodeRead.unchanged c.args.core r.core) (sym w.ran-is) w.in-Err.ensures.err.0
     ] in
     from.base
 
 pub returns-clause-legal : goal.returns-clause-legal
 returns-clause-legal g c =
-    let unchanged = g.B.NodeRead.unchanged in
-    let first = c.args.core in
-    let from : IsFrom unchanged c.args.core c.match-new.ran.core = elim c.match-new.branch [
+    let from : IsFrom g.B.NodeRead.unchanged c.args.core c.match-open.ran.core = elim c.match-open.branch [
       | in-Ok w ↦
-          let seen = ap (λ (v : SessionView _ _). v.seen) w.in-Ok.ensures.ok in
-          subst (λ r. IsFrom unchanged c.args.core r.core) (sym w.ran-is) (from_opened unchanged first c.requires.book w.in-Ok.main.seen seen w.run_over-ran.result.core w.run_over-ran.ensures.opened)
-      | in-Err w ↦ subst (λ r. IsFrom unchanged c.args.core r.core) (sym w.ran-is) (subst (IsFrom unchanged c.args.core) (sym w.in-Err.ensures.err) (from_itself unchanged (g.met.B.NodeRead g.world.𝓛 g.world.𝓜 g.world.𝓡 ((λ s x. x), (λ x. x), (λ x. x), λ x. x)).unchanged_itself c.args.core))
+          let from = from_opened c.args.core c.requires.book w.in-Ok.main.session.seen w.in-Ok.ensures.seen g.B.NodeRead.unchanged w.run_over-ran.result.core w.run_over-ran.ensures.opened in
+          subst (λ r. IsFrom g.B.NodeRead.unchanged c.args.core r.core) (sym w.ran-is) from
+      | in-Err w ↦ subst (λ r. IsFrom g.B.NodeRead.unchanged c.args.core r.core) (sym w.ran-is) w.in-Err.ensures.err.0
     ] in
-    legal_from unchanged g.B.NodeRead.contents g.C.TreeCall.meaning g.C.TreeCall.is_valid first c.match-new.ran.core from c.is_legal-2.ensures.book
+    legal_from g.B.NodeRead.unchanged g.B.NodeRead.contents g.C.TreeCall.meaning g.C.TreeCall.is_valid c.args.core c.match-open.ran.core from c.is_legal.ensures.book
+
+pub returns-clause-sessions : goal.returns-clause-sessions
+returns-clause-sessions g c =
+    elim c.match-open.branch [
+      | in-Ok w ↦ subst (λ r. SessionsFit r.core.book) (sym w.ran-is) w.run_over-ran.ensures.sessions
+      | in-Err w ↦ subst (λ r. SessionsFit r.core.book) (sym w.ran-is) (subst SessionsFit (sym w.in-Err.ensures.err.1) tt)
+    ]
+
+pub returns-clause-wrote : goal.returns-clause-wrote
+returns-clause-wrote g c =
+    let unchanged = g.B.NodeRead.unchanged in
+    let told = g.B.NodeRead.contents in
+    let m = g.C.TreeCall.meaning in
+    let made = g.C.LineCall.made in
+    let is_known = g.J.Disk.is_known in
+    let first = c.args.core in
+    let journal = c.args.journal in
+    let lines = c.args.lines.now in
+    let fits = subst (λ (k : ℕ). k < 2 ^ 64) c.faults-faults.ensures.count c.has_64_bits.ensures in
+    elim c.match-open.branch [
+      | in-Ok w ↦
+          let wrote = given_first m told is_known w.in-Ok.group w.in-Ok.main w.in-Ok.ensures.ok journal w.in-Ok.ensures.journal fits unchanged w.run_over-ran.result.core w.run_over-ran.result.journal w.run_over-ran.ensures.opened w.run_over-ran.ensures.out in
+          subst (λ r. WroteFirst m told is_known journal 0 r.core r.journal) (sym w.ran-is) wrote
+      | in-Err w ↦
+          let core = w.in-Err.core in
+          let same = w.in-Err.ensures.err.2 in
+          let wrote = wrote_nothing m told is_known core journal c.requires.takes.0 c.is_usable.ensures.settled c.is_usable.ensures.groups c.is_usable.ensures.commits c.faults-faults.ensures.reads_an_image in
+          subst (λ r. WroteFirst m told is_known journal 0 r.core r.journal) (sym w.ran-is) (subst (WroteFirst m told is_known journal 0 core) (sym same) wrote)
+    ]
+
+pub returns-clause-durable : goal.returns-clause-durable
+returns-clause-durable g c =
+    let unchanged = g.B.NodeRead.unchanged in
+    let told = g.B.NodeRead.contents in
+    let m = g.C.TreeCall.meaning in
+    let made = g.C.LineCall.made in
+    let is_known = g.J.Disk.is_known in
+    let first = c.args.core in
+    let journal = c.args.journal in
+    let lines = c.args.lines.now in
+    let fits = subst (λ (k : ℕ). k < 2 ^ 64) c.faults-faults.ensures.count c.has_64_bits.ensures in
+    elim c.match-open.branch [
+      | in-Ok w ↦
+          let ran = w.run_over-ran in
+          let all = if_ok_to (λ _. IsAllHandedOut m told is_known w.in-Ok.main.pass ran.result.core ran.result.journal) (λ _. WroteAll m told is_known journal ran.result.core ran.result.journal) ran.result.replies
+          (λ _ h. given_all m told is_known w.in-Ok.group w.in-Ok.main w.in-Ok.ensures.ok journal w.in-Ok.ensures.journal fits unchanged ran.result.core ran.result.journal ran.ensures.opened h) ran.ensures.durable in
+          subst (λ r. IfOk r.replies (λ _. WroteAll m told is_known journal r.core r.journal)) (sym w.ran-is) all
+      | in-Err w ↦ subst (λ r. IfOk r.replies (λ _. WroteAll m told is_known journal r.core r.journal)) (sym w.ran-is) tt
+    ]
 
 pub returns-clause-all : goal.returns-clause-all
-returns-clause-all g c = elim c.match-new.branch [
-  | in-Ok w ↦ subst (λ r. IfOk r.replies (λ rs. length rs ≡ length c.args.lines.now)) (sym w.ran-is) w.run_over-ran.ensures.all
-  | in-Err w ↦ subst (λ r. IfOk r.replies (λ rs. length rs ≡ length c.args.lines.now)) (sym w.ran-is) tt
-]
+returns-clause-all g c =
+    elim c.match-open.branch [
+      | in-Ok w ↦ subst (λ r. IfOk r.replies (λ rs. length rs ≡ length c.args.lines.now)) (sym w.ran-is) w.run_over-ran.ensures.all
+      | in-Err w ↦ subst (λ r. IfOk r.replies (λ rs. length rs ≡ length c.args.lines.now)) (sym w.ran-is) tt
+    ]
 
 pub returns-clause-does : goal.returns-clause-does
 returns-clause-does g c =
@@ -60,25 +107,42 @@ returns-clause-does g c =
     let told = g.B.NodeRead.contents in
     let m = g.C.TreeCall.meaning in
     let made = g.C.LineCall.made in
+    let is_known = g.J.Disk.is_known in
     let first = c.args.core in
-    elim c.match-new.branch [
+    let journal = c.args.journal in
+    let lines = c.args.lines.now in
+    elim c.match-open.branch [
       | in-Ok w ↦
-          let seen = ap (λ (v : SessionView _ _). v.seen) w.in-Ok.ensures.ok in
-          let from = from_opened unchanged first c.requires.book w.in-Ok.main.seen seen w.run_over-ran.result.core w.run_over-ran.ensures.opened in
-          let legal = subst (λ r. (t : Tree) → StandsFor (told r.core.opening) t → IsBookFrom g.C.TreeCall.is_valid m t r.core.number r.core.limit r.core.book) w.ran-is c.is_legal-2.ensures.book in
-          subst (λ r. IfOk r.replies (λ replies. (t : Tree) → StandsFor (told first.opening) t → (s : ℕ) → Does m s (start t first.number first.limit) r.core.book (own_printed made s c.args.lines.now replies))) (sym w.ran-is) (does_from unchanged told m g.C.TreeCall.is_valid first w.run_over-ran.result.core from legal made c.args.lines.now w.run_over-ran.result.replies c.requires.book w.in-Ok.main.seen seen w.run_over-ran.ensures.does)
-      | in-Err w ↦ subst (λ r. IfOk r.replies (λ replies. (t : Tree) → StandsFor (told first.opening) t → (s : ℕ) → Does m s (start t first.number first.limit) r.core.book (own_printed made s c.args.lines.now replies))) (sym w.ran-is) tt
+          let ran = w.run_over-ran in
+          let seen = w.in-Ok.main.session.seen in
+          let from = from_opened first c.requires.book seen w.in-Ok.ensures.seen unchanged ran.result.core ran.ensures.opened in
+          let legal = subst (λ r. (t : Tree) → StandsFor (told r.core.opening) t → IsBookFrom g.C.TreeCall.is_valid m t r.core.number r.core.limit r.core.book) w.ran-is c.is_legal.ensures.book in
+          let does = does_from unchanged told m g.C.TreeCall.is_valid first ran.result.core from legal made lines c.requires.book seen w.in-Ok.ensures.seen ran.result.replies ran.ensures.does in
+          subst (λ r. IfOk r.replies (λ replies. (t : Tree) → StandsFor (told first.opening) t → (s : ℕ) → Does m s (start t first.number first.limit) r.core.book (own_printed made s lines replies))) (sym w.ran-is) does
+      | in-Err w ↦ subst (λ r. IfOk r.replies (λ replies. (t : Tree) → StandsFor (told first.opening) t → (s : ℕ) → Does m s (start t first.number first.limit) r.core.book (own_printed made s lines replies))) (sym w.ran-is) tt
     ]
 
-pub returns-clause-undrained : goal.returns-clause-undrained
-returns-clause-undrained g c =
+pub returns-clause-stops : goal.returns-clause-stops
+returns-clause-stops g c =
     let unchanged = g.B.NodeRead.unchanged in
     let told = g.B.NodeRead.contents in
     let m = g.C.TreeCall.meaning in
+    let made = g.C.LineCall.made in
+    let is_known = g.J.Disk.is_known in
     let first = c.args.core in
-    elim c.match-new.branch [
+    let journal = c.args.journal in
+    let lines = c.args.lines.now in
+    elim c.match-open.branch [
       | in-Ok w ↦
-          let seen = ap (λ (v : SessionView _ _). v.seen) w.in-Ok.ensures.ok in
-          subst (λ r. IfOk r.replies (λ _. (r.core.undrained.after ≡ first.number) × HasBodies m told r.core)) (sym w.ran-is) (undrained_from unchanged told m first w.run_over-ran.result.core w.run_over-ran.result.replies c.requires.book w.in-Ok.main.seen seen c.is_legal.ensures.undrained w.run_over-ran.ensures.bodies w.run_over-ran.ensures.undrained)
-      | in-Err w ↦ subst (λ r. IfOk r.replies (λ _. (r.core.undrained.after ≡ first.number) × HasBodies m told r.core)) (sym w.ran-is) tt
+          let ran = w.run_over-ran in
+          let seen = w.in-Ok.main.session.seen in
+          let from = from_opened first c.requires.book seen w.in-Ok.ensures.seen unchanged ran.result.core ran.ensures.opened in
+          let legal = subst (λ r. (t : Tree) → StandsFor (told r.core.opening) t → IsBookFrom g.C.TreeCall.is_valid m t r.core.number r.core.limit r.core.book) w.ran-is c.is_legal.ensures.book in
+          let stops = stops_from unchanged told m g.C.TreeCall.is_valid first ran.result.core from legal made lines c.requires.book seen w.in-Ok.ensures.seen ran.ensures.stops in
+          let P = (t : Tree) → StandsFor (told first.opening) t → (s : ℕ) → DoesSome m s (start t first.number first.limit) ran.result.core.book (own_doings made s lines) in
+          subst (λ r. IfErr r.replies (λ _. (t : Tree) → StandsFor (told first.opening) t → (s : ℕ) → DoesSome m s (start t first.number first.limit) r.core.book (own_doings made s lines))) (sym w.ran-is) (if_err_so P ran.result.replies stops)
+      | in-Err w ↦
+          let none = w.in-Err.ensures.err.1 in
+          let stops = λ (t : Tree) (stands : StandsFor (told first.opening) t) (s : ℕ). stops_at_once m told made lines t first.number first.limit w.in-Err.core.book none s in
+          subst (λ r. IfErr r.replies (λ _. (t : Tree) → StandsFor (told first.opening) t → (s : ℕ) → DoesSome m s (start t first.number first.limit) r.core.book (own_doings made s lines))) (sym w.ran-is) stops
     ]

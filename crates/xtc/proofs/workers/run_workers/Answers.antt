@@ -1,5 +1,5 @@
-use Rattle.std.proofs.Common.{◌≡◌, ℕ, refl, sym, ap, subst, ◌∙◌}
-use Rattle.std.specs.Prelude.{Err, IfErr, Some}
+use Rattle.std.proofs.Common.{◌≡◌, ℕ, [], refl, sym, ap, subst, ◌∙◌}
+use Rattle.std.specs.Prelude.{Err, IfErr, IfSome, Some}
 use Rattle.outside_traits.specs.DiskPairs.{Pair, pair_of}
 use Rattle.checkpoint.specs.declared.base.Base.TheVariants.{Paged}
 use Rattle.script_runs.specs.Counts.{Counts, DisksCountedWhere}
@@ -58,7 +58,7 @@ returns g c =
     let pages_are : history fin.pages ≡ file_of history run.result.base run.result.checkpoints.pages = ap history out.pages ∙ c.disk_beside.ensures.history in
     let faults_are : faults fin.pages ≡ faults_of faults run.result.base run.result.checkpoints.pages = ap faults out.pages ∙ c.disk_beside.ensures.faults in
     let begin_is : files_beside history store.journal (Paged store.base) begin.result ≡ before.files = λ i. files_beside history store.journal (Paged store.base) (begin.ensures i) in
-    let left_is : files_beside history run.new.journal run.result.base run.result.checkpoints ≡ left.files = λ i. pair_of (sym out.journal.0 i) (sym pages_are i) in
+    let left_is : files_beside history run.result.journal run.result.base run.result.checkpoints ≡ left.files = λ i. pair_of (sym out.journal.0 i) (sym pages_are i) in
     let fault : IfErr text (IsWorkersFault (may_lose (Some workers) every known)) = subst (λ (k : Checkpoints g.row.P.Denot). IfErr text (IsWorkersFault (may_lose (Some workers) k.every known))) begin.ensures run.ensures.fault in
     let lost = may_lose (Some workers) every known in
     subst (λ (s : Status). RunsCommand g.J.Disk.is_known known map store.number workers every s input input_now output output_now before left) (sym out.status)
@@ -69,8 +69,8 @@ returns g c =
       done.1,
       done.2,
       λ kj kp t is files old.
-          let did : InputWorked t store.number every done.0 before.files left.files (λ t. t.items) text =
-          subst (λ (x : ℕ × Pair × Pair). InputWorked t store.number x.0 done.0 x.1 x.2 (λ t. t.items) text) (λ i. ((begin.ensures i).every, begin_is i, left_is i))
+          let did : InputWorked t store.number every done.0 (IfSome input_now.left (λ rest. rest ≡ [])) before.files left.files (λ t. t.items) text =
+          subst (λ (x : ℕ × Pair × Pair). InputWorked t store.number x.0 done.0 (IfSome input_now.left (λ rest. rest ≡ [])) x.1 x.2 (λ t. t.items) text) (λ i. ((begin.ensures i).every, begin_is i, left_is i))
           (done.4 kj kp t is (subst (λ (p : Pair). StandSettled p t store.number) (sym begin_is) files)) in
           workers_ran t store.number every is.valid before.files files _ (out.images.0 kj) (out.images.1 kp) done.3 (λ t. t.items) text status did run.ensures.whole c.written.ensures.text c.written.ensures.none,
     )

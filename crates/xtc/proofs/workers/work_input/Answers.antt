@@ -15,7 +15,7 @@ returns-in-Ok-clause-done g c =
       read.2,
       read.3,
       λ kj kp t is files.
-          input_worked t c.args.number c.args.checkpoints.every read.0 (lines_in c.in-Ok.script.entries) _ _ (λ text. text.items) c.work_over.result.text (ap lines_in read.4.1) read.4.0
+          input_worked t c.args.number c.args.checkpoints.every read.0 (lines_in c.in-Ok.script.entries) _ _ _ (λ text. text.items) c.work_over.result.text (ap lines_in read.4.1) read.4.0 c.in-Ok.ensures.whole
           (c.work_over.ensures.done kj kp t is files),
     )
 
@@ -32,7 +32,7 @@ returns-in-Err-clause-done g c =
       read.1,
       read.2,
       read.3,
-      λ kj kp t is files. error_worked c.in-Err.error c.from.result t c.args.number c.args.checkpoints.every read.0 _ c.from.ensures read.4,
+      λ kj kp t is files. error_worked c.in-Err.error c.from.result t c.args.number c.args.checkpoints.every read.0 _ _ c.from.ensures read.4,
     )
 
 pub returns-in-Err-clause-fault : goal.returns-in-Err-clause-fault

@@ -9,6 +9,7 @@ returns g c =
     let told = g.B.NodeRead.contents in
     let m = g.C.TreeCall.meaning in
     let made = g.C.LineCall.made in
-    let p : PortView _ _ = record { session = c.self.inside.session; fault = c.self.inside.fault } in
-    let q : PortView _ _ = record { session = c.abort-ended.new.self; fault = c.self.inside.fault } in
-    subst (λ (x : PortView _ _). Ended (store_ports told m made) x q) c.self.view_is (port_ended told m made p q c.abort-ended.result c.self.invariant.0.own refl c.abort-ended.ensures.done c.abort-ended.ensures.ended)
+    let p : PortView _ _ = record { session = c.self.inside.member.session; pass = c.self.inside.member.pass; fault = c.self.inside.fault } in
+    let q : PortView _ _ = record { session = c.abort-ended.new.self.session; pass = c.abort-ended.new.self.pass; fault = c.self.inside.fault } in
+    subst (λ (x : PortView _ _). Ended (store_ports told m made) x q) c.self.view_is
+    (port_ended told m made p q c.abort-ended.result c.self.invariant.0.own refl c.abort-ended.ensures.done c.abort-ended.ensures.pass c.abort-ended.ensures.ended)

@@ -1,0 +1,17 @@
+use Rattle.std.proofs.Common.{◌≡◌, ◌∙◌, ap}
+use Rattle.turn_lock.specs.Turns.{has_number}
+use Rattle.shared_store.specs.Sessions.{SessionView}
+use Rattle.workers_text.proofs.Opened.{opens_all, opens_first}
+use Rattle.workers_text.proofs.run.open.Goals as goal
+
+pub new-requires-2-clause-all : goal.new-requires-2-clause-all
+new-requires-2-clause-all g c = opens_all c.args.core c.args.number c.in-Ok.made.0 c.in-Ok.made.1 c.in-Ok.ensures.ok
+
+pub close-requires-clause-all : goal.close-requires-clause-all
+close-requires-clause-all g c n small = ap (λ (v : SessionView _ _). has_number v.has n) c.in-Err-new.ensures.err.1 ∙ opens_all c.args.core c.args.number c.in-Ok.made.0 c.in-Ok.made.1 c.in-Ok.ensures.ok n small
+
+pub returns-in-Ok-new-clause-ok : goal.returns-in-Ok-new-clause-ok
+returns-in-Ok-new-clause-ok g c =
+    let made = c.in-Ok-new.made in
+    let e = c.in-Ok-new.ensures in
+    opens_first c.args.core c.args.number c.in-Ok.made.0 c.in-Ok.made.1 c.in-Ok.ensures.ok c.requires.book c.requires.number c.args.journal made.0 made.1 e.store e.session e.pass
