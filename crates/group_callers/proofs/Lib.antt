@@ -1,4 +1,4 @@
-mod Members
+pub mod Members
 mod Opened
-mod Joined
+pub mod Joined
 mod Sent

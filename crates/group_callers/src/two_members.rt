@@ -39,7 +39,7 @@ struct Answered<C: TreeCall + Drop, B: NodeRead + Drop, J: Disk> {
 }
 
 /// A journal that was opened without groups; none where it has some.
-fn without_groups<J: Disk + Drop>(journal: Journal<J>, groups: &Groups) -> Option<Journal<J>>
+pub fn without_groups<J: Disk + Drop>(journal: Journal<J>, groups: &Groups) -> Option<Journal<J>>
     requires usable { journal.failed ≡ false }
     requires images { journal.has_images ≡ is_some groups.now.images }
     requires last { journal.last ≡ number_of groups.now }
@@ -64,7 +64,7 @@ fn empty_journal<J: Disk + Drop>(alloc: Global, disk: J) -> Option<Journal<J>>
 }
 
 /// A group commit over a base and a journal without groups, and its member, which works under 64.
-fn group_over<C: TreeCall + Drop, B: NodeRead + Drop, J: Disk + Drop>(
+pub fn group_over<C: TreeCall + Drop, B: NodeRead + Drop, J: Disk + Drop>(
     alloc: Global,
     base: B,
     journal: Journal<J>,
@@ -122,7 +122,7 @@ fn commit_and_end<C: TreeCall + Drop, B: NodeRead + Drop, J: Disk, R: Wait>(
 }
 
 /// A member of a number that another gives it.
-fn cut<C: TreeCall + Drop, B: NodeRead + Drop, J: Disk>(
+pub fn cut<C: TreeCall + Drop, B: NodeRead + Drop, J: Disk>(
     group: &GroupCommit<C, B, J>,
     member: &mut Member<C, B, J>,
     number: u32,
@@ -168,7 +168,7 @@ fn commit_both<
 }
 
 /// Takes a member back, which has no transaction.
-fn take_back<C: TreeCall + Drop, B: NodeRead + Drop, J: Disk>(
+pub fn take_back<C: TreeCall + Drop, B: NodeRead + Drop, J: Disk>(
     group: &GroupCommit<C, B, J>,
     member: &mut Member<C, B, J>,
     cut: Member<C, B, J>,
