@@ -1,6 +1,6 @@
 //! The commands of one document: each with its input, over a store, and how it ends.
-use crate::cases::{CUT, Case, NEW, NO_DOCUMENT, PLAIN, SIXTY, run_cases};
 use std::test::Fail;
+use xtc_cases::{CUT, Case, NEW, NO_DOCUMENT, PLAIN, SIXTY, run_cases};
 
 /// The sixty bytes, and behind them the commit of document y with the element b.
 const TWO: &[u8] =

@@ -1,5 +1,4 @@
 //! The command `gen`: over which stores it runs, what it writes, and what it leaves of the files. Its counts are worked by hand from docs/PROFILE.md, "The generator".
-use crate::cases::{CUT, Case, NEW, Outcome, PLAIN, SIXTY, listed, run_case, run_cases, words_of};
 use dewey_labels::List;
 use outside_kinds::{MemDisk, MemSink, MemSource, NoGate};
 use std::alloc::{AllocError, Global};
@@ -9,6 +8,7 @@ use std::test::Fail;
 use std::thread::Threads;
 use workload_gen::Script;
 use xtc::xtc;
+use xtc_cases::{CUT, Case, NEW, Outcome, PLAIN, SIXTY, listed, run_case, run_cases, words_of};
 
 /// A run over a new store, whose summary is taken in small pieces.
 const GEN: Case<'static> = Case {

@@ -3,21 +3,9 @@
 #![tactic(auto)]
 
 #[cfg(test)]
-mod cases;
-#[cfg(test)]
-mod checkpoints;
-#[cfg(test)]
 mod documents;
 #[cfg(test)]
 mod generator;
-#[cfg(test)]
-mod in_pages;
-#[cfg(test)]
-mod in_pieces;
-#[cfg(test)]
-mod page_faults;
-#[cfg(test)]
-mod paged_stores;
 #[cfg(test)]
 mod paths;
 #[cfg(test)]

@@ -1,5 +1,4 @@
 //! The whole program over the real files of a store, which are opened anew for each command.
-use crate::cases::{SIXTY, listed, told, words_of};
 use dewey_labels::List;
 use outside_kinds::{MemSink, MemSource, NoGate};
 use outside_traits::Disk;
@@ -9,6 +8,7 @@ use std::test::Fail;
 use std::thread::Threads;
 use store_files::StoreFiles;
 use xtc::xtc;
+use xtc_cases::{SIXTY, listed, told, words_of};
 
 fn source_of(alloc: Global, input: &[u8]) -> Result<MemSource, AllocError> {
     Ok(MemSource::new(listed(alloc, input)?, List::new(alloc)))

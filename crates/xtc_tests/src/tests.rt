@@ -1,7 +1,3 @@
-use crate::cases::{
-    CUT, Case, NEW, NO_DOCUMENT, PLAIN, SIXTY, behind_opening, finish_of, run_case, run_cases,
-    run_on, run_words, sink_of, source_of, words_of,
-};
 use dewey_labels::List;
 use outside_kinds::{MemDisk, NoGate};
 use std::alloc::{AllocError, Global};
@@ -10,6 +6,10 @@ use std::sync::Wait;
 use std::test::Fail;
 use std::thread::Threads;
 use xtc::{Finish, xtc};
+use xtc_cases::{
+    CUT, Case, NEW, NO_DOCUMENT, PLAIN, SIXTY, behind_opening, finish_of, run_case, run_cases,
+    run_on, run_words, sink_of, source_of, words_of,
+};
 
 /// The same behind a gate that was never opened.
 const CLOSED: &[u8] =

@@ -1,7 +1,4 @@
 //! Whole scripts by workers through the whole program: what is written, and what the store that is left holds.
-use crate::cases::{
-    Case, NEW, Outcome, PLAIN, SIXTY, behind_opening, listed, run, run_cases, told, words_of,
-};
 use dewey_labels::List;
 use outside_kinds::{MemDisk, MemSink, MemSource};
 use std::alloc::{AllocError, Global};
@@ -11,6 +8,9 @@ use std::test::Fail;
 use std::thread::Threads;
 use worker_tests::InTurn;
 use xtc::xtc;
+use xtc_cases::{
+    Case, NEW, Outcome, PLAIN, SIXTY, behind_opening, listed, run, run_cases, told, words_of,
+};
 
 /// One session creates the document x and commits.
 const CREATE: Case<'static> = Case {

@@ -1,9 +1,4 @@
 //! Checkpoints: that they change no reply and no tree, what they leave of the two files, and what a failing call and a stop in each call of both disks leaves.
-use crate::cases::{
-    Case, NEW, Outcome, PLAIN, behind_opening, finish_of, run, sink_of, source_of, told, words_of,
-};
-use crate::in_pages::in_pages;
-use crate::sessions::{ROWS, lines_of_row};
 use dewey_labels::{List, NoMemory};
 use outside_kinds::MemDisk;
 use std::alloc::{AllocError, Global};
@@ -11,6 +6,10 @@ use std::process::Abort;
 use std::sync::Wait;
 use std::test::Fail;
 use std::thread::Threads;
+use xtc_cases::{
+    Case, NEW, Outcome, PLAIN, SESSION_SCRIPTS, behind_opening, finish_of, in_pages, lines_of_row,
+    run, sink_of, source_of, told, words_of,
+};
 
 /// A command on a store without a byte, the same with checkpoints, and how the files then begin: page 0 up to its base, and the journal up to its first
 /// commit's number or its closed gate.
@@ -164,7 +163,7 @@ fn commands_with_checkpoints_write_the_same_and_move_the_same_tree_into_pages(
 fn each_script_of_several_sessions_is_answered_over_checkpoints(
     rt: HostRuntime,
 ) -> Result<(), Fail> {
-    for row in ROWS {
+    for row in SESSION_SCRIPTS {
         let lines = lines_of_row(rt.alloc(), row)?;
         let left = as_without(&rt, rt.alloc(), "run", "run --checkpoint 1", &lines)?;
         assert!(rt; left.journal.starts_with(NEW), "{}", row.script);

@@ -3,7 +3,6 @@ use crate::in_pieces::InPieces;
 use dewey_labels::List;
 use outside_kinds::{MemDisk, MemSink, MemSource, NoGate};
 use std::alloc::{AllocError, Global};
-use std::process::Abort;
 use std::sync::Wait;
 use std::test::Fail;
 use std::thread::Threads;
@@ -150,7 +149,7 @@ pub fn words_of(alloc: Global, text: &str) -> Result<Vec<String>, AllocError> {
 
 /// Runs the program, where this call of the journal's file fails.
 pub fn run(
-    rt: &(impl Abort + Threads + Wait + Sync),
+    rt: &(impl Threads + Wait + Sync),
     alloc: Global,
     case: &Case<'_>,
     call: u64,
@@ -161,7 +160,7 @@ pub fn run(
 
 /// The same on words that may have blanks in them, or none at all.
 pub fn run_words(
-    rt: &(impl Abort + Threads + Wait + Sync),
+    rt: &(impl Threads + Wait + Sync),
     alloc: Global,
     case: &Case<'_>,
     call: u64,
@@ -175,7 +174,7 @@ pub fn run_words(
 
 /// How a run on these words ends, with its source and sink.
 pub fn finish_of(
-    rt: &(impl Abort + Threads + Wait + Sync),
+    rt: &(impl Threads + Wait + Sync),
     alloc: Global,
     case: &Case<'_>,
     call: u64,
@@ -204,7 +203,7 @@ fn outcome_of(
 
 /// Runs the script on a journal, one call of which fails, 0 where none does.
 pub fn run_on<'x>(
-    rt: &(impl Abort + Threads + Wait + Sync),
+    rt: &(impl Threads + Wait + Sync),
     alloc: Global,
     input: &'x str,
     journal: &'x [u8],
@@ -220,7 +219,7 @@ pub fn run_on<'x>(
 
 /// The number of a call behind those of the journal's opening, 0 where none is meant.
 pub fn behind_opening(
-    rt: &(impl Abort + Threads + Wait + Sync),
+    rt: &(impl Threads + Wait + Sync),
     alloc: Global,
     journal: &[u8],
     call: u64,
@@ -232,8 +231,23 @@ pub fn behind_opening(
     Ok(opened.journal_calls.saturating_add(call))
 }
 
-fn agree(rt: &(impl Abort + Threads + Wait + Sync), case: &Case<'_>, found: &[u8], wanted: &[u8]) {
-    assert_eq!(rt; found, wanted, "{}: {}", case.words, case.status);
+/// A text, or how many bytes there are that are none.
+fn shown(alloc: Global, bytes: &[u8]) -> Result<String, AllocError> {
+    match str::from_utf8(bytes) {
+        Ok(text) => format!(in alloc; "{text:?}"),
+        Err(_) => format!(in alloc; "{} bytes", bytes.len()),
+    }
+}
+
+/// What is found is what is wanted.
+fn agree(alloc: Global, case: &Case<'_>, found: &[u8], wanted: &[u8]) -> Result<(), Fail> {
+    if found == wanted {
+        return Ok(());
+    }
+    let words = case.words;
+    let found = shown(alloc, found)?;
+    let wanted = shown(alloc, wanted)?;
+    Err(Fail::new(format!(in alloc; "{words}: {found}, and not {wanted}")?))
 }
 
 /// How the run ends, and then what it writes.
@@ -247,7 +261,7 @@ fn wanted(alloc: Global, case: &Case<'_>) -> Result<Vec<u8>, AllocError> {
 
 /// Runs the program on these words, where the calls that the case says fail.
 fn run_as(
-    rt: &(impl Abort + Threads + Wait + Sync),
+    rt: &(impl Threads + Wait + Sync),
     alloc: Global,
     case: &Case<'_>,
     words: &Vec<String>,
@@ -258,7 +272,7 @@ fn run_as(
 
 /// Runs the program: it ends, writes and leaves what the case says.
 pub fn run_case(
-    rt: &(impl Abort + Threads + Wait + Sync),
+    rt: &(impl Threads + Wait + Sync),
     alloc: Global,
     case: &Case<'_>,
 ) -> Result<Outcome, Fail> {
@@ -268,33 +282,28 @@ pub fn run_case(
 
 /// The same on words that may have blanks in them.
 pub fn run_case_on(
-    rt: &(impl Abort + Threads + Wait + Sync),
+    rt: &(impl Threads + Wait + Sync),
     alloc: Global,
     case: &Case<'_>,
     words: &Vec<String>,
 ) -> Result<Outcome, Fail> {
     let outcome = run_as(rt, alloc, case, words)?;
-    agree_on_end(rt, alloc, case, &outcome)?;
+    agree_on_end(alloc, case, &outcome)?;
     Ok(outcome)
 }
 
-fn agree_on_end(
-    rt: &(impl Abort + Threads + Wait + Sync),
-    alloc: Global,
-    case: &Case<'_>,
-    outcome: &Outcome,
-) -> Result<(), AllocError> {
-    agree(rt, case, &outcome.told, &wanted(alloc, case)?);
-    agree(rt, case, &outcome.pages, case.pages);
-    if let Some(now) = case.now {
-        agree(rt, case, &outcome.journal, now);
+fn agree_on_end(alloc: Global, case: &Case<'_>, outcome: &Outcome) -> Result<(), Fail> {
+    agree(alloc, case, &outcome.told, &wanted(alloc, case)?)?;
+    agree(alloc, case, &outcome.pages, case.pages)?;
+    match case.now {
+        Some(now) => agree(alloc, case, &outcome.journal, now),
+        None => Ok(()),
     }
-    Ok(())
 }
 
 /// Runs `get x` on a journal.
 fn get_x(
-    rt: &(impl Abort + Threads + Wait + Sync),
+    rt: &(impl Threads + Wait + Sync),
     alloc: Global,
     journal: &[u8],
 ) -> Result<Outcome, AllocError> {
@@ -307,33 +316,32 @@ fn get_x(
 }
 
 fn run_and_get(
-    rt: &(impl Abort + Threads + Wait + Sync),
+    rt: &(impl Threads + Wait + Sync),
     alloc: Global,
     case: &Case<'_>,
 ) -> Result<(), Fail> {
     let outcome = run_case(rt, alloc, case)?;
-    Ok(agree_then(rt, alloc, case, &outcome.journal)?)
+    agree_then(rt, alloc, case, &outcome.journal)
 }
 
 /// Where the case asks it, `get x` tells of the journal what the case says.
 fn agree_then(
-    rt: &(impl Abort + Threads + Wait + Sync),
+    rt: &(impl Threads + Wait + Sync),
     alloc: Global,
     case: &Case<'_>,
     journal: &[u8],
-) -> Result<(), AllocError> {
+) -> Result<(), Fail> {
     if case.then.is_empty() {
         return Ok(());
     }
     let then = written_out(alloc, case.then)?;
     let found = get_x(rt, alloc, journal)?;
-    agree(rt, case, &found.told, then.as_bytes());
-    Ok(())
+    agree(alloc, case, &found.told, then.as_bytes())
 }
 
 /// Runs the program on each of these cases, and `get x` behind it where the case asks it.
 pub fn run_cases(
-    rt: &(impl Abort + Threads + Wait + Sync),
+    rt: &(impl Threads + Wait + Sync),
     alloc: Global,
     cases: &[Case<'_>],
 ) -> Result<(), Fail> {

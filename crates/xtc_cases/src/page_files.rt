@@ -6,7 +6,6 @@ use overlays::Stacked;
 use paged_recovery::open_store;
 use paged_seq::PagedSeq;
 use std::alloc::{AllocError, Global};
-use std::process::Abort;
 use std::sync::Wait;
 use std::test::Fail;
 use std::thread::Threads;
@@ -63,10 +62,7 @@ const TEXTS: Case<'static> = Case {
 };
 
 /// The page file of a store with this document alone.
-pub fn texts_in_pages(
-    rt: &(impl Abort + Threads + Wait + Sync),
-    alloc: Global,
-) -> Result<Vec<u8>, Fail> {
+pub fn texts_in_pages(rt: &(impl Threads + Wait + Sync), alloc: Global) -> Result<Vec<u8>, Fail> {
     let made = run_case(rt, alloc, &TEXTS)?;
     in_pages(alloc, &made.journal, b"")
 }

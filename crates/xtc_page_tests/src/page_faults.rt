@@ -1,11 +1,10 @@
 //! A call of the page file that fails, each in turn from the opening on: how the program ends, what is written, and what the next opening finds.
-use crate::cases::{Case, NEW, Outcome, PLAIN, run, run_case, written_out};
-use crate::in_pages::texts_in_pages;
 use std::alloc::{AllocError, Global};
 use std::process::Abort;
 use std::sync::Wait;
 use std::test::Fail;
 use std::thread::Threads;
+use xtc_cases::{Case, NEW, Outcome, PLAIN, run, run_case, texts_in_pages, written_out};
 
 /// A command over a document of long texts in pages, with one of them in memory, and all that it writes where no call fails.
 struct Row {

@@ -1,11 +1,10 @@
 //! Each command over the document x with the element a in pages, and over page files that are damaged.
-use crate::cases::{Case, NEW, Outcome, PLAIN, SIXTY, run, run_case};
-use crate::in_pages::{texts_in_pages, x_in_pages};
 use std::alloc::{AllocError, Global};
 use std::process::Abort;
 use std::sync::Wait;
 use std::test::Fail;
 use std::thread::Threads;
+use xtc_cases::{Case, NEW, Outcome, PLAIN, SIXTY, run, run_case, texts_in_pages, x_in_pages};
 
 /// A journal whose one commit, behind pages of commit 1, creates the document y with the element b.
 const BEHIND: &[u8] =
