@@ -87,7 +87,7 @@ fn a_value_is_a_fragment_or_breaks_a_first_rule(rt: HostRuntime) -> Result<(), F
 }
 
 /// `before` so many times, then `middle`, then `behind` so many times.
-fn nested(
+pub fn nested(
     alloc: Global,
     times: usize,
     before: &str,

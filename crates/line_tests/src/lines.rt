@@ -1,4 +1,5 @@
 //! Lines and replies, as the manual's tables have them.
+use crate::fragments::nested;
 use command_lines::{
     BadLine, Command, LineAnswer, LineReply, SessionRefusal, read_line, write_reply,
 };
@@ -44,7 +45,7 @@ fn reason(alloc: Global, line: &[u8]) -> Result<Text, Fail> {
 }
 
 /// A line, and the reason that it is bad; none of a command or a blank line.
-const REASONS: [(&str, &str); 42] = [
+const REASONS: [(&str, &str); 44] = [
     ("", ""),
     (" \t\r", ""),
     ("\u{c}", "json"),
@@ -64,6 +65,7 @@ const REASONS: [(&str, &str); 42] = [
     ("{\"s\":1,\"call\":\"first\",\"at\":\"1\"}", "at"),
     ("{\"s\":1,\"call\":\"first\",\"at\":\"01.3\"}", "at"),
     ("{\"s\":1,\"call\":\"first\",\"at\":\"1.2\"}", "at"),
+    ("{\"s\":1,\"call\":\"first\",\"at\":7}", "at"),
     ("{\"s\":1,\"call\":\"first\",\"at\":7,\"x\":0}", "at"),
     (
         "{\"s\":1,\"call\":\"substring\",\"at\":\"1.1001\",\"offset\":-1,\"count\":1}",
@@ -134,6 +136,10 @@ const REASONS: [(&str, &str); 42] = [
         "path Deep 51",
     ),
     (
+        "{\"s\":1,\"call\":\"find\",\"at\":\"1.1001\",\"path\":\"a[((((((((((((((((((((((((((((((((((((((((((((((((((\"}",
+        "path Deep 51",
+    ),
+    (
         "{\"s\":1,\"call\":\"find\",\"at\":\"1.1001\",\"path\":\"a\",\"x\":0}",
         "extra",
     ),
@@ -151,6 +157,19 @@ fn the_first_reason_that_holds_is_given(rt: HostRuntime) -> Result<(), Fail> {
         assert_eq!(rt; why.as_str(), want, "{line}");
     }
     assert_eq!(rt; reason(alloc, &[0xFF])?.as_str(), "json");
+    Ok(())
+}
+
+/// The reason of so many arrays, one in the other.
+fn reason_of_arrays(alloc: Global, count: usize) -> Result<Text, Fail> {
+    let line = nested(alloc, count, "[", "", "]")?;
+    reason(alloc, line.as_bytes())
+}
+
+#[test]
+fn arrays_nest_127_deep_in_a_line(rt: HostRuntime) -> Result<(), Fail> {
+    assert_eq!(rt; reason_of_arrays(rt.alloc(), 127)?.as_str(), "object");
+    assert_eq!(rt; reason_of_arrays(rt.alloc(), 128)?.as_str(), "json");
     Ok(())
 }
 

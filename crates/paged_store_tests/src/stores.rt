@@ -20,6 +20,15 @@ const PAGES: [&[u8]; 3] = [
 /// A journal without commits.
 const NEW: &[u8] = b"\x01XTCJRN1\x00";
 
+/// The journal of the document x with the element a.
+const SIXTY: &[u8] =
+    b"\x01XTCJRN1\x01\0\0\0\0\x01\0\0\0\x29\x01\x01\0x\0\0\0\0\x07\x041.1001\x01\x01\x83\x69\0\0\0\0\0\x01\x01\x01\x01\x83\x69\x83\x69\0\0\0\0\0\x02\x02a\0";
+
+/// Its first put, the catalogue's entry of x, and its last, the element.
+const ENTRY: &[u8] = b"\x01\x01\0x\0\0\0\0\x07\x041.1001";
+
+const ELEMENT: &[u8] = b"\x01\x01\x83\x69\x83\x69\0\0\0\0\0\x02\x02a";
+
 /// A put of the text `t` as the child 1.1001.1001.1001 of the element, and deletes of the document and of the element.
 const TEXT: &[u8] = b"\x01\x01\x83\x69\x83\x69\x83\x69\0\0\0\0\0\x02\x03t";
 
@@ -106,7 +115,7 @@ type Pages = (usize, usize, u8);
 const WHOLE: Pages = (24_576, 0, 0x58);
 
 /// The number and the body of the journal's commit, the pages, and what the files stand for.
-const ROWS: [((u8, &[u8]), Pages, Stands); 15] = [
+const ROWS: [((u8, &[u8]), Pages, Stands); 17] = [
     ((0, b""), WHOLE, Ok((1, 3))),
     ((2, TEXT), WHOLE, Ok((2, 4))),
     ((0, b""), (0, 0, 0x58), Ok((0, 0))),
@@ -129,6 +138,9 @@ const ROWS: [((u8, &[u8]), Pages, Stands); 15] = [
     ),
     ((2, NO_DOCUMENT), WHOLE, Err((File::Tree, 1))),
     ((2, NO_ELEMENT), WHOLE, Ok((2, 2))),
+    // A document's entry without the document, and an element without its parent, beside no page.
+    ((1, ENTRY), (0, 0, 0), Err((File::Tree, 1))),
+    ((1, ELEMENT), (0, 0, 0), Err((File::Tree, 0))),
 ];
 
 fn opens_row(
@@ -155,6 +167,91 @@ fn first_otherwise(alloc: Global) -> Option<(usize, Result<(u32, usize), OpenErr
 #[test]
 fn files_with_pages_open_or_are_damaged_at_their_place(rt: HostRuntime) -> Result<(), Fail> {
     assert_eq!(rt; first_otherwise(rt.alloc()), None);
+    Ok(())
+}
+
+/// How many of the sixty bytes there are, other bytes at a place, and what they stand for beside an empty page file.
+const JOURNALS: [((usize, usize, &[u8]), Stands); 12] = [
+    ((60, 0, b""), Ok((1, 3))),
+    ((60, 9, b"\x02"), Err((File::Journal, 8))),
+    ((60, 10, b"\0\0\0\x02"), Err((File::Journal, 8))),
+    ((60, 10, b"\x02\x02\x02\x02"), Err((File::Journal, 8))),
+    ((60, 59, b"\x01"), Err((File::Journal, 59))),
+    ((60, 3, b"D"), Err((File::Journal, 0))),
+    ((60, 0, b"\0"), Err((File::Journal, 0))),
+    ((5, 0, b""), Err((File::Journal, 0))),
+    ((40, 0, b""), Err((File::Journal, 8))),
+    ((9, 0, b"\0"), Ok((0, 0))),
+    ((60, 8, b"\x4D"), Ok((0, 0))),
+    ((0, 0, b""), Ok((0, 0))),
+];
+
+/// The first so many of the sixty bytes, with these bytes at a place.
+fn sixty(alloc: Global, keep: usize, at: usize, others: &[u8]) -> Result<Vec<u8>, NoMemory> {
+    let mut bytes = Vec::from_slice(alloc, SIXTY)?;
+    let mut next = at;
+    for other in others {
+        if let Some(place) = bytes.get_mut(next) {
+            *place = *other;
+        }
+        next = next.saturating_add(1);
+    }
+    bytes.truncate(keep);
+    Ok(bytes)
+}
+
+fn opens_journal(
+    alloc: Global,
+    (keep, at, others): (usize, usize, &[u8]),
+) -> Result<(u32, usize), OpenError> {
+    let journal = sixty(alloc, keep, at, others)?;
+    opens(alloc, &journal, b"")
+}
+
+/// The first journal that opens otherwise than its row says, and what it opens with.
+fn first_other_journal(alloc: Global) -> Option<(usize, Result<(u32, usize), OpenError>)> {
+    for (row, &(journal, want)) in JOURNALS.iter().enumerate() {
+        let found = opens_journal(alloc, journal);
+        if found != told(want) {
+            return Some((row, found));
+        }
+    }
+    None
+}
+
+#[test]
+fn journals_open_or_are_damaged_at_their_place(rt: HostRuntime) -> Result<(), Fail> {
+    assert_eq!(rt; first_other_journal(rt.alloc()), None);
+    Ok(())
+}
+
+/// Page files beside an empty journal, and what they stand for.
+const PAGES_ALONE: [(Pages, Stands); 3] = [
+    (WHOLE, Ok((1, 3))),
+    ((100, 0, 0x58), Err((File::Pages, 0))),
+    // Four entries where there are three.
+    ((24_576, 8_193, 4), Err((File::Pages, 8_192))),
+];
+
+fn opens_pages(alloc: Global, (keep, at, byte): Pages) -> Result<(u32, usize), OpenError> {
+    let pages = paged(alloc, keep, at, byte)?;
+    opens(alloc, b"", &pages)
+}
+
+/// The first page file that opens otherwise than its row says, and what it opens with.
+fn first_other_pages(alloc: Global) -> Option<(usize, Result<(u32, usize), OpenError>)> {
+    for (row, &(pages, want)) in PAGES_ALONE.iter().enumerate() {
+        let found = opens_pages(alloc, pages);
+        if found != told(want) {
+            return Some((row, found));
+        }
+    }
+    None
+}
+
+#[test]
+fn pages_open_or_are_damaged_at_their_place(rt: HostRuntime) -> Result<(), Fail> {
+    assert_eq!(rt; first_other_pages(rt.alloc()), None);
     Ok(())
 }
 

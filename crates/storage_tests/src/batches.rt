@@ -1,6 +1,7 @@
 //! Batches of commits, images and resets, stopped and failing at each call of the journal's disk.
 ghost use Rattle.std.specs.Prelude.{◌≡◌, ◌≤◌, ◌+◌, ℕ, Option, false, Some, length, IsSome, IsTrue, IfOk, OnOk};
 ghost use Rattle.journal.specs.Batches.{pairs_of};
+ghost use Rattle.journal.specs.Bodies.{changes_in};
 ghost use Rattle.journal.specs.Appends.{last_number};
 ghost use Rattle.journal.specs.Groups.{AreCommits, commits_of, is_last, is_next};
 ghost use Rattle.journal.specs.PageImages.{images_in};
@@ -159,6 +160,117 @@ fn first_part(alloc: Global, disk: &MemDisk) -> Option<u64> {
 #[test]
 fn a_stop_in_a_batch_leaves_all_of_it_or_none(rt: HostRuntime) -> Result<(), Fail> {
     assert_eq!(rt; wrong_stop_of_batches(rt.alloc())?, (None, None));
+    Ok(())
+}
+
+/// A body of a commit of these changes that isn't long.
+fn short_body(alloc: Global, changes: &[Change]) -> Result<List<u8>, NoMemory>
+    ensures body { IfOk result (λ body. IsSome (changes_in body)) }
+    ensures short { IfOk result (λ body. length body ≤ 4096) }
+{
+    let body = body_of(alloc, changes)?;
+    if body.len() > 4096 {
+        return Err(NoMemory);
+    }
+    Ok(body)
+}
+
+/// The commits 1 to 4, of these changes and of none in turn.
+fn four_commits(alloc: Global, changes: &[Change]) -> Result<[Pending; 4], NoMemory>
+    ensures commits { IfOk result (λ pending. (last : Option ℕ) → IsTrue (is_next last 1) → AreCommits last (pairs_of pending)) }
+{
+    let first = short_body(alloc, changes)?;
+    let second = short_body(alloc, &[])?;
+    let third = short_body(alloc, changes)?;
+    let fourth = short_body(alloc, &[])?;
+    Ok([
+        Pending {
+            number: 1,
+            body: first,
+        },
+        Pending {
+            number: 2,
+            body: second,
+        },
+        Pending {
+            number: 3,
+            body: third,
+        },
+        Pending {
+            number: 4,
+            body: fourth,
+        },
+    ])
+}
+
+/// The disk of a new journal to which a batch of four commits was added.
+fn batch_of_four(alloc: Global, changes: &[Change]) -> Result<MemDisk, OpenError> {
+    let pending = four_commits(alloc, changes)?;
+    let mut journal = empty_journal(alloc, NEW, &[])?;
+    match journal.append_groups(&pending) {
+        Ok(()) => Ok(journal.into_disk()),
+        Err(DiskFault) => Err(OpenError::DiskFault),
+    }
+}
+
+/// The same with the dump's changes.
+fn dumped_batch_of_four(alloc: Global) -> Result<MemDisk, Fail> {
+    let changes = dumped_changes(alloc)?;
+    match batch_of_four(alloc, changes.as_slice()) {
+        Ok(disk) => Ok(disk),
+        Err(_) => Err(Fail::from("the batch isn't made")),
+    }
+}
+
+/// Whether some image of a crash in a call has no commit of four, some has all, and some has a part of them.
+fn kinds_after_stop(
+    alloc: Global,
+    disk: &MemDisk,
+    call: u64,
+) -> Result<(bool, bool, bool), OpenError> {
+    let mut kinds = (false, false, false);
+    for image in disk.stop_images(alloc, call)?.as_slice() {
+        match commits_in(alloc, image.as_slice())? {
+            0 => kinds.0 = true,
+            4 => kinds.1 = true,
+            _ => kinds.2 = true,
+        }
+    }
+    Ok(kinds)
+}
+
+/// A call of a batch of four commits, and which kinds of images a crash in it leaves. Behind the opening's two calls come twelve writes and a sync, then
+/// the gate and its sync. A crash in one of the writes leaves all that one in an earlier write does, and three times as many images: here the writes of
+/// three commits may each be missing. With those of the fourth, which stand behind them, there would be 531,441, more than a test has time to open.
+const STOPS_OF_FOUR: [(u64, (bool, bool, bool)); 4] = [
+    (11, (true, false, false)),
+    (16, (true, true, false)),
+    (17, (true, true, false)),
+    (18, (false, true, false)),
+];
+
+/// A call in which a crash leaves other kinds of images than the row says, and which it leaves.
+type OtherStop = (u64, Result<(bool, bool, bool), OpenError>);
+
+fn first_other_stop(alloc: Global, disk: &MemDisk) -> Option<OtherStop> {
+    for &(call, want) in &STOPS_OF_FOUR {
+        let found = kinds_after_stop(alloc, disk, call);
+        if found != Ok(want) {
+            return Some((call, found));
+        }
+    }
+    None
+}
+
+/// How many calls four commits make, and the first call in which a crash leaves something else than is wanted.
+fn stops_of_four(alloc: Global) -> Result<(u64, Option<OtherStop>), Fail> {
+    let disk = dumped_batch_of_four(alloc)?;
+    Ok((disk.calls(), first_other_stop(alloc, &disk)))
+}
+
+#[test]
+fn a_stop_in_a_batch_of_four_leaves_all_of_it_or_none(rt: HostRuntime) -> Result<(), Fail> {
+    assert_eq!(rt; stops_of_four(rt.alloc())?, (17, None));
     Ok(())
 }
 

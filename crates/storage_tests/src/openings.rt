@@ -178,6 +178,24 @@ fn first_otherwise(
     None
 }
 
+/// What the sixty bytes with this number open with.
+fn opens_as(alloc: Global, number: u32) -> Result<(u32, usize), OpenError> {
+    let mut bytes = changed(alloc, 10, 0, 1)?;
+    bytes.extend_from_slice(&number.to_be_bytes())?;
+    let rest = changed(alloc, 60, 0, 1)?;
+    bytes.extend_from_slice(rest.get(14..).unwrap_or(&[]))?;
+    opens(alloc, &bytes, b"")
+}
+
+#[test]
+fn the_first_commit_of_a_store_without_pages_has_number_1(rt: HostRuntime) -> Result<(), Fail> {
+    assert_eq!(rt; opens_as(rt.alloc(), 1), Ok((1, 3)));
+    for number in [0, 2, 0x0202_0202, u32::MAX] {
+        assert_eq!(rt; opens_as(rt.alloc(), number), damaged(File::Journal, 8));
+    }
+    Ok(())
+}
+
 #[test]
 fn a_changed_journal_opens_or_is_damaged_at_its_place(rt: HostRuntime) -> Result<(), Fail> {
     assert_eq!(rt; first_otherwise(rt.alloc(), &CHANGED, b""), None);

@@ -120,6 +120,14 @@ const STORES: &[Case<'static>] = &[
         now: Some(SIXTY),
         ..PLAIN
     },
+    // The replies can't be written: the commit is there.
+    Case {
+        input: CREATE,
+        write: 1,
+        status: "6 xtc: output failed",
+        now: Some(SIXTY),
+        ..PLAIN
+    },
 ];
 
 #[test]
