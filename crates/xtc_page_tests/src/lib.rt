@@ -3,6 +3,8 @@
 #![tactic(auto)]
 
 #[cfg(test)]
+mod call_faults;
+#[cfg(test)]
 mod checkpoints;
 #[cfg(test)]
 mod page_faults;
