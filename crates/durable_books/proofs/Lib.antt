@@ -1,7 +1,5 @@
 mod ValidEntries
 mod WrittenChanges
 mod ValidCommits
-mod BookCounts
 mod BookBodies
 mod Standing
-mod Written
