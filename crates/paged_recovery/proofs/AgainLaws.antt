@@ -17,10 +17,8 @@ use Rattle.journal.specs.declared.group.Images.{Images}
 use Rattle.journal.proofs.FreshSteps.{fresh_reads}
 use Rattle.store_contents.specs.Contents.{Contents, base_of, contents_of_files, first_broken, place_in}
 use Rattle.store_contents.proofs.ContentsLaws.{by_damage}
-use Rattle.recovery.specs.Causes.{RiseOnlyAtFault}
-use Rattle.recovery.specs.Opened.{KeepsJournal}
-use Rattle.recovery.specs.Openings.{AreOpened, KeepsFiles}
-use Rattle.paged_recovery.specs.Openings.{AreReady, HasImages, OpensPages, RefusesPages, UnlessImages}
+use Rattle.paged_recovery.specs.Causes.{RiseOnlyAtFault}
+use Rattle.paged_recovery.specs.Openings.{AreOpened, AreReady, HasImages, KeepsFiles, KeepsJournal, OpensPages, RefusesPages, UnlessImages}
 use Rattle.paged_recovery.specs.inside.Finishing.{IsFinished, IsUntouchedAt}
 use Rattle.paged_recovery.specs.inside.Over.{IsRefused, IsRefusedAt}
 use Rattle.paged_recovery.proofs.AnswerLaws.{unless_then}

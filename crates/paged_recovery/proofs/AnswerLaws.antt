@@ -13,7 +13,7 @@ use Rattle.journal.specs.Journals.{header, read, is_fresh}
 use Rattle.journal.specs.Refusals.{BreaksJournal, HasReason, UnlessFault}
 use Rattle.journal.specs.declared.group.Group.{Group}
 use Rattle.store_contents.specs.Contents.{place_in, last_of, first_broken}
-use Rattle.recovery.specs.Opened.{journal_made}
+use Rattle.paged_recovery.specs.Openings.{journal_made}
 use Rattle.paged_recovery.specs.inside.Firsts.{IsFirst}
 
 last_same : (groups : List Group) (n : ℕ) → last_number (Some n) groups ≡ Some (last_of groups n)

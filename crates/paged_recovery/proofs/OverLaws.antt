@@ -26,8 +26,7 @@ use Rattle.paged_seq.specs.PagedMaps.{entries_or_none, map_of_file, valid_entrie
 use Rattle.store_contents.specs.Contents.{Contents, after_commits, base_of, checked, contents_beside, contents_from, first_broken, goes_on_from, last_of, over_pages, place_in, with_commits}
 use Rattle.store_contents.proofs.ContentsLaws.{base_is, by_damage, by_groups, of_parts, over_commits}
 use Rattle.store_contents.proofs.TreeLaws.{stand_for_one}
-use Rattle.recovery.specs.Openings.{TakesBehind}
-use Rattle.paged_recovery.specs.Openings.{OpensPages}
+use Rattle.paged_recovery.specs.Openings.{OpensPages, TakesBehind}
 use Rattle.paged_recovery.specs.inside.Nets.{IsMisfit, NetOf}
 use Rattle.paged_recovery.specs.inside.Over.{FollowsOver, IsRefusedAt, answer_before, answer_over, groups_before, groups_over, has_none}
 use Rattle.paged_recovery.proofs.AnswerLaws.{follows}

@@ -22,10 +22,8 @@ use Rattle.tree_model.specs.Entries.{Entries}
 use Rattle.store_contents.specs.Contents.{LeavesSameContents, contents_beside, contents_of_files}
 use Rattle.store_contents.specs.StoredTrees.{StoodFor, LeaveWhatStood}
 use Rattle.store_contents.proofs.ContentsLaws.{same_beside}
-use Rattle.recovery.specs.Causes.{OneRose, RiseOnlyAtFault}
-use Rattle.recovery.specs.Opened.{KeepsJournal, journal_made}
-use Rattle.recovery.specs.Openings.{AreOpened, KeepsFiles}
-use Rattle.paged_recovery.specs.Openings.{LeavesPagesUnopened, OpensPages}
+use Rattle.paged_recovery.specs.Causes.{OneRose, RiseOnlyAtFault}
+use Rattle.paged_recovery.specs.Openings.{AreOpened, journal_made, KeepsFiles, KeepsJournal, LeavesPagesUnopened, OpensPages}
 use Rattle.paged_recovery.specs.inside.Over.{IsRefused, IsRefusedAt}
 use Rattle.paged_recovery.specs.inside.Syncs.{CouldLeave, LeaveNoOther}
 use Rattle.paged_recovery.proofs.AnswerLaws.{rose_later, rose_sooner, unless_of}

@@ -1,21 +1,52 @@
 -- What the opening of a store with pages leaves of its two disks (docs/FILE_FORMAT.md, "With pages").
-use Rattle.std.specs.Prelude.{◌≡◌, ℕ, Bool, true, IsTrue, List, is_some, Ok, Err}
+use Rattle.std.specs.Prelude.{◌≡◌, ◌⊎◌, ◌+◌, ℕ, Bool, true, if◌then◌else◌, IsTrue, List, [], ◌∷◌, ◌++◌, is_some, Ok, Err}
 use Rattle.outside_traits.specs.DiskPairs.{Pair, PairsHave}
 use Rattle.outside_traits.specs.Disks.{Synced}
-use Rattle.outside_traits.specs.Moments.{IsAllSynced}
+use Rattle.outside_traits.specs.Moments.{History, IsAllSynced}
 use Rattle.tree_model.specs.Entries.{Entries}
 use Rattle.node_records.specs.declared.open_error.Place.{Place}
-use Rattle.journal.specs.Journals.{read}
+use Rattle.journal.specs.Groups.{is_next}
+use Rattle.journal.specs.Journals.{header, is_fresh, read}
+use Rattle.journal.specs.Views.{JournalView, TakesGroups}
 use Rattle.journal.specs.declared.group.Groups.{Groups}
-use Rattle.recovery.specs.Openings.{AreOpened}
 use Rattle.store_contents.specs.Contents.{contents_of_files}
 use Rattle.store_contents.specs.StoredTrees.{StandForOne, StoodFor, LeaveWhatStood}
+
+-- the nine bytes of a journal without groups in place of a fresh file; any other file as it is
+abbrev pub journal_made : List ℕ → List ℕ
+journal_made journal = if is_fresh journal then header ++ 0 ∷ [] else journal
+
+-- the journal is all synced, and has the bytes that it had; nine of them where it was fresh
+pub record IsOpened (old new : History) : Type 0 where
+  pub synced : IsAllSynced new
+  pub bytes : new.now.reads ≡ journal_made old.now.reads
+
+-- and so are the pages, which have the bytes that they had
+pub record AreOpened (journal_known pages_known : Bool) (old new : Pair) : Type 0 where
+  pub journal : IsTrue journal_known → IsOpened old.journal new.journal
+  pub pages : IsTrue pages_known → Synced old.pages.now new.pages.now
+
+-- the journal takes the commit behind this number
+pub record TakesBehind (journal : JournalView) (number : ℕ) : Type 0 where
+  pub usable : TakesGroups journal
+  pub next : IsTrue (is_next journal.last (number + 1))
 
 -- the files stood for this map and number, stand for them now, and for one tree alone
 pub record OpensPages (old new : Pair) (entries : Entries) (number : ℕ) : Type 0 where
   pub stood : contents_of_files old.journal.now.reads old.pages.now.reads ≡ Ok (record { entries = entries; number = number })
   pub stands : contents_of_files new.journal.now.reads new.pages.now.reads ≡ Ok (record { entries = entries; number = number })
   pub alone : StandForOne new.journal.now.reads new.pages.now.reads number
+
+-- ---- a store that isn't opened
+
+-- the journal is as it was, or was made
+abbrev pub KeepsJournal : List ℕ → List ℕ → Type 0
+KeepsJournal old new = (new ≡ old) ⊎ (new ≡ journal_made old)
+
+-- the pages are as they were, and the journal as it was or as it is made in a fresh file
+pub record KeepsFiles (journal_known pages_known : Bool) (old new : Pair) : Type 0 where
+  pub journal : IsTrue journal_known → KeepsJournal old.journal.now.reads new.journal.now.reads
+  pub pages : IsTrue pages_known → Synced old.pages.now new.pages.now
 
 -- a crash at any moment, and one now, leaves files that stand for what such files stood for at the start
 pub record LeavesPagesUnopened (old new : Pair) : Type 0 where

@@ -9,9 +9,8 @@ ghost use Rattle.journal.specs.Openings.{LeavesSameGroups, Opens};
 ghost use Rattle.journal.specs.Refusals.{HasReason, UnlessFault};
 ghost use Rattle.paged_seq.specs.PagedMaps.{file_entries};
 ghost use Rattle.store_contents.specs.Contents.{LeavesSameContents, goes_on_from};
-ghost use Rattle.recovery.specs.Causes.{OneRose, RiseOnlyAtFault};
-ghost use Rattle.recovery.specs.Opened.{KeepsJournal};
-ghost use Rattle.recovery.specs.Openings.{TakesBehind};
+ghost use Rattle.paged_recovery.specs.Causes.{OneRose, RiseOnlyAtFault};
+ghost use Rattle.paged_recovery.specs.Openings.{KeepsJournal, TakesBehind};
 ghost use Rattle.paged_recovery.specs.inside.Nets.{IsNetOf};
 ghost use Rattle.paged_recovery.specs.inside.Over.{FollowsPages, has_none, answer_before, answer_over, groups_before, groups_over};
 

@@ -18,12 +18,13 @@ ghost use Rattle.paged_seq.specs.PagedFiles.{BreaksPages};
 ghost use Rattle.paged_seq.specs.PagedMaps.{file_entries};
 ghost use Rattle.store_contents.specs.Contents.{Contents, over_pages, place_in, with_images};
 ghost use Rattle.store_contents.specs.StoredTrees.{LeaveWhatStood};
-ghost use Rattle.recovery.specs.Causes.{OneRose, RiseOnlyAtFault};
+ghost use Rattle.paged_recovery.specs.Causes.{OneRose, RiseOnlyAtFault};
 ghost use Rattle.paged_recovery.specs.Openings.{HasImages};
 ghost use Rattle.paged_recovery.specs.inside.Finishing.{ArePages, AreSound, AreUnfinished, HasOpen, IsFinished, IsJudged, IsUntouchedAt, StandForThis, is_ready, judged, memory_alone, ready_front, stands_above};
 ghost use Rattle.paged_recovery.specs.inside.Over.{IsRefusedAt};
 
 use crate::counting::told;
+use crate::fault::StoreFault;
 use crate::gathering::pages_among;
 use crate::holding::{fault_of, hold};
 use crate::netting::follow;
@@ -36,7 +37,6 @@ use outside_traits::Disk;
 use page_images::install;
 use page_store::{PAGE_BYTES, Pool};
 use paged_seq::PagedSeq;
-use recovery::StoreFault;
 use std::alloc::Global;
 
 /// The map of these bytes of pages, in memory, where they break no rule of pages.

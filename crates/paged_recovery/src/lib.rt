@@ -7,6 +7,7 @@
 mod behind;
 mod counting;
 mod damage;
+mod fault;
 mod finishing;
 mod gathering;
 mod holding;
@@ -20,4 +21,5 @@ mod page_zero;
 mod syncing;
 mod walking;
 
+pub use fault::StoreFault;
 pub use opening::{Opened, open_store};

@@ -4,7 +4,7 @@ ghost use Rattle.outside_traits.specs.DiskPairs.{pair_of};
 ghost use Rattle.outside_traits.specs.Disks.{Synced};
 ghost use Rattle.journal.specs.Journals.{is_fresh};
 ghost use Rattle.journal.specs.Refusals.{HasReason, UnlessFault};
-ghost use Rattle.recovery.specs.Causes.{OneRose};
+ghost use Rattle.paged_recovery.specs.Causes.{OneRose};
 ghost use Rattle.paged_recovery.specs.inside.Syncs.{LeaveNoOther};
 
 use crate::syncing::sync_both;

@@ -8,16 +8,15 @@ ghost use Rattle.journal.specs.Refusals.{HasReason, UnlessFault};
 ghost use Rattle.overlays.specs.Views.{contents_after};
 ghost use Rattle.paged_seq.specs.PagedMaps.{map_of_file};
 ghost use Rattle.store_contents.specs.StoredTrees.{LeaveWhatStood};
-ghost use Rattle.recovery.specs.Causes.{OneRose, RiseOnlyAtFault};
-ghost use Rattle.recovery.specs.Openings.{AreOpened, KeepsFiles, TakesBehind};
-ghost use Rattle.paged_recovery.specs.Openings.{LeavesPagesUnopened, OpensPages};
+ghost use Rattle.paged_recovery.specs.Causes.{OneRose, RiseOnlyAtFault};
+ghost use Rattle.paged_recovery.specs.Openings.{AreOpened, KeepsFiles, LeavesPagesUnopened, OpensPages, TakesBehind};
 ghost use Rattle.paged_recovery.specs.inside.Over.{IsRefused};
 
+use crate::fault::StoreFault;
 use crate::look::look;
 use crate::opening::Opened;
 use crate::over::open_synced;
 use outside_traits::Disk;
-use recovery::StoreFault;
 use std::alloc::Global;
 
 /// Opens a store, with so many pages kept in memory, unless images of pages are open in its journal: those are damage of the pages at 0 here.

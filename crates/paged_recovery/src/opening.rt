@@ -12,11 +12,11 @@ ghost use Rattle.overlays.specs.Views.{contents_after};
 ghost use Rattle.paged_seq.specs.PagedMaps.{map_of_file};
 ghost use Rattle.store_contents.specs.Contents.{place_in};
 ghost use Rattle.store_contents.specs.StoredTrees.{LeaveWhatStood};
-ghost use Rattle.recovery.specs.Causes.{OneRose, RiseOnlyAtFault};
-ghost use Rattle.recovery.specs.Openings.{KeepsFiles, TakesBehind};
-ghost use Rattle.paged_recovery.specs.Openings.{AreReady, HasImages, LeavesPagesUnopened, OpensPages, RefusesPages, UnlessImages};
+ghost use Rattle.paged_recovery.specs.Causes.{OneRose, RiseOnlyAtFault};
+ghost use Rattle.paged_recovery.specs.Openings.{AreReady, HasImages, KeepsFiles, LeavesPagesUnopened, OpensPages, RefusesPages, TakesBehind, UnlessImages};
 ghost use Rattle.paged_recovery.specs.inside.Over.{IsRefusedAt};
 
+use crate::fault::StoreFault;
 use crate::finishing::finish;
 use crate::look::look;
 use crate::once::open_once;
@@ -25,7 +25,6 @@ use node_records::{File, OpenError};
 use outside_traits::Disk;
 use overlays::Layers;
 use paged_seq::PagedSeq;
-use recovery::StoreFault;
 use std::alloc::Global;
 
 /// A store that was opened: its journal, the map over its pages, the net changes of the journal's commits as one layer, and the number of the last commit.

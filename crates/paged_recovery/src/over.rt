@@ -12,12 +12,12 @@ ghost use Rattle.overlays.specs.Views.{contents_after};
 ghost use Rattle.paged_seq.specs.PagedFiles.{BreaksPages};
 ghost use Rattle.paged_seq.specs.PagedMaps.{file_entries, map_of_file};
 ghost use Rattle.store_contents.specs.StoredTrees.{LeaveWhatStood};
-ghost use Rattle.recovery.specs.Causes.{OneRose, RiseOnlyAtFault};
-ghost use Rattle.recovery.specs.Openings.{AreOpened, KeepsFiles, TakesBehind};
-ghost use Rattle.paged_recovery.specs.Openings.{OpensPages};
+ghost use Rattle.paged_recovery.specs.Causes.{OneRose, RiseOnlyAtFault};
+ghost use Rattle.paged_recovery.specs.Openings.{AreOpened, KeepsFiles, OpensPages, TakesBehind};
 ghost use Rattle.paged_recovery.specs.inside.Over.{IsRefused, IsRefusedAt};
 
 use crate::behind::{Followed, look_at_journal, open_behind};
+use crate::fault::StoreFault;
 use crate::holding::{Unheld, hold};
 use crate::opening::Opened;
 use crate::page_zero::base_in;
@@ -26,7 +26,6 @@ use node_records::{OpenError, Place};
 use outside_traits::Disk;
 use page_store::Pool;
 use paged_seq::PagedSeq;
-use recovery::StoreFault;
 use std::alloc::Global;
 
 /// Opens a store whose files are synced. The clauses are those of `open_store`, from the synced files on.

@@ -2,7 +2,7 @@
 ghost use Rattle.std.specs.Prelude.{◌≡◌, ◌≤◌, IsTrue, OnOk, OnErr};
 ghost use Rattle.outside_traits.specs.DiskPairs.{pair_of};
 ghost use Rattle.outside_traits.specs.Disks.{all_synced};
-ghost use Rattle.recovery.specs.Causes.{OneRose};
+ghost use Rattle.paged_recovery.specs.Causes.{OneRose};
 ghost use Rattle.paged_recovery.specs.inside.Syncs.{LeaveNoOther};
 
 use outside_traits::{Disk, Failed};

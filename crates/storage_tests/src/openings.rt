@@ -1,10 +1,12 @@
 //! Stores as their two files have them, damaged at each rule's place, and failing and stopped at each call of their disks.
 use crate::records::parts;
-use dewey_labels::{List, NoMemory};
+use dewey_labels::{Label, List, NoMemory};
 use node_records::{File, OpenError, Place};
+use node_seq::{NodeRead, SeqError, entries_above};
 use outside_kinds::MemDisk;
 use outside_traits::Disk;
-use recovery::{Opened, StoreFault, open_store};
+use overlays::Stacked;
+use paged_recovery::{StoreFault, open_store};
 use std::alloc::Global;
 use std::test::Fail;
 use tree_model::{Key, Record};
@@ -27,16 +29,35 @@ fn disk(alloc: Global, file: &[u8], call: u64) -> Result<MemDisk, NoMemory> {
     Ok(MemDisk::new(bytes, calls))
 }
 
+/// A store as its files have it: the number of its last commit, and its records.
+struct Held {
+    number: u32,
+    entries: List<(Key, Record)>,
+}
+
+/// The records of a map but one of the root, which no tree has.
+fn entries_of<S: NodeRead>(alloc: Global, map: &mut S) -> Result<List<(Key, Record)>, SeqError> {
+    let root = Label::root(alloc)?;
+    let first = Key::of_node(alloc, &root)?;
+    entries_above(alloc, &first, map)
+}
+
 /// The store that two files open as, or why they aren't opened.
-fn opened(
-    alloc: Global,
-    journal: &[u8],
-    pages: &[u8],
-) -> Result<Opened<MemDisk, MemDisk>, OpenError> {
+fn opened(alloc: Global, journal: &[u8], pages: &[u8]) -> Result<Held, OpenError> {
     let journal = disk(alloc, journal, 0)?;
     let pages = disk(alloc, pages, 0)?;
-    match open_store(alloc, journal, pages) {
-        Ok(store) => Ok(store),
+    match open_store(alloc, journal, pages, 1) {
+        Ok(store) => {
+            let mut map = Stacked::new(store.base, store.layers);
+            match entries_of(alloc, &mut map) {
+                Ok(entries) => Ok(Held {
+                    number: store.number,
+                    entries,
+                }),
+                Err(SeqError::DiskFault) => Err(OpenError::DiskFault),
+                Err(SeqError::NoMemory) => Err(OpenError::NoMemory),
+            }
+        }
         Err(refused) => Err(refused.fault),
     }
 }
@@ -44,7 +65,7 @@ fn opened(
 /// The number and the count of records that two files open with, or why they aren't opened.
 fn opens(alloc: Global, journal: &[u8], pages: &[u8]) -> Result<(u32, usize), OpenError> {
     let store = opened(alloc, journal, pages)?;
-    Ok((store.number, store.base.entries().len()))
+    Ok((store.number, store.entries.len()))
 }
 
 fn damaged(file: File, at: u64) -> Result<(u32, usize), OpenError> {
@@ -119,7 +140,7 @@ fn are_a_document(entries: &[(Key, Record)]) -> bool {
 /// The number that a journal opens with, and whether its records are those of one document.
 fn opens_a_document(alloc: Global, journal: &[u8]) -> Result<(u32, bool), OpenError> {
     let store = opened(alloc, journal, b"")?;
-    Ok((store.number, are_a_document(store.base.entries())))
+    Ok((store.number, are_a_document(store.entries.as_slice())))
 }
 
 /// The length of the journal with one document, and what it opens with.
@@ -322,7 +343,7 @@ fn name_of_third(entries: &[(Key, Record)]) -> u8 {
 /// The number that a journal opens with, and the name of its third record.
 fn third_name(alloc: Global, journal: &[u8]) -> Result<(u32, u8), OpenError> {
     let store = opened(alloc, journal, b"")?;
-    Ok((store.number, name_of_third(store.base.entries())))
+    Ok((store.number, name_of_third(store.entries.as_slice())))
 }
 
 const NO_ELEMENT: &[u8] = b"\x02\x01\x83\x69\x83\x69\0\0";
@@ -369,7 +390,7 @@ fn faults(
 ) -> Result<(OpenError, u64, u64), NoMemory> {
     let journal = disk(alloc, b"", journal_fails)?;
     let pages = disk(alloc, b"", pages_fail)?;
-    match open_store(alloc, journal, pages) {
+    match open_store(alloc, journal, pages, 1) {
         Ok(_) => Err(NoMemory),
         Err(refused) => Ok(counted(refused)),
     }
@@ -401,8 +422,12 @@ fn a_failing_call_of_either_disk_hands_both_back(rt: HostRuntime) -> Result<(), 
 
 /// The disk of the journal that is made in an empty file.
 fn new_journal(alloc: Global) -> Result<MemDisk, OpenError> {
-    let store = opened(alloc, b"", b"")?;
-    Ok(store.journal.into_disk())
+    let journal = disk(alloc, b"", 0)?;
+    let pages = disk(alloc, b"", 0)?;
+    match open_store(alloc, journal, pages, 1) {
+        Ok(store) => Ok(store.journal.into_disk()),
+        Err(refused) => Err(refused.fault),
+    }
 }
 
 /// Whether each image that a crash in a call of the journal's disk leaves opens as an empty store.

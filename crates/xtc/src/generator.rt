@@ -4,7 +4,7 @@ ghost use Rattle.outside_traits.specs.DiskPairs.{pair_of};
 ghost use Rattle.outside_traits.specs.Faults.{HasCause};
 ghost use Rattle.outside_traits.specs.Moments.{IsAllSynced};
 ghost use Rattle.node_seq.specs.Trees.{OnTree};
-ghost use Rattle.recovery.specs.Openings.{TakesBehind};
+ghost use Rattle.paged_recovery.specs.Openings.{TakesBehind};
 ghost use Rattle.checkpoint.specs.Bases.{contents_of};
 ghost use Rattle.call_contract.specs.States.{State};
 ghost use Rattle.command_lines.specs.declared.command.StoreCall.{StoreCall};

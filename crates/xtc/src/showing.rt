@@ -5,7 +5,7 @@ ghost use Rattle.outside_traits.specs.Faults.{HasCause};
 ghost use Rattle.outside_traits.specs.Moments.{History};
 ghost use Rattle.tree_model.specs.Tree.{Tree};
 ghost use Rattle.node_seq.specs.Trees.{OnTree, StandsFor};
-ghost use Rattle.recovery.specs.Openings.{TakesBehind};
+ghost use Rattle.paged_recovery.specs.Openings.{TakesBehind};
 ghost use Rattle.call_contract.specs.States.{start};
 ghost use Rattle.command_lines.specs.ValidCommands.{IsValidWhat};
 ghost use Rattle.command_lines.specs.declared.command.StoreCall.TheVariants.{Dom};

@@ -5,7 +5,7 @@ ghost use Rattle.outside_traits.specs.DiskPairs.{pair_of};
 ghost use Rattle.outside_traits.specs.Moments.{IsAllSynced};
 ghost use Rattle.tree_model.specs.Tree.{Tree};
 ghost use Rattle.node_seq.specs.Trees.{StandsFor};
-ghost use Rattle.recovery.specs.Openings.{TakesBehind};
+ghost use Rattle.paged_recovery.specs.Openings.{TakesBehind};
 ghost use Rattle.script_runs.specs.Counts.{CountedWhere, DisksCountedWhere};
 ghost use Rattle.script_runs.specs.Whole.{piece};
 ghost use Rattle.call_contract.specs.Books.{IsBookFrom};

@@ -5,7 +5,7 @@ use Rattle.outside_traits.specs.Moments.{History, IsAllSynced}
 use Rattle.tree_model.specs.Entries.{Entries}
 use Rattle.tree_model.specs.Tree.{Tree}
 use Rattle.journal.specs.Views.{JournalView}
-use Rattle.recovery.specs.Openings.{TakesBehind}
+use Rattle.paged_recovery.specs.Openings.{TakesBehind}
 use Rattle.script_runs.specs.Counts.{Counts}
 use Rattle.call_contract.specs.Books.{Book, IsBookFrom, commits}
 use Rattle.call_contract.specs.States.{start}

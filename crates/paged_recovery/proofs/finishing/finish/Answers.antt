@@ -3,7 +3,7 @@ use Rattle.outside_traits.specs.DiskPairs.{Pair, pair_of}
 use Rattle.outside_traits.specs.Moments.{History}
 use Rattle.outside_traits.proofs.PairLaws.{none}
 use Rattle.store_contents.specs.StoredTrees.{LeaveWhatStood, StoodFor}
-use Rattle.recovery.specs.Causes.{OneRose}
+use Rattle.paged_recovery.specs.Causes.{OneRose}
 use Rattle.node_records.specs.declared.open_error.File.TheVariants.{Pages}
 use Rattle.store_contents.specs.Contents.{place_in}
 use Rattle.paged_recovery.specs.Openings.{HasImages}

@@ -4,7 +4,7 @@ use Rattle.outside_traits.specs.Faults.{FaultCounted}
 use Rattle.outside_traits.specs.Moments.{History, IsAllSynced}
 use Rattle.page_images.specs.Images.{AreImages, Rising}
 use Rattle.paged_recovery.specs.inside.Finishing.{ArePages, ready_front}
-use Rattle.recovery.specs.Causes.{OneRose}
+use Rattle.paged_recovery.specs.Causes.{OneRose}
 use Rattle.paged_recovery.proofs.FinishLaws.{finished, front_unfinished, put_moments, still, untouched_at}
 use Rattle.paged_recovery.proofs.ImagePages.{read_pages}
 use Rattle.paged_recovery.proofs.PagedSteps.{reason_leads}

@@ -2,7 +2,7 @@ use Rattle.std.proofs.Common.{ℕ, ◌∙◌, inl, ap, subst}
 use Rattle.outside_traits.specs.DiskPairs.{pair_of}
 use Rattle.outside_traits.specs.Disks.{DiskState}
 use Rattle.page_store.specs.Pages.{PoolView}
-use Rattle.recovery.specs.Causes.{OneRose, RiseOnlyAtFault}
+use Rattle.paged_recovery.specs.Causes.{OneRose, RiseOnlyAtFault}
 use Rattle.paged_recovery.proofs.AnswerLaws.{unless_both, unless_then}
 use Rattle.paged_recovery.proofs.PagedSteps.{err_then, keeps_before, match_then, moments_before, ok_then, opened_before, opens_before, pages_unopened, reason_leads, refuses_before, rests_now, stood_itself}
 use Rattle.paged_recovery.proofs.once.open_once.Goals as goal

@@ -4,7 +4,7 @@ use Rattle.outside_traits.specs.Disks.{DiskState}
 use Rattle.node_records.specs.declared.open_error.File.TheVariants.{Pages}
 use Rattle.journal.specs.Journals.{is_fresh}
 use Rattle.store_contents.specs.Contents.{place_in}
-use Rattle.recovery.specs.Causes.{OneRose, RiseOnlyAtFault}
+use Rattle.paged_recovery.specs.Causes.{OneRose, RiseOnlyAtFault}
 use Rattle.paged_recovery.proofs.AgainLaws.{fresh_refused, kept_from, ready_from, refused_at_after, refuses_from}
 use Rattle.paged_recovery.proofs.AnswerLaws.{unless_both, unless_of}
 use Rattle.paged_recovery.proofs.PagedSteps.{err_then, match_then, moments_before, ok_then, opened_before, opens_before, pages_unopened, reason_at, reason_leads, rests_now, stood_itself}

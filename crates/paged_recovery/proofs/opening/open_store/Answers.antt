@@ -3,7 +3,7 @@ use Rattle.outside_traits.specs.DiskPairs.{pair_of}
 use Rattle.outside_traits.specs.Disks.{DiskState, all_synced}
 use Rattle.node_records.specs.declared.open_error.File.TheVariants.{Pages}
 use Rattle.store_contents.specs.Contents.{place_in}
-use Rattle.recovery.specs.Causes.{OneRose, RiseOnlyAtFault}
+use Rattle.paged_recovery.specs.Causes.{OneRose, RiseOnlyAtFault}
 use Rattle.paged_recovery.specs.inside.Over.{IsRefused}
 use Rattle.paged_recovery.proofs.AgainLaws.{kept_from, kept_unless, ready_from, refused_at_after, refused_there, refuses_from, refuses_other, uncounted_there}
 use Rattle.paged_recovery.proofs.FinishLaws.{stood_on}

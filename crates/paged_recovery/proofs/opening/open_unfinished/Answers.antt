@@ -1,7 +1,7 @@
 use Rattle.std.proofs.Common.{ℕ, ◌∙◌, ap, subst, sym}
 use Rattle.outside_traits.specs.DiskPairs.{pair_of}
 use Rattle.outside_traits.specs.Disks.{DiskState, all_synced}
-use Rattle.recovery.specs.Causes.{OneRose, RiseOnlyAtFault}
+use Rattle.paged_recovery.specs.Causes.{OneRose, RiseOnlyAtFault}
 use Rattle.paged_recovery.proofs.AgainLaws.{had_images, never_refused, opens_finished, untouched_keeps, untouched_refuses}
 use Rattle.paged_recovery.proofs.AnswerLaws.{unless_of}
 use Rattle.paged_recovery.proofs.FinishLaws.{stood_on}

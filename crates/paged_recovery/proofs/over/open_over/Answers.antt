@@ -5,7 +5,7 @@ use Rattle.tree_model.specs.Entries.{Entries}
 use Rattle.node_pages.specs.PageFiles.{contents_of_file}
 use Rattle.overlays.specs.Views.{contents_after}
 use Rattle.paged_seq.specs.PagedMaps.{file_entries, map_of_file}
-use Rattle.recovery.specs.Causes.{OneRose, RiseOnlyAtFault}
+use Rattle.paged_recovery.specs.Causes.{OneRose, RiseOnlyAtFault}
 use Rattle.paged_recovery.specs.Openings.{OpensPages}
 use Rattle.paged_recovery.proofs.AnswerLaws.{made_or_same, reason_then, unless_then}
 use Rattle.paged_recovery.proofs.OverLaws.{follows_known, opened_over, opened_tree, refused_over}

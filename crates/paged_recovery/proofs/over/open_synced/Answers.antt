@@ -6,7 +6,7 @@ use Rattle.page_store.specs.Pages.{ArePagesOf}
 use Rattle.node_pages.specs.PageFiles.{contents_of_file}
 use Rattle.paged_seq.specs.PagedMaps.{file_entries}
 use Rattle.store_contents.specs.StoredTrees.{LeaveWhatStood}
-use Rattle.recovery.specs.Causes.{OneRose, RiseOnlyAtFault}
+use Rattle.paged_recovery.specs.Causes.{OneRose, RiseOnlyAtFault}
 use Rattle.paged_recovery.specs.Openings.{OpensPages}
 use Rattle.paged_recovery.specs.inside.Over.{IsRefused, IsRefusedAt}
 use Rattle.paged_recovery.proofs.AnswerLaws.{unless_of, unless_then}

@@ -1,9 +1,0 @@
-use Rattle.std.proofs.Common.{length}
-use Rattle.recovery.proofs.CatalogueLaws.{Walked}
-use Rattle.recovery.proofs.catalogue.name_documents.Given as goal
-
-abbrev pub invariant-loop-entry : goal.invariant-loop-entry
-invariant-loop-entry l = Walked l.named l.entries l.rest
-
-abbrev pub decreases-loop-entry : goal.decreases-loop-entry
-decreases-loop-entry l = length l.rest

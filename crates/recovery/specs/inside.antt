@@ -1,2 +1,0 @@
--- Words that only private functions and the proofs use.
-pub mod Named
