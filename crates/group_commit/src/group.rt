@@ -25,6 +25,9 @@ use std::sync::Wait;
 use turn_lock::{NoTurn, TurnLock};
 use tx_core::Core;
 
+// How often a thread looks for the journal's turn before it sleeps: it is held while a disk syncs, which takes longer than a sleep.
+const JOURNAL_LOOKS: u32 = 191_919;
+
 /// There was no memory for a group commit. All comes back.
 #[derive(Drop)]
 pub struct GroupFault<C: TreeCall + Drop, B: NodeRead + Drop, J: Disk> {
@@ -85,7 +88,10 @@ impl<C: TreeCall + Drop, B: NodeRead + Drop, J: Disk> GroupCommit<C, B, J> {
         let drainer = session.split(&store, 0);
         match TurnLock::new(alloc, Scribe::new(first, drainer, journal)) {
             Ok((lock, pass)) => Ok((
-                GroupCommit { store, lock },
+                GroupCommit {
+                    store,
+                    lock: lock.looking(JOURNAL_LOOKS),
+                },
                 Member {
                     session,
                     pass,

@@ -27,7 +27,8 @@ const GROWTH_ASLEEP: usize = 3;
 
 const LOOKING: usize = 4;
 
-// How often a thread looks whether the turn is free before it sleeps, and how many looks there are to a try to take it. A look takes about a nanosecond.
+// How often a thread looks whether the turn is free before it sleeps, where nothing else is said, and how many looks there are to a try to take it.
+// A look takes about a nanosecond.
 // Between two tries the thread that gave the turn may have it some more times, while the value is in its processor's cache.
 const LOOKS: u32 = 100_000;
 
@@ -49,6 +50,8 @@ pub struct NoTurn<V> {
 #[derive(Drop)]
 pub struct TurnLock<V: Grows> {
     table: TurnTable<V>,
+    /// How often a thread looks before it sleeps.
+    looks: u32,
 }
 
 impl<V: Grows> Model for TurnLock<V> {
@@ -85,7 +88,10 @@ impl<V: Grows> TurnLock<V> {
         }
         match Table::new(alloc, &[0, count, 0, 0, 0], slots, &start) {
             Ok((table, seat)) => Ok((
-                TurnLock { table },
+                TurnLock {
+                    table,
+                    looks: LOOKS,
+                },
                 Pass {
                     seat,
                     numbers: every_number(),
@@ -99,6 +105,17 @@ impl<V: Grows> TurnLock<V> {
                 slots.destroy_empty();
                 Err(NoTurn { value })
             }
+        }
+    }
+
+    /// The same lock, at which a thread looks so often whether the turn is free before it sleeps, about a nanosecond each time.
+    /// A turn that is held for some microseconds wants looks for as long as a sleep takes, and one that is held while a disk works only few.
+    pub fn looking(self, looks: u32) -> TurnLock<V>
+        ensures { result ≡ self }
+    {
+        TurnLock {
+            table: self.table,
+            looks,
         }
     }
 
@@ -126,7 +143,7 @@ impl<V: Grows> TurnLock<V> {
         ensures goes_on { IfSome result (λ t. GoesOn V.number pass.old.has pass.old.seen (V.entries t.value)) }
         ensures none { IfNone result (pass.new ≡ pass.old) }
     {
-        for look in 0..LOOKS {
+        for look in 0..self.looks {
             // A look is made each time, so that time passes.
             if self.table.shared.peek(TAKEN) == 0 && look % LOOKS_A_TRY == 0 {
                 if let Some(turn) = self.try_take(pass) {
@@ -363,7 +380,7 @@ impl<V: Grows> TurnLock<V> {
         requires all { HasAll pass.has }
         ensures { GoesOn V.number pass.has pass.seen (V.entries result) }
     {
-        let TurnLock { table } = self;
+        let TurnLock { table, looks: _ } = self;
         let Pass {
             seat,
             numbers: _,
