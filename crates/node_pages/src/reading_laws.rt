@@ -22,7 +22,8 @@ pub fn pages_behind_the_count_are_not_read()
 
 /// The pages that a map is cut into are read as this map again, with its number.
 pub fn pages_of_a_cut_are_read_again()
-    ensures again { (number : ℕ) (es : Entries) (pages : List (List ℕ)) → number < 2 ^ 32 → Sorted es → AllByRecursion IsCuttable es → cut_of number (data_of es) ≡ Pages pages
+    ensures again { (number : ℕ) (es : Entries) (pages : List (List ℕ)) → number < 2 ^ 32 → Sorted es → AllByRecursion IsCuttable es
+        → cut_of number (data_of es) ≡ Pages pages
         → pages_in (page_among pages) ≡ Ok (es, number) }
     // Such are all records that a valid tree may have.
     ensures valid { (k : Key) (r : Record) → IsValidKey k → IsTrue (record_fits r) → IsCuttable (k, r) }

@@ -46,7 +46,8 @@ pub fn open_behind<J: Disk, P: Disk + Drop>(
         (J.history journal) f.journal.history f.net.layers.changes f.net.number) }
     ensures next { IfOk result (λ f. TakesBehind f.journal f.net.number) }
     ensures moments { IfOk result (λ f. IsTrue J.is_known → (pages : List ℕ) → LeavesSameContents pages (J.history journal) f.journal.history) }
-    ensures moments_refused { IfErr result (λ refused. IsTrue J.is_known → (pages : List ℕ) → LeavesSameContents pages (J.history journal) (J.history refused.disk)) }
+    ensures moments_refused { IfErr result (λ refused. IsTrue J.is_known → (pages : List ℕ)
+        → LeavesSameContents pages (J.history journal) (J.history refused.disk)) }
     ensures reason { IfErr result (λ refused. HasReason
         (λ place. IsTrue J.is_known → IsTrue P.is_known
         → answer_over (file_entries (P.history seq.old.disk).now.reads, base) (J.history journal).now.reads ≡ Err place)
@@ -82,7 +83,8 @@ fn open_fresh<J: Disk, P: Disk + Drop>(
         (J.history journal) f.journal.history f.net.layers.changes f.net.number) }
     ensures next { IfOk result (λ f. TakesBehind f.journal f.net.number) }
     ensures moments { IfOk result (λ f. IsTrue J.is_known → (pages : List ℕ) → LeavesSameContents pages (J.history journal) f.journal.history) }
-    ensures moments_refused { IfErr result (λ refused. IsTrue J.is_known → (pages : List ℕ) → LeavesSameContents pages (J.history journal) (J.history refused.disk)) }
+    ensures moments_refused { IfErr result (λ refused. IsTrue J.is_known → (pages : List ℕ)
+        → LeavesSameContents pages (J.history journal) (J.history refused.disk)) }
     ensures reason { IfErr result (λ refused. HasReason
         (λ place. IsTrue J.is_known → IsTrue P.is_known
         → answer_over (file_entries (P.history seq.old.disk).now.reads, base) (J.history journal).now.reads ≡ Err place)

@@ -83,7 +83,8 @@ fn take_page<P: Disk + Drop, T: PagePass>(
 ) -> Result<(), OpenError>
     requires count { IsTrue P.is_known → count ≡ length (P.history file.old.disk).now.reads }
     ensures ok { OnOk result (IsTrue P.is_known → T.after pass.old (file_page (P.history file.old.disk).now.reads page) ≡ Ok pass.new) }
-    ensures reason { IfErr result (HasReason (IsPageWith (λ n. IsTrue P.is_known → T.after pass.old (file_page (P.history file.old.disk).now.reads page) ≡ Err n))
+    ensures reason { IfErr result (HasReason (IsPageWith (λ n. IsTrue P.is_known
+        → T.after pass.old (file_page (P.history file.old.disk).now.reads page) ≡ Err n))
         (FaultCounted (P.faults file.old.disk) (P.faults file.new.disk))) }
     ensures most { file.new.pool.most ≡ file.old.pool.most }
     ensures same { IsTrue P.is_known → P.history file.new.disk ≡ P.history file.old.disk }
@@ -112,7 +113,8 @@ fn take_pages<P: Disk + Drop, T: PagePass>(
     requires count { IsTrue P.is_known → count ≡ length (P.history file.old.disk).now.reads }
     requires few { first + pages < 2 ^ 32 }
     ensures ok { OnOk result (IsTrue P.is_known → after_pages T.after (file_page (P.history file.old.disk).now.reads) first pages pass.old ≡ Ok pass.new) }
-    ensures reason { IfErr result (HasReason (IsPageWith (λ n. IsTrue P.is_known → after_pages T.after (file_page (P.history file.old.disk).now.reads) first pages pass.old ≡ Err n))
+    ensures reason { IfErr result (HasReason (IsPageWith (λ n. IsTrue P.is_known
+        → after_pages T.after (file_page (P.history file.old.disk).now.reads) first pages pass.old ≡ Err n))
         (FaultCounted (P.faults file.old.disk) (P.faults file.new.disk))) }
     ensures most { file.new.pool.most ≡ file.old.pool.most }
     ensures same { IsTrue P.is_known → P.history file.new.disk ≡ P.history file.old.disk }
@@ -132,7 +134,8 @@ fn read_zero<P: Disk + Drop>(
 ) -> Result<Header, OpenError>
     requires count { IsTrue P.is_known → count ≡ length (P.history file.old.disk).now.reads }
     ensures header { IfOk result (λ h. IsTrue P.is_known → header_in (file_page (P.history file.old.disk).now.reads 0) ≡ Some h) }
-    ensures reason { IfErr result (HasReason (IsPageWith (λ n. (n ≡ 0) × (IsTrue P.is_known → header_in (file_page (P.history file.old.disk).now.reads 0) ≡ None)))
+    ensures reason { IfErr result (HasReason (IsPageWith (λ n. (n ≡ 0) × (IsTrue P.is_known
+        → header_in (file_page (P.history file.old.disk).now.reads 0) ≡ None)))
         (FaultCounted (P.faults file.old.disk) (P.faults file.new.disk))) }
     ensures most { file.new.pool.most ≡ file.old.pool.most }
     ensures same { IsTrue P.is_known → P.history file.new.disk ≡ P.history file.old.disk }
@@ -159,7 +162,8 @@ fn read_starts<P: Disk + Drop>(
     requires count { IsTrue P.is_known → count ≡ length (P.history file.old.disk).now.reads }
     ensures starts { IfOk result (λ starts. IsTrue P.is_known → starts_in (file_page (P.history file.old.disk).now.reads) header.now ≡ Ok starts) }
     ensures few { IfOk result (λ starts. length starts < 2 ^ 32) }
-    ensures reason { IfErr result (HasReason (IsPageWith (λ n. IsTrue P.is_known → starts_in (file_page (P.history file.old.disk).now.reads) header.now ≡ Err n))
+    ensures reason { IfErr result (HasReason (IsPageWith (λ n. IsTrue P.is_known
+        → starts_in (file_page (P.history file.old.disk).now.reads) header.now ≡ Err n))
         (FaultCounted (P.faults file.old.disk) (P.faults file.new.disk))) }
     ensures most { file.new.pool.most ≡ file.old.pool.most }
     ensures same { IsTrue P.is_known → P.history file.new.disk ≡ P.history file.old.disk }

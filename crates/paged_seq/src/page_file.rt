@@ -166,12 +166,14 @@ impl<P: Disk + Drop> PageFile<P> {
         requires index { IsTrue P.is_known → IsIndex (file_page (P.history self.old.disk).now.reads) starts.now }
         requires within { place.old.at ≤ 8_192 }
         requires place { IsTrue P.is_known → IsPlace (file_page (P.history self.old.disk).now.reads) (length starts.now) place.old }
-        ensures arrived { IfOk result (λ arrived. IsTrue P.is_known → HasArrived (rest_at (file_page (P.history self.old.disk).now.reads) (length starts.now) place.old)
+        ensures arrived { IfOk result (λ arrived. IsTrue P.is_known
+            → HasArrived (rest_at (file_page (P.history self.old.disk).now.reads) (length starts.now) place.old)
             arrived (rest_at (file_page (P.history self.old.disk).now.reads) (length starts.now) place.new)) }
         ensures within { OnOk result (place.new.at ≤ 8_192) }
         ensures place { OnOk result (IsTrue P.is_known → IsPlace (file_page (P.history self.old.disk).now.reads) (length starts.now) place.new) }
         ensures there { IfOk result (λ arrived. IsTrue arrived → is_kept place.new.page self.new.pool ≡ true) }
-        ensures some { IfOk result (λ arrived. IsTrue arrived → (0 < place.new.left) × (steps_left (length starts.now) place.new ≤ steps_left (length starts.now) place.old)) }
+        ensures some { IfOk result (λ arrived. IsTrue arrived
+            → (0 < place.new.left) × (steps_left (length starts.now) place.new ≤ steps_left (length starts.now) place.old)) }
         ensures reads { self.new.pool.reads ≤ self.old.pool.reads + 1 }
         ensures most { self.new.pool.most ≡ self.old.pool.most }
         ensures same { IsTrue P.is_known → P.history self.new.disk ≡ P.history self.old.disk }
@@ -288,7 +290,8 @@ impl<P: Disk + Drop> PageFile<P> {
     ) -> Result<Option<Record>, SeqError>
         requires few { length starts.now < 2 ^ 32 }
         requires index { IsTrue P.is_known → IsIndex (file_page (P.history self.old.disk).now.reads) starts.now }
-        ensures value { IfOk result (λ found. IsTrue P.is_known → found ≡ get key.now (records_of (file_page (P.history self.old.disk).now.reads) (length starts.now))) }
+        ensures value { IfOk result (λ found. IsTrue P.is_known
+            → found ≡ get key.now (records_of (file_page (P.history self.old.disk).now.reads) (length starts.now))) }
         ensures reads { IfOk result (λ found. IsTrue P.is_known → self.new.pool.reads ≤ self.old.pool.reads + 2 + chunks_found found) }
         ensures most { self.new.pool.most ≡ self.old.pool.most }
         ensures same { IsTrue P.is_known → P.history self.new.disk ≡ P.history self.old.disk }
@@ -346,7 +349,8 @@ impl<P: Disk + Drop> PageFile<P> {
         requires index { IsTrue P.is_known → IsIndex (file_page (P.history self.old.disk).now.reads) starts.now }
         requires passed { IfSome passed.old (MayBeKept P.is_known (P.history self.old.disk).now.reads (length starts.now)) }
         ensures passed { IfSome passed.new (MayBeKept P.is_known (P.history self.old.disk).now.reads (length starts.now)) }
-        ensures value { IfOk result (λ found. IsTrue P.is_known → found ≡ first_above key.now (records_of (file_page (P.history self.old.disk).now.reads) (length starts.now))) }
+        ensures value { IfOk result (λ found. IsTrue P.is_known
+            → found ≡ first_above key.now (records_of (file_page (P.history self.old.disk).now.reads) (length starts.now))) }
         ensures above { IfOk result (LiesAbove key.now) }
         ensures reads { IfOk result (λ found. IsTrue P.is_known → self.new.pool.reads ≤ self.old.pool.reads + 3 + chunks_of_entry found) }
         ensures most { self.new.pool.most ≡ self.old.pool.most }
@@ -378,7 +382,8 @@ impl<P: Disk + Drop> PageFile<P> {
     ) -> Result<Option<(Key, Record)>, SeqError>
         requires few { length starts.now < 2 ^ 32 }
         requires index { IsTrue P.is_known → IsIndex (file_page (P.history self.old.disk).now.reads) starts.now }
-        ensures value { IfOk result (λ found. IsTrue P.is_known → found ≡ last_below key.now (records_of (file_page (P.history self.old.disk).now.reads) (length starts.now))) }
+        ensures value { IfOk result (λ found. IsTrue P.is_known
+            → found ≡ last_below key.now (records_of (file_page (P.history self.old.disk).now.reads) (length starts.now))) }
         ensures below { IfOk result (LiesBelow key.now) }
         ensures reads { IfOk result (λ found. IsTrue P.is_known → self.new.pool.reads ≤ self.old.pool.reads + 3 + chunks_of_entry found) }
         ensures most { self.new.pool.most ≡ self.old.pool.most }

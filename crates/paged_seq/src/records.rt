@@ -55,7 +55,8 @@ fn take_entry(
     part: &mut List<u8>,
     records: &mut List<(Key, Record)>,
 ) -> Result<(), NoMemory>
-    ensures { OnOk result ((more : List declared_entry.Entry) → records.new ++ records_behind part.new more ≡ records.old ++ records_behind part.old (entry ∷ more)) }
+    ensures { OnOk result ((more : List declared_entry.Entry)
+        → records.new ++ records_behind part.new more ≡ records.old ++ records_behind part.old (entry ∷ more)) }
 {
     let Entry {
         key,
@@ -78,7 +79,8 @@ fn take_entries(
     part: &mut List<u8>,
     records: &mut List<(Key, Record)>,
 ) -> Result<(), NoMemory>
-    ensures { OnOk result ((more : List declared_entry.Entry) → records.new ++ records_behind part.new more ≡ records.old ++ records_behind part.old (entries ++ more)) }
+    ensures { OnOk result ((more : List declared_entry.Entry)
+        → records.new ++ records_behind part.new more ≡ records.old ++ records_behind part.old (entries ++ more)) }
 {
     for entry in entries.into_vec() {
         take_entry(alloc, entry, part, records)?;
@@ -93,7 +95,8 @@ fn page_entries<P: Disk + Drop>(
     page: u32,
 ) -> Result<List<Entry>, SeqError>
     requires within { IsTrue P.is_known → length (page_of page (P.history file.old.disk).now.reads) ≡ 8_192 }
-    ensures entries { IfOk result (λ entries. IsTrue P.is_known → entries ≡ items_or_none (page_in entry_read (file_page (P.history file.old.disk).now.reads page))) }
+    ensures entries { IfOk result (λ entries. IsTrue P.is_known
+        → entries ≡ items_or_none (page_in entry_read (file_page (P.history file.old.disk).now.reads page))) }
     ensures reads { file.new.pool.reads ≤ file.old.pool.reads + 1 }
     ensures most { file.new.pool.most ≡ file.old.pool.most }
     ensures same { IsTrue P.is_known → P.history file.new.disk ≡ P.history file.old.disk }

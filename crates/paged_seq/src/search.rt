@@ -82,7 +82,8 @@ fn passes_there(
 ) -> Result<bool, NoMemory>
     requires within { size ≤ length bytes.now }
     requires sorting { IfSome sorting.now (SortsAs key.now) }
-    ensures { IfOk result (λ answer. (e : Entry × ℕ) → entry_in bytes.now ≡ Some e → size ≡ length (key_bytes e.0.key) → answer ≡ passes key.now beyond e.0.key) }
+    ensures { IfOk result (λ answer. (e : Entry × ℕ) → entry_in bytes.now ≡ Some e → size ≡ length (key_bytes e.0.key)
+        → answer ≡ passes key.now beyond e.0.key) }
 {
     let Some(sorting) = sorting else {
         return match WholeEntries::read(alloc, bytes, &None)? {

@@ -51,7 +51,8 @@ impl<P: Disk + Drop> PagedSeq<P> {
     /// The pages that the pool has already are the disk's. The disk and the pool are handed back with a fault.
     pub fn open(alloc: Global, disk: P, pool: Pool) -> Result<PagedSeq<P>, PagesFault<P>>
         requires kept { IsTrue P.is_known → ArePagesOf (P.history disk).now.reads pool.kept }
-        ensures map { IfOk result (λ seq. IsTrue P.is_known → contents_of_file (P.history disk).now.reads ≡ Ok (file_entries (P.history disk).now.reads, seq.index.base)) }
+        ensures map { IfOk result (λ seq. IsTrue P.is_known → contents_of_file (P.history disk).now.reads
+            ≡ Ok (file_entries (P.history disk).now.reads, seq.index.base)) }
         // Damaged is a file of which `contents_of_file` is a page, the first that breaks a rule; the place is where it begins.
         ensures reason { IfErr result (λ refused. HasReason (BreaksPages P.is_known (P.history disk).now.reads)
             (FaultCounted (P.faults disk) (P.faults refused.disk)) refused.fault) }

@@ -280,7 +280,12 @@ impl<C: TreeCall + Drop, B: NodeRead + Drop> Store<C, B> {
     pub fn join(&self, session: &mut Session<C, B>, other: Session<C, B>)
         requires store { (session.old.lock ≡ self.now) × (other.lock ≡ self.now) }
         requires ended { live_in (book_of other.seen) other.under ≡ None }
-        ensures kept { session.new ≡ record { lock = session.old.lock; seen = longer session.old.seen other.seen; has = merged session.old.has other.has; under = session.old.under } }
+        ensures kept { session.new ≡ record {
+          lock = session.old.lock;
+          seen = longer session.old.seen other.seen;
+          has = merged session.old.has other.has;
+          under = session.old.under;
+        } }
         ensures goes_on { GoesOn number_of session.old.has session.old.seen session.new.seen }
         ensures other_goes_on { GoesOn number_of other.has other.seen session.new.seen }
     {

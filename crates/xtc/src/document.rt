@@ -197,7 +197,8 @@ fn put<B: SessionBase, J: Disk>(
 ) -> Result<Vec<u8>, Status>
     requires takes { TakesNext core.old journal.old }
     requires valid { IsValid (plain element) }
-    ensures done { (s : State StoreCall) → Stands store_meaning B.contents core.old s → (read : List ℕ) → element_in read ≡ Ok element → length read ≤ whole_limit
+    ensures done { (s : State StoreCall) → Stands store_meaning B.contents core.old s → (read : List ℕ) → element_in read ≡ Ok element
+        → length read ≤ whole_limit
         → DocumentDone J.is_known s (put_command name.now) read journal.old.history journal.new.history (λ text. text.items) result }
     ensures stops { IfErr result IsStop }
     ensures base { B.stays core.old.base core.new.base }

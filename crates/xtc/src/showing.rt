@@ -128,7 +128,8 @@ fn show_document<S: NodeRead>(
     number: u32,
 ) -> Result<Vec<u8>, Status>
     requires lawful { IsLawful question.now }
-    ensures done { (is_known : Bool) (journal : History) (c : Command) (t : Tree) → StandsFor (S.contents seq.old) t → Shows c (start t number tx_limit) name.now question.now
+    ensures done { (is_known : Bool) (journal : History) (c : Command) (t : Tree) → StandsFor (S.contents seq.old) t
+        → Shows c (start t number tx_limit) name.now question.now
         → DocumentDone is_known (start t number tx_limit) c [] journal journal (λ text. text.items) result }
     ensures stops { IfErr result IsStop }
     ensures unchanged { S.unchanged seq.old seq.new }

@@ -87,7 +87,8 @@ pub fn xtc<
           new = pair_of (J.history result.journal) (P.history result.pages);
         })) }
     // The most that is read of the input, by the status, and when nothing is written.
-    ensures input { TookInput (command_of words.now.items) (may_lose (command_of words.now.items) (every_of (checkpoint_of words.now.items)) P.is_known) result.status
+    ensures input { TookInput (command_of words.now.items)
+        (may_lose (command_of words.now.items) (every_of (checkpoint_of words.now.items)) P.is_known) result.status
         (S.left source.old) (S.left source.new) (S.given source.old) (S.given source.new) }
     ensures silent { IsSilent (command_of words.now.items) (may_lose (command_of words.now.items) (every_of (checkpoint_of words.now.items)) P.is_known)
         result.status (K.held sink.new ≡ K.held sink.old) }
