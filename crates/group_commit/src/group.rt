@@ -26,7 +26,7 @@ use turn_lock::{NoTurn, TurnLock};
 use tx_core::Core;
 
 // How often a thread looks for the journal's turn before it sleeps: it is held while a disk syncs, which takes longer than a sleep.
-const JOURNAL_LOOKS: u32 = 191_919;
+const JOURNAL_LOOKS: u32 = 2;
 
 /// There was no memory for a group commit. All comes back.
 #[derive(Drop)]

@@ -3,7 +3,7 @@
 //! What a session may do, and its ordinals, are read off the book, whatever is known of the base. The book has room for the end of each transaction, so that commits and aborts take no memory.
 //! An attempt is answered, waits, is a deadlock, or is given up. A retry of a call that waits keeps its place in the queue where it waits again, and is an entry only where it holds more or waits for something else.
 //! `asking` asks the lock table for a call's requests in turn, up to the first that is barred, but not for what the way before it was granted, and looks at what a call asks for and answers on what a transaction sees.
-//! `ends` begins and aborts, `attempts` attempts a call, `retries` tries one that waits again, `commits` prepares and makes commits, `copying` copies what is committed: the parts stand for the machine's state before and after.
+//! `ends` begins and aborts, `attempts` attempts a call, `retries` tries one that waits again; what becomes of one that is barred stands in `waits` and `later_waits`, and of one that is given up in `failures` and `later_failures`; `commits` prepares and makes commits, `copying` copies what is committed: the parts stand for the machine's state before and after.
 #![tactic(auto)]
 
 mod asking;
@@ -14,6 +14,9 @@ mod crossing;
 mod ends;
 mod engine;
 mod errors;
+mod failures;
+mod later_failures;
+mod later_waits;
 pub mod laws;
 mod modes;
 mod parts;
@@ -21,6 +24,7 @@ mod passed;
 mod places;
 mod retries;
 mod undrained;
+mod waits;
 
 pub use commits::Prepared;
 pub use crossing::crosses;

@@ -13,7 +13,7 @@ use Rattle.tx_core.specs.declared.parts.Parts.{Parts}
 use Rattle.tx_core.specs.inside.Retrying.{retry_entry}
 use Rattle.tx_core.specs.inside.Standing.{Stands, seat_in, ordinal_in}
 use Rattle.tx_core.proofs.Moves.{stands_ended}
-use Rattle.tx_core.proofs.retries.end_again.Goals as goal
+use Rattle.tx_core.proofs.later_waits.end_again.Goals as goal
 
 pub returns-clause-ok : goal.returns-clause-ok
 returns-clause-ok g c =

@@ -11,8 +11,8 @@ use Rattle.lock_resources.specs.declared.request.Request.{Request}
 use Rattle.wait_graph.specs.Graphs.{ClosesNone, waits}
 use Rattle.tx_core.specs.inside.Retrying.{retry_entry, waits_for_it}
 use Rattle.tx_core.proofs.WaitedAgain.{put_waiting_again, or_not, or_more}
-use Rattle.tx_core.proofs.retries.wait_on.Goals.{else-not-more-via-then-not-more+else-waits_for, else-not-more-via-else-not-more}
-use Rattle.tx_core.proofs.retries.wait_on.Goals as goal
+use Rattle.tx_core.proofs.later_waits.wait_on.Goals.{else-not-more-via-then-not-more+else-waits_for, else-not-more-via-else-not-more}
+use Rattle.tx_core.proofs.later_waits.wait_on.Goals as goal
 
 pub wait-requires-clause-no_cycle : goal.wait-requires-clause-no_cycle
 wait-requires-clause-no_cycle g c =

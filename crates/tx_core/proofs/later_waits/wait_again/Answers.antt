@@ -11,7 +11,7 @@ use Rattle.wait_graph.specs.Graphs.{IsClosedCycle}
 use Rattle.tx_core.proofs.WaitedAgain.{closed_after_again, waits_after_again}
 use Rattle.tx_core.proofs.Told.{queued_seated, queued_room, seated_on}
 use Rattle.tx_core.proofs.ToldAgain.{on_err, waits_still}
-use Rattle.tx_core.proofs.retries.wait_again.Goals as goal
+use Rattle.tx_core.proofs.later_waits.wait_again.Goals as goal
 
 pub end_again-requires-clause-closes : goal.end_again-requires-clause-closes
 end_again-requires-clause-closes g c = λ st t call stands found. c.in_ok-closed.ensures.cycle st t call stands found ∙ c.in-Some.is

@@ -3,7 +3,7 @@ use Rattle.lock_resources.specs.declared.request.Request.{Request}
 use Rattle.wait_graph.specs.Graphs.{ClosesNone}
 use Rattle.tx_core.specs.inside.Goes.{shown_wait}
 use Rattle.tx_core.proofs.Waited.{is_put}
-use Rattle.tx_core.proofs.attempts.wait_for.Goals as goal
+use Rattle.tx_core.proofs.waits.wait_for.Goals as goal
 
 pub set_waiting-requires-clause-no_cycle : goal.set_waiting-requires-clause-no_cycle
 set_waiting-requires-clause-no_cycle g c =

@@ -1,6 +1,6 @@
 use Rattle.std.proofs.lemmas.Result.{IfOk-weaker}
 use Rattle.tx_core.proofs.Waited.{cycle_is}
-use Rattle.tx_core.proofs.attempts.cycle_of.Goals as goal
+use Rattle.tx_core.proofs.waits.cycle_of.Goals as goal
 
 pub returns-clause-cycle : goal.returns-clause-cycle
 returns-clause-cycle g c =

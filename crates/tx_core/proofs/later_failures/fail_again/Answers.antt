@@ -6,7 +6,7 @@ use Rattle.tx_core.specs.Cores.{count_told}
 use Rattle.tx_core.specs.inside.Goes.{unqueued}
 use Rattle.tx_core.specs.inside.Retrying.{at_rest, failed_retry}
 use Rattle.tx_core.proofs.Reached.{stands_same}
-use Rattle.tx_core.proofs.retries.fail_again.Goals as goal
+use Rattle.tx_core.proofs.later_failures.fail_again.Goals as goal
 
 pub returns-clause-failed : goal.returns-clause-failed
 returns-clause-failed g c =

@@ -2,7 +2,7 @@ use Rattle.std.proofs.Common.{refl, ap, length, arith, ◌+◌, ◌≤◌, vec_c
 use Rattle.tx_core.specs.inside.Goes.{fail_entry}
 use Rattle.tx_core.proofs.Booked.{longer, length_without}
 use Rattle.tx_core.proofs.Told.{seated_fails}
-use Rattle.tx_core.proofs.attempts.fail.Goals as goal
+use Rattle.tx_core.proofs.failures.fail.Goals as goal
 
 pub returns-clause-seated : goal.returns-clause-seated
 returns-clause-seated g c =

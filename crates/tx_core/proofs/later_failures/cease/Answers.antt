@@ -7,7 +7,7 @@ use Rattle.tx_core.specs.declared.parts.Seat.{Seat}
 use Rattle.tx_core.proofs.Reached.{taken_again}
 use Rattle.tx_core.proofs.Told.{wait_put}
 use Rattle.tx_core.proofs.Rested.{put_at_rest}
-use Rattle.tx_core.proofs.retries.cease.Goals as goal
+use Rattle.tx_core.proofs.later_failures.cease.Goals as goal
 
 pub returns-clause-state : goal.returns-clause-state
 returns-clause-state g c =

@@ -8,7 +8,7 @@ use Rattle.tx_core.proofs.Told.{queued_seated, queued_room, seated_on}
 use Rattle.std.proofs.lemmas.Result.{on_err_weaker, IfOk-weaker}
 use Rattle.wait_graph.specs.Graphs.{IsClosedCycle}
 use Rattle.tx_core.proofs.Waited.{put_after, closed_after, stays_on}
-use Rattle.tx_core.proofs.attempts.wait.Goals as goal
+use Rattle.tx_core.proofs.waits.wait.Goals as goal
 
 pub end_by_cycle-requires-clause-closes : goal.end_by_cycle-requires-clause-closes
 end_by_cycle-requires-clause-closes g c = λ st t stands found. c.in-Ok.ensures.cycle st t c.args.call stands found ∙ c.in-Some.is

@@ -7,7 +7,7 @@ use Rattle.std.specs.BTreeMap as tree
 use Rattle.tx_core.specs.inside.Standing.{seat_in}
 use Rattle.tx_core.proofs.Moves.{stands_ended}
 use Rattle.tx_core.proofs.Told.{seated_closes, wait_out, live_one}
-use Rattle.tx_core.proofs.attempts.end_by_cycle.Goals as goal
+use Rattle.tx_core.proofs.waits.end_by_cycle.Goals as goal
 
 pub returns-clause-ok : goal.returns-clause-ok
 returns-clause-ok g c =

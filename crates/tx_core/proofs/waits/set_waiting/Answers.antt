@@ -9,7 +9,7 @@ use Rattle.tx_core.specs.inside.Goes.{call_entry}
 use Rattle.tx_core.proofs.Booked.{longer}
 use Rattle.tx_core.proofs.Told.{seated_waits, wait_put}
 use Rattle.tx_core.proofs.Reached.{put_waiting, taken_again}
-use Rattle.tx_core.proofs.attempts.set_waiting.Goals as goal
+use Rattle.tx_core.proofs.waits.set_waiting.Goals as goal
 
 pub returns-clause-state : goal.returns-clause-state
 returns-clause-state g c =
