@@ -1,4 +1,5 @@
 mod IntentionRows
 pub mod Laws
+pub mod Same
 pub mod Texts
 pub mod Ways

@@ -2,11 +2,13 @@
 ghost use Rattle.std.specs.Prelude.{◌≡◌, ◌++◌, IfOk, OnOk, OnErr};
 ghost use Rattle.lock_resources.specs.Resources.{label_of};
 ghost use Rattle.lock_resources.specs.ResourceText.{side_word, resource_text};
+ghost use Rattle.lock_resources.specs.Hashed.{side_number};
 ghost use Rattle.dewey_labels.specs.Labels.{IsLabel};
 ghost use Rattle.dewey_labels.specs.LabelText.{label_text};
 
 use dewey_labels::{Copied, Label, List, NoMemory, Text};
 use std::alloc::Global;
+use std::hash::{Hash, Hasher};
 
 /// Which edge of a node: what stands first or last below it, or next to it.
 #[derive(Debug, Drop, Clone, Copy, PartialEq, Eq, PartialOrd, Ord)]
@@ -84,6 +86,18 @@ impl Resource {
 }
 
 impl Side {
+    /// The number of an edge's kind among those of resources.
+    fn number(self) -> u8
+        ensures { result ≡ side_number self }
+    {
+        match self {
+            Side::First => 3,
+            Side::Last => 4,
+            Side::Next => 5,
+            Side::Prev => 6,
+        }
+    }
+
     /// The word that begins an edge's text, and a space.
     fn word(self) -> &'static str
         ensures { result.now ≡ side_word self }
@@ -108,6 +122,39 @@ fn joined(alloc: Global, word: &str, label: &Label, end: &str) -> Result<List<u8
     label.write_text(alloc, &mut text)?;
     text.extend_from_slice(alloc, end.as_bytes())?;
     Ok(text)
+}
+
+/// The kind of resource, and then what names it. Equal resources are hashed alike.
+impl Hash for Resource {
+    ghost use Rattle.lock_resources.specs.Hashed.{fed_resource};
+    ghost use Rattle.std.specs.Cmp.Rules.{hashing};
+    ghost use Rattle.std.proofs.Common.{rules};
+
+    ghost hash_input = { fed_resource };
+
+    ghost respects_eq = { Prim.search (hashing, rules) };
+
+    fn hash<H: Hasher>(&self, state: &mut H) {
+        match self {
+            Resource::Node(label) => {
+                state.write_u8(0);
+                label.divisions().hash(state);
+            }
+            Resource::AttrRoot(label) => {
+                state.write_u8(1);
+                label.divisions().hash(state);
+            }
+            Resource::Attr(label, name) => {
+                state.write_u8(2);
+                label.divisions().hash(state);
+                name.as_str().hash(state);
+            }
+            Resource::Edge(label, side) => {
+                state.write_u8(side.number());
+                label.divisions().hash(state);
+            }
+        }
+    }
 }
 
 impl Copied for Resource {
