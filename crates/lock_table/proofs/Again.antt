@@ -1,21 +1,19 @@
 -- What an owner asks again for, and what a table says of owners' modes.
 use Rattle.std.proofs.Common.{◌≡◌, ℕ, Bool, true, false, cond, not, ◌&&◌, [], Some, ◌==◌, refl, sym, ap, ap₂, ◌∙◌, arith}
 use Rattle.std.proofs.lemmas.Bool.Decides.{nat_tests}
-use Rattle.std.specs.BTreeMap.{BTreeMap}
 use Rattle.std.specs.List.Sorted.{IsStrictlySortedBy}
-use Rattle.lock_modes.specs.declared.ask.Ask.{Ask}
 use Rattle.lock_resources.specs.declared.resource.Resource.{Resource}
 use Rattle.lock_resources.specs.declared.request.Request.{Request}
 use Rattle.lock_table.specs.Asks.{join_with, is_barred_by, is_barred, Covers}
 use Rattle.lock_table.specs.Resources.{same_resource}
 use Rattle.lock_table.specs.Tables.{Table, held, AreHolders, IsGranted}
-use Rattle.lock_table.specs.inside.Rows.{table_of, AreTogether}
+use Rattle.lock_table.specs.inside.Rows.{RowMap, table_of, AreTogether}
 use Rattle.lock_table.proofs.Maps.{exact_resources}
 use Rattle.lock_table.proofs.Shown.{shown_as}
 use Rattle.lock_table.proofs.Together.{covered_free}
 
 -- owners of a table hold what goes together
-pub together_held : (rows : BTreeMap Resource (BTreeMap ℕ Ask)) (t : Table) → table_of rows ≡ t → AreTogether rows
+pub together_held : (rows : RowMap) (t : Table) → table_of rows ≡ t → AreTogether rows
     → (o p : ℕ) (r : Resource) → (p == o) ≡ false → is_barred (held t o r) (held t p r) ≡ false
 together_held rows t is all o p r apart = ap₂ is_barred (shown_as rows t is o r) (shown_as rows t is p r) ∙ all o p r apart
 

@@ -7,7 +7,7 @@ use Rattle.lock_modes.specs.declared.ask.Ask.{Ask}
 use Rattle.lock_resources.specs.declared.resource.Resource.{Resource}
 use Rattle.lock_table.specs.Asks.{join_asks, join_with, are_compatible, is_barred_by, Covers}
 use Rattle.lock_table.specs.Resources.{same_resource}
-use Rattle.lock_table.specs.inside.Rows.{held_in}
+use Rattle.lock_table.specs.inside.Rows.{RowMap, held_in}
 use Rattle.lock_table.specs.inside.GroupModes.{group_at, AreGroupModes, IsAbove, IsUnder, LetsIn}
 use Rattle.lock_table.proofs.Maps.{exact_resources}
 use Rattle.lock_table.proofs.Together.{compatible_joined, compatible_turned, barred_joined}
@@ -63,7 +63,7 @@ covered_under t a covers x e =
 
 -- ---- what keeps them
 
-pub groups_put : (groups new : BTreeMap Resource Ask) (rows : BTreeMap Resource (BTreeMap ℕ Ask)) (k : Resource) (t : Ask) → AreGroupModes groups rows
+pub groups_put : (groups new : BTreeMap Resource Ask) (rows : RowMap) (k : Resource) (t : Ask) → AreGroupModes groups rows
     → ((o : ℕ) → IsAbove t (held_in rows o k)) → ((r : Resource) → group_at new r ≡ cond (same_resource k r) (Some t) (group_at groups r)) → AreGroupModes new rows
 groups_put groups new rows k t all one is r u at = go (same_resource k r) refl
   where
@@ -71,10 +71,10 @@ groups_put groups new rows k t all one is r u at = go (same_resource k r) refl
     go true e o = subst (λ x. IsAbove x (held_in rows o r)) (inside (sym (ap (λ b. cond b (Some t) (group_at groups r)) e) ∙ sym (is r) ∙ at)) (subst (λ q. IsAbove t (held_in rows o q)) (exact_resources k r e) (one o))
     go false e o = all r u (sym (ap (λ b. cond b (Some t) (group_at groups r)) e) ∙ sym (is r) ∙ at) o
 
-pub groups_same : (groups new : BTreeMap Resource Ask) (rows : BTreeMap Resource (BTreeMap ℕ Ask)) → AreGroupModes groups rows → ((r : Resource) → group_at new r ≡ group_at groups r) → AreGroupModes new rows
+pub groups_same : (groups new : BTreeMap Resource Ask) (rows : RowMap) → AreGroupModes groups rows → ((r : Resource) → group_at new r ≡ group_at groups r) → AreGroupModes new rows
 groups_same groups new rows all is r u at = all r u (sym (is r) ∙ at)
 
-pub groups_dropped : (groups new : BTreeMap Resource Ask) (rows : BTreeMap Resource (BTreeMap ℕ Ask)) (k : Resource) → AreGroupModes groups rows
+pub groups_dropped : (groups new : BTreeMap Resource Ask) (rows : RowMap) (k : Resource) → AreGroupModes groups rows
     → ((r : Resource) → group_at new r ≡ cond (same_resource k r) None (group_at groups r)) → AreGroupModes new rows
 groups_dropped groups new rows k all is r u at = go (same_resource k r) refl
   where
@@ -83,11 +83,11 @@ groups_dropped groups new rows k all is r u at = go (same_resource k r) refl
     go false e = all r u (sym (ap (λ b. cond b None (group_at groups r)) e) ∙ sym (is r) ∙ at)
 
 -- rows in which the same is held
-pub groups_of_same : (groups : BTreeMap Resource Ask) (rows new : BTreeMap Resource (BTreeMap ℕ Ask)) → AreGroupModes groups rows → ((o : ℕ) (r : Resource) → held_in new o r ≡ held_in rows o r) → AreGroupModes groups new
+pub groups_of_same : (groups : BTreeMap Resource Ask) (rows new : RowMap) → AreGroupModes groups rows → ((o : ℕ) (r : Resource) → held_in new o r ≡ held_in rows o r) → AreGroupModes groups new
 groups_of_same groups rows new all is r t at o = subst (IsAbove t) (sym (is o r)) (all r t at o)
 
 -- rows in which some is held no more
-pub groups_of_out : (groups : BTreeMap Resource Ask) (rows new : BTreeMap Resource (BTreeMap ℕ Ask)) (is_out : ℕ → Resource → Bool) → AreGroupModes groups rows
+pub groups_of_out : (groups : BTreeMap Resource Ask) (rows new : RowMap) (is_out : ℕ → Resource → Bool) → AreGroupModes groups rows
     → ((o : ℕ) (r : Resource) → held_in new o r ≡ cond (is_out o r) None (held_in rows o r)) → AreGroupModes groups new
 groups_of_out groups rows new is_out all is r t at o = subst (IsAbove t) (sym (is o r)) (go (is_out o r))
   where
@@ -96,7 +96,7 @@ groups_of_out groups rows new is_out all is r t at o = subst (IsAbove t) (sym (i
     go false = all r t at o
 
 -- rows after a grant of a mode that the group mode, where there is one, stays above
-pub groups_of_grant : (groups : BTreeMap Resource Ask) (rows new : BTreeMap Resource (BTreeMap ℕ Ask)) (owner : ℕ) (k : Resource) (a : Ask) (h : Option Ask)
+pub groups_of_grant : (groups : BTreeMap Resource Ask) (rows new : RowMap) (owner : ℕ) (k : Resource) (a : Ask) (h : Option Ask)
     → AreGroupModes groups rows → IsUnder (group_at groups k) a → h ≡ held_in rows owner k
     → ((o : ℕ) (r : Resource) → held_in new o r ≡ cond ((owner == o) && same_resource k r) (Some (join_with a h)) (held_in rows o r)) → AreGroupModes groups new
 groups_of_grant groups rows new owner k a h all under before is r t at o = subst (IsAbove t) (sym (is o r)) (go ((owner == o) && same_resource k r) refl)
@@ -112,7 +112,7 @@ groups_of_grant groups rows new owner k a h all under before is r t at o = subst
     go false e = all r t at o
 
 -- nobody bars a mode that is let in
-pub let_in_free : (groups : BTreeMap Resource Ask) (rows : BTreeMap Resource (BTreeMap ℕ Ask)) (k : Resource) (a : Ask) → AreGroupModes groups rows
+pub let_in_free : (groups : BTreeMap Resource Ask) (rows : RowMap) (k : Resource) (a : Ask) → AreGroupModes groups rows
     → LetsIn (group_at groups k) a → (o : ℕ) → is_barred_by a (held_in rows o k) ≡ false
 let_in_free groups rows k a all lets o = go (group_at groups k) refl lets
   where

@@ -11,7 +11,7 @@ use Rattle.lock_resources.specs.declared.resource.Resource.{Resource}
 use Rattle.std.proofs.lemmas.Bool.Decides.{nat_tests}
 use Rattle.std.specs.BTreeMap.{BTreeMap}
 use Rattle.lock_modes.specs.declared.ask.Ask.{Ask}
-use Rattle.lock_table.specs.inside.Rows.{is_listed, held_in, owned_by, AreListed}
+use Rattle.lock_table.specs.inside.Rows.{RowMap, is_listed, held_in, owned_by, AreListed}
 use Rattle.lock_table.specs.Resources.{same_resource}
 use Rattle.lock_table.proofs.Maps.{exact_resources}
 
@@ -67,7 +67,7 @@ and_both true b e = (refl, e)
 and_both false b e = grind (arith, e)
 
 -- what is held is still listed after the owner got this
-pub listed_put : (rows new : BTreeMap Resource (BTreeMap ℕ Ask)) (owned more : BTreeMap ℕ (List Resource)) (owner : ℕ) (k : Resource) (a : Ask)
+pub listed_put : (rows new : RowMap) (owned more : BTreeMap ℕ (List Resource)) (owner : ℕ) (k : Resource) (a : Ask)
     → AreListed rows owned
     → ((o : ℕ) (r : Resource) → is_listed r (owned_by owned o) ≡ true → is_listed r (owned_by more o) ≡ true)
     → is_listed k (owned_by more owner) ≡ true
@@ -79,7 +79,7 @@ listed_put rows new owned more owner k a all grows noted is o r some = go ((owne
     go true e = subst (λ p. is_listed r (owned_by more p) ≡ true) (is_self owner o (and_both _ _ e).0) (subst (λ q. is_listed q (owned_by more owner) ≡ true) (exact_resources k r (and_both _ _ e).1) noted)
     go false e = grows o r (all o r (subst IsSome (is o r ∙ ap (λ b. cond b (Some a) (held_in rows o r)) e) some))
 
-pub listed_same : (rows new : BTreeMap Resource (BTreeMap ℕ Ask)) (owned more : BTreeMap ℕ (List Resource))
+pub listed_same : (rows new : RowMap) (owned more : BTreeMap ℕ (List Resource))
     → AreListed rows owned
     → ((o : ℕ) (r : Resource) → is_listed r (owned_by owned o) ≡ true → is_listed r (owned_by more o) ≡ true)
     → ((o : ℕ) (r : Resource) → held_in new o r ≡ held_in rows o r)
@@ -87,7 +87,7 @@ pub listed_same : (rows new : BTreeMap Resource (BTreeMap ℕ Ask)) (owned more 
 listed_same rows new owned more all grows is o r some = grows o r (all o r (subst IsSome (is o r) some))
 
 -- taking an owner out of all that is listed for it leaves it nothing
-pub all_out : (rows new : BTreeMap Resource (BTreeMap ℕ Ask)) (owned : BTreeMap ℕ (List Resource)) (owner : ℕ) (rs : List Resource)
+pub all_out : (rows new : RowMap) (owned : BTreeMap ℕ (List Resource)) (owner : ℕ) (rs : List Resource)
     → AreListed rows owned → rs ≡ owned_by owned owner
     → ((o : ℕ) (r : Resource) → held_in new o r ≡ cond ((owner == o) && is_listed r rs) None (held_in rows o r))
     → (o : ℕ) (r : Resource) → held_in new o r ≡ cond (owner == o) None (held_in rows o r)
@@ -101,7 +101,7 @@ all_out rows new owned owner rs all same is o r = go (owner == o) refl (held_in 
         absurd (sym g ∙ ap (is_listed r) same ∙ subst (λ p. is_listed r (owned_by owned p) ≡ true) (sym (is_self owner o e)) (all o r (subst IsSome (sym f) refl)))
 
 -- one more resource of a list
-pub one_more : (rows now new : BTreeMap Resource (BTreeMap ℕ Ask)) (owner : ℕ) (rs : List Resource) (k : Resource)
+pub one_more : (rows now new : RowMap) (owner : ℕ) (rs : List Resource) (k : Resource)
     → ((o : ℕ) (r : Resource) → held_in now o r ≡ cond ((owner == o) && is_listed r rs) None (held_in rows o r))
     → ((o : ℕ) (r : Resource) → held_in new o r ≡ cond ((owner == o) && same_resource k r) None (held_in now o r))
     → (o : ℕ) (r : Resource) → held_in new o r ≡ cond ((owner == o) && is_listed r (rs ++ k ∷ [])) None (held_in rows o r)

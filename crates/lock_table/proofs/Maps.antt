@@ -1,36 +1,14 @@
 -- Maps of maps, and the order of resources.
-use Rattle.std.proofs.Common.{◌≡◌, ℕ, Bool, true, false, cond, ◌&&◌, Option, Some, None, ◌==◌, refl, sym, ap, subst, ◌∙◌, arith}
-use Rattle.std.specs.declared.cmp.Ordering.{Ordering}
-use Rattle.std.specs.declared.cmp.Ordering.TheVariants.{Equal, Less, Greater}
-use Rattle.std.specs.Ordering.{nat_cmp, is_eq, ordering_then}
-use Rattle.std.specs.Cmp.Lexicographic.{slice_cmp}
+use Rattle.std.proofs.Common.{◌≡◌, ℕ, Bool, true, false, cond, ◌&&◌, Option, Some, None, ◌==◌, refl, sym, ap, subst, ◌∙◌}
+use Rattle.std.specs.Ordering.{nat_cmp}
 use Rattle.std.specs.BTreeMap.{BTreeMap}
 use Rattle.std.specs.BTreeMap as tree
-use Rattle.std.proofs.lemmas.Map.Lookups.{exact_bytes}
 use Rattle.lock_modes.specs.declared.ask.Ask.{Ask}
 use Rattle.lock_resources.specs.declared.resource.Resource.{Resource}
-use Rattle.lock_resources.specs.declared.resource.Resource.TheVariants.{Node, AttrRoot, Attr, Edge}
-use Rattle.lock_resources.specs.declared.resource.Side.TheVariants.{First, Last, Next, Prev}
-use Rattle.lock_table.specs.inside.Rows.{in_row, held_in}
-use Rattle.lock_table.specs.Resources.{resource_cmp, same_resource}
-
-pub equal_from : (o : Ordering) → is_eq o ≡ true → o ≡ Equal
-equal_from Less e = grind (arith, e)
-equal_from Equal e = refl
-equal_from Greater e = grind (arith, e)
-
-then_left : (a b : Ordering) → is_eq (ordering_then a b) ≡ true → is_eq a ≡ true
-then_left Less b e = e
-then_left Equal b e = refl
-then_left Greater b e = e
-
-then_right : (a b : Ordering) → is_eq (ordering_then a b) ≡ true → is_eq b ≡ true
-then_right Less b e = grind (arith, e)
-then_right Equal b e = e
-then_right Greater b e = grind (arith, e)
-
-apart : {A : Type 0} → false ≡ true → A
-apart e = grind (arith, e)
+use Rattle.lock_resources.proofs.Same.{equal_tied}
+use Rattle.lock_resources.proofs.Same as same
+use Rattle.lock_table.specs.inside.Rows.{RowMap, resource_eq, row_at, in_row, held_in}
+use Rattle.lock_table.specs.Resources.{same_resource}
 
 and_true : (b : Bool) → (b && true) ≡ b
 and_true true = refl
@@ -41,77 +19,57 @@ and_false true = refl
 and_false false = refl
 
 pub exact_resources : (r q : Resource) → same_resource r q ≡ true → r ≡ q
-exact_resources (Node l) (Node m) e = ap Node (exact_bytes l m (equal_from _ e))
-exact_resources (Node l) (AttrRoot m) e = grind (arith, e)
-exact_resources (Node l) (Attr m n) e = grind (arith, e)
-exact_resources (Node l) (Edge m s) e = grind (arith, e)
-exact_resources (AttrRoot l) (Node m) e = grind (arith, e)
-exact_resources (AttrRoot l) (AttrRoot m) e = ap AttrRoot (exact_bytes l m (equal_from _ e))
-exact_resources (AttrRoot l) (Attr m n) e = grind (arith, e)
-exact_resources (AttrRoot l) (Edge m s) e = grind (arith, e)
-exact_resources (Attr l k) (Node m) e = grind (arith, e)
-exact_resources (Attr l k) (AttrRoot m) e = grind (arith, e)
-exact_resources (Attr l k) (Attr m n) e = ap (λ x. Attr x k) (exact_bytes l m (equal_from _ (then_left _ _ e))) ∙ ap (Attr m) (exact_bytes k n (equal_from _ (then_right _ _ e)))
-exact_resources (Attr l k) (Edge m s) e = grind (arith, e)
-exact_resources (Edge l s) (Node m) e = grind (arith, e)
-exact_resources (Edge l s) (AttrRoot m) e = grind (arith, e)
-exact_resources (Edge l s) (Attr m n) e = grind (arith, e)
-exact_resources (Edge l First) (Edge m First) e = ap (λ x. Edge x First) (exact_bytes l m (equal_from _ (then_left _ _ e)))
-exact_resources (Edge l First) (Edge m Last) e = apart (then_right (slice_cmp nat_cmp l m) Less e)
-exact_resources (Edge l First) (Edge m Next) e = apart (then_right (slice_cmp nat_cmp l m) Less e)
-exact_resources (Edge l First) (Edge m Prev) e = apart (then_right (slice_cmp nat_cmp l m) Less e)
-exact_resources (Edge l Last) (Edge m First) e = apart (then_right (slice_cmp nat_cmp l m) Greater e)
-exact_resources (Edge l Last) (Edge m Last) e = ap (λ x. Edge x Last) (exact_bytes l m (equal_from _ (then_left _ _ e)))
-exact_resources (Edge l Last) (Edge m Next) e = apart (then_right (slice_cmp nat_cmp l m) Less e)
-exact_resources (Edge l Last) (Edge m Prev) e = apart (then_right (slice_cmp nat_cmp l m) Less e)
-exact_resources (Edge l Next) (Edge m First) e = apart (then_right (slice_cmp nat_cmp l m) Greater e)
-exact_resources (Edge l Next) (Edge m Last) e = apart (then_right (slice_cmp nat_cmp l m) Greater e)
-exact_resources (Edge l Next) (Edge m Next) e = ap (λ x. Edge x Next) (exact_bytes l m (equal_from _ (then_left _ _ e)))
-exact_resources (Edge l Next) (Edge m Prev) e = apart (then_right (slice_cmp nat_cmp l m) Less e)
-exact_resources (Edge l Prev) (Edge m First) e = apart (then_right (slice_cmp nat_cmp l m) Greater e)
-exact_resources (Edge l Prev) (Edge m Last) e = apart (then_right (slice_cmp nat_cmp l m) Greater e)
-exact_resources (Edge l Prev) (Edge m Next) e = apart (then_right (slice_cmp nat_cmp l m) Greater e)
-exact_resources (Edge l Prev) (Edge m Prev) e = ap (λ x. Edge x Prev) (exact_bytes l m (equal_from _ (then_left _ _ e)))
+exact_resources r q e = same.exact_resources r q e
+
+-- what `==` finds equal is the same resource
+pub equal_same : (r q : Resource) → resource_eq r q ≡ same_resource r q
+equal_same r q = equal_tied r q
+
+-- one row is another one, or none
+pub by_same : (rows new : RowMap) (k : Resource) (w : Option (BTreeMap ℕ Ask))
+    → ((q : Resource) → row_at new q ≡ cond (resource_eq k q) w (row_at rows q))
+    → (q : Resource) → row_at new q ≡ cond (same_resource k q) w (row_at rows q)
+by_same rows new k w is q = is q ∙ ap (λ b. cond b w (row_at rows q)) (equal_same k q)
 
 -- what is written at one owner of one row
-pub changed : (rows new : BTreeMap Resource (BTreeMap ℕ Ask)) (k : Resource) (o : ℕ) (row : BTreeMap ℕ Ask) (w : Option Ask)
-    → ((q : Resource) → tree.get resource_cmp new q ≡ cond (is_eq (resource_cmp k q)) (Some row) (tree.get resource_cmp rows q))
+pub changed : (rows new : RowMap) (k : Resource) (o : ℕ) (row : BTreeMap ℕ Ask) (w : Option Ask)
+    → ((q : Resource) → row_at new q ≡ cond (same_resource k q) (Some row) (row_at rows q))
     → ((p : ℕ) → tree.get nat_cmp row p ≡ cond (o == p) w (held_in rows p k))
     → (p : ℕ) (q : Resource) → held_in new p q ≡ cond ((o == p) && same_resource k q) w (held_in rows p q)
 changed rows new k o row w outer inner p q = go (same_resource k q) refl
   where
     here : same_resource k k ≡ true → held_in new p k ≡ cond ((o == p) && same_resource k k) w (held_in rows p k)
-    here e = ap (λ r. in_row r p) (outer k ∙ ap (λ b. cond b (Some row) (tree.get resource_cmp rows k)) e) ∙ inner p ∙ sym (ap (λ b. cond ((o == p) && b) w (held_in rows p k)) e ∙ ap (λ b. cond b w (held_in rows p k)) (and_true (o == p)))
+    here e = ap (λ r. in_row r p) (outer k ∙ ap (λ b. cond b (Some row) (row_at rows k)) e) ∙ inner p ∙ sym (ap (λ b. cond ((o == p) && b) w (held_in rows p k)) e ∙ ap (λ b. cond b w (held_in rows p k)) (and_true (o == p)))
 
     go : (b : Bool) → same_resource k q ≡ b → held_in new p q ≡ cond ((o == p) && same_resource k q) w (held_in rows p q)
     go true e = subst (λ x. held_in new p x ≡ cond ((o == p) && same_resource k x) w (held_in rows p x)) (exact_resources k q e) (here (subst (λ x. same_resource k x ≡ true) (sym (exact_resources k q e)) e))
-    go false e = ap (λ r. in_row r p) (outer q ∙ ap (λ b. cond b (Some row) (tree.get resource_cmp rows q)) e) ∙ sym (ap (λ b. cond ((o == p) && b) w (held_in rows p q)) e ∙ ap (λ b. cond b w (held_in rows p q)) (and_false (o == p)))
+    go false e = ap (λ r. in_row r p) (outer q ∙ ap (λ b. cond b (Some row) (row_at rows q)) e) ∙ sym (ap (λ b. cond ((o == p) && b) w (held_in rows p q)) e ∙ ap (λ b. cond b w (held_in rows p q)) (and_false (o == p)))
 
 -- a row that has what was there is written back
-pub unchanged : (rows new : BTreeMap Resource (BTreeMap ℕ Ask)) (k : Resource) (row : BTreeMap ℕ Ask)
-    → ((q : Resource) → tree.get resource_cmp new q ≡ cond (is_eq (resource_cmp k q)) (Some row) (tree.get resource_cmp rows q))
+pub unchanged : (rows new : RowMap) (k : Resource) (row : BTreeMap ℕ Ask)
+    → ((q : Resource) → row_at new q ≡ cond (same_resource k q) (Some row) (row_at rows q))
     → ((p : ℕ) → tree.get nat_cmp row p ≡ held_in rows p k)
     → (p : ℕ) (q : Resource) → held_in new p q ≡ held_in rows p q
 unchanged rows new k row outer inner p q = go (same_resource k q) refl
   where
     go : (b : Bool) → same_resource k q ≡ b → held_in new p q ≡ held_in rows p q
-    go true e = ap (λ r. in_row r p) (outer q ∙ ap (λ b. cond b (Some row) (tree.get resource_cmp rows q)) e) ∙ inner p ∙ ap (held_in rows p) (exact_resources k q e)
-    go false e = ap (λ r. in_row r p) (outer q ∙ ap (λ b. cond b (Some row) (tree.get resource_cmp rows q)) e)
+    go true e = ap (λ r. in_row r p) (outer q ∙ ap (λ b. cond b (Some row) (row_at rows q)) e) ∙ inner p ∙ ap (held_in rows p) (exact_resources k q e)
+    go false e = ap (λ r. in_row r p) (outer q ∙ ap (λ b. cond b (Some row) (row_at rows q)) e)
 
 -- a row without owners is taken out
-pub dropped : (rows new : BTreeMap Resource (BTreeMap ℕ Ask)) (k : Resource)
-    → ((q : Resource) → tree.get resource_cmp new q ≡ cond (is_eq (resource_cmp k q)) None (tree.get resource_cmp rows q))
+pub dropped : (rows new : RowMap) (k : Resource)
+    → ((q : Resource) → row_at new q ≡ cond (same_resource k q) None (row_at rows q))
     → ((p : ℕ) → held_in rows p k ≡ None)
     → (p : ℕ) (q : Resource) → held_in new p q ≡ held_in rows p q
 dropped rows new k outer inner p q = go (same_resource k q) refl
   where
     go : (b : Bool) → same_resource k q ≡ b → held_in new p q ≡ held_in rows p q
-    go true e = ap (λ r. in_row r p) (outer q ∙ ap (λ b. cond b None (tree.get resource_cmp rows q)) e) ∙ sym (inner p) ∙ ap (held_in rows p) (exact_resources k q e)
-    go false e = ap (λ r. in_row r p) (outer q ∙ ap (λ b. cond b None (tree.get resource_cmp rows q)) e)
+    go true e = ap (λ r. in_row r p) (outer q ∙ ap (λ b. cond b None (row_at rows q)) e) ∙ sym (inner p) ∙ ap (held_in rows p) (exact_resources k q e)
+    go false e = ap (λ r. in_row r p) (outer q ∙ ap (λ b. cond b None (row_at rows q)) e)
 
 -- nothing is taken out of a row that isn't there
-pub write_none : (rows new : BTreeMap Resource (BTreeMap ℕ Ask)) (k : Resource) (o : ℕ)
-    → new ≡ rows → tree.get resource_cmp rows k ≡ None
+pub write_none : (rows new : RowMap) (k : Resource) (o : ℕ)
+    → new ≡ rows → row_at rows k ≡ None
     → (p : ℕ) (q : Resource) → held_in new p q ≡ cond ((o == p) && same_resource k q) None (held_in rows p q)
 write_none rows new k o same none p q = go (same_resource k q) refl
   where

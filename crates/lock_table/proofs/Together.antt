@@ -1,7 +1,6 @@
 -- Modes that go together, and a table in which all that owners hold does.
 use Rattle.std.proofs.Common.{◌≡◌, ℕ, Bool, true, false, cond, not, ◌&&◌, ◌||◌, Option, Some, None, ◌==◌, refl, sym, ap, ap₂, ◌∙◌, arith}
 use Rattle.std.proofs.lemmas.Bool.Decides.{nat_tests}
-use Rattle.std.specs.BTreeMap.{BTreeMap}
 use Rattle.lock_modes.specs.declared.ask.Ask.{Ask}
 use Rattle.lock_modes.specs.declared.ask.Ask.TheVariants as ask
 use Rattle.lock_modes.specs.declared.mode.Mode.TheVariants.{SX}
@@ -14,7 +13,7 @@ use Rattle.lock_modes.proofs.Joins.{compatible_join}
 use Rattle.lock_resources.specs.declared.resource.Resource.{Resource}
 use Rattle.lock_table.specs.Asks.{join_asks, are_compatible, join_with, is_barred_by, is_barred, Covers}
 use Rattle.lock_table.specs.Resources.{same_resource}
-use Rattle.lock_table.specs.inside.Rows.{held_in, AreTogether}
+use Rattle.lock_table.specs.inside.Rows.{RowMap, held_in, AreTogether}
 use Rattle.lock_table.proofs.Maps.{exact_resources}
 
 and_turned : (a b : Bool) → (a && b) ≡ (b && a)
@@ -124,7 +123,7 @@ itself : {A : Type 0} (o p : ℕ) → (owner : ℕ) → (owner == o) ≡ true �
 itself o p owner e f g = grind (arith, nat_tests, e, f, g)
 
 -- after a grant to an owner whom nobody bars
-pub together_put : (rows new : BTreeMap Resource (BTreeMap ℕ Ask)) (owner : ℕ) (k : Resource) (a : Ask) (h : Option Ask)
+pub together_put : (rows new : RowMap) (owner : ℕ) (k : Resource) (a : Ask) (h : Option Ask)
     → AreTogether rows → h ≡ held_in rows owner k
     → ((p : ℕ) → (p == owner) ≡ false → is_barred_by a (held_in rows p k) ≡ false)
     → ((o : ℕ) (r : Resource) → held_in new o r ≡ cond ((owner == o) && same_resource k r) (Some (join_with a h)) (held_in rows o r))
@@ -148,11 +147,11 @@ together_put rows new owner k a h all before free is o p r apart = ap₂ is_barr
     go false false e f = all o p r apart
 
 -- where all is held as before
-pub together_same : (rows new : BTreeMap Resource (BTreeMap ℕ Ask)) → AreTogether rows → ((o : ℕ) (r : Resource) → held_in new o r ≡ held_in rows o r) → AreTogether new
+pub together_same : (rows new : RowMap) → AreTogether rows → ((o : ℕ) (r : Resource) → held_in new o r ≡ held_in rows o r) → AreTogether new
 together_same rows new all is o p r apart = ap₂ is_barred (is o r) (is p r) ∙ all o p r apart
 
 -- where an owner holds nothing any more
-pub together_out : (rows new : BTreeMap Resource (BTreeMap ℕ Ask)) (owner : ℕ) → AreTogether rows
+pub together_out : (rows new : RowMap) (owner : ℕ) → AreTogether rows
     → ((o : ℕ) (r : Resource) → held_in new o r ≡ cond (owner == o) None (held_in rows o r)) → AreTogether new
 together_out rows new owner all is o p r apart = ap₂ is_barred (is o r) (is p r) ∙ go (owner == o) (owner == p)
   where

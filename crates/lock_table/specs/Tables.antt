@@ -12,7 +12,7 @@ use Rattle.lock_table.specs.declared.table.Asked.TheVariants.{Granted, Conflict}
 use Rattle.lock_table.specs.Asks.{join_with, is_barred_by}
 use Rattle.lock_table.specs.Resources.{same_resource}
 
--- for each resource the owners with the modes that they hold there, both in their order
+-- for each resource, in any order, the owners with the modes that they hold there, ascending
 abbrev pub Table : Type 0
 Table = List (Resource × List (ℕ × Ask))
 

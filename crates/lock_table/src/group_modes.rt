@@ -7,9 +7,9 @@ ghost use Rattle.std.specs.Ordering.{nat_cmp};
 ghost use Rattle.std.specs.BTreeMap.{get};
 ghost use Rattle.lock_resources.specs.declared.resource.Resource.{Resource};
 ghost use Rattle.lock_table.specs.Asks.{is_barred_by};
-ghost use Rattle.lock_table.specs.Resources.{resource_cmp, same_resource};
-ghost use Rattle.lock_table.specs.inside.Rows.{held_in, in_row};
-ghost use Rattle.lock_table.specs.inside.GroupModes.{RowMap, group_at, AreGroupModes, IsAbove, IsUnder, LetsIn, owners_in, owners_at};
+ghost use Rattle.lock_table.specs.Resources.{same_resource};
+ghost use Rattle.lock_table.specs.inside.Rows.{RowMap, row_at, held_in, in_row};
+ghost use Rattle.lock_table.specs.inside.GroupModes.{group_at, AreGroupModes, IsAbove, IsUnder, LetsIn, owners_in, owners_at};
 
 use crate::asks::{covers, is_barred, join};
 use crate::rows::{Row, Rows, barring_there, drop_row, leave_at};
@@ -94,7 +94,7 @@ fn note_group_mode(
     resource: &Resource,
     ask: Ask,
 ) -> Result<(), NoMemory>
-    ensures groups { (rows : RowMap) → option_copied row.entry ≡ get resource_cmp rows resource.now
+    ensures groups { (rows : RowMap) → option_copied row.entry ≡ row_at rows resource.now
         → AreGroupModes groups.old rows → AreGroupModes groups.new rows }
     ensures under { OnOk result (IsUnder (group_at groups.new resource.now) ask) }
     ensures noted { OnOk result (4 ≤ owners_in (option_copied row.entry) → IsSome (group_at groups.new resource.now)) }

@@ -17,7 +17,7 @@ use dewey_labels::{List, NoMemory};
 use lock_modes::Ask;
 use lock_resources::{Request, Resource};
 use std::alloc::Global;
-use std::collections::BTreeMap;
+use std::collections::{BTreeMap, HashMap};
 use std::marker::Model;
 
 /// What is answered to a request.
@@ -55,7 +55,7 @@ impl LockTable {
         ensures { IfOk result (λ table. (o : ℕ) (r : Resource) → held_by table o r ≡ None) }
     {
         Ok(LockTable {
-            rows: BTreeMap::new(alloc),
+            rows: HashMap::new(alloc),
             owned: BTreeMap::new(alloc),
             groups: BTreeMap::new(alloc),
         })

@@ -6,11 +6,7 @@ use Rattle.lock_modes.specs.declared.ask.Ask.{Ask}
 use Rattle.lock_resources.specs.declared.resource.Resource.{Resource}
 use Rattle.lock_table.specs.Asks.{are_compatible, is_barred_by, Covers}
 use Rattle.lock_table.specs.Resources.{resource_cmp}
-use Rattle.lock_table.specs.inside.Rows.{held_in}
-
--- for each resource the owners there with their modes
-abbrev pub RowMap : Type 0
-RowMap = BTreeMap Resource (BTreeMap ℕ Ask)
+use Rattle.lock_table.specs.inside.Rows.{RowMap, row_at, held_in}
 
 -- what goes with the first mode goes with what is held
 abbrev pub IsAbove : Ask → Option Ask → Type 0
@@ -21,7 +17,7 @@ abbrev pub group_at : BTreeMap Resource Ask → Resource → Option Ask
 group_at groups r = tree.get resource_cmp groups r
 
 -- each is above all that is held at its resource
-abbrev pub AreGroupModes : BTreeMap Resource Ask → BTreeMap Resource (BTreeMap ℕ Ask) → Type 0
+abbrev pub AreGroupModes : BTreeMap Resource Ask → RowMap → Type 0
 AreGroupModes groups rows = (r : Resource) (t : Ask) → group_at groups r ≡ Some t → (o : ℕ) → IsAbove t (held_in rows o r)
 
 -- where there is one, it stays one where this mode is held too
@@ -40,5 +36,5 @@ owners_in None = 0
 owners_in (Some row) = length row.entries
 
 -- how many owners hold something at the resource
-abbrev pub owners_at : BTreeMap Resource (BTreeMap ℕ Ask) → Resource → ℕ
-owners_at rows r = owners_in (tree.get resource_cmp rows r)
+abbrev pub owners_at : RowMap → Resource → ℕ
+owners_at rows r = owners_in (row_at rows r)

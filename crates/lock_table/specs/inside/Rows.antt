@@ -1,13 +1,30 @@
--- A map of maps, read at a resource and an owner, and the list of the resources of each owner.
+-- A map of maps, read at a resource and an owner, and the list of the resources of each owner. The outer one finds a resource by its hash.
 use Rattle.std.specs.Prelude.{◌≡◌, ℕ, Bool, false, ◌||◌, ◌==◌, List, [], ◌∷◌, map, Option, Some, None, IsSome, IsTrue}
 use Rattle.std.specs.Ordering.{nat_cmp}
 use Rattle.std.specs.BTreeMap.{BTreeMap}
 use Rattle.std.specs.BTreeMap as tree
+use Rattle.std.specs.HashMap.{HashMap}
+use Rattle.std.specs.HashMap as hashed
+use Rattle.std.specs.declared.hash.FoldHasher.{FoldHasher}
+use Rattle.std.specs.declared.hash.BuildHasherDefault.{BuildHasherDefault}
 use Rattle.lock_modes.specs.declared.ask.Ask.{Ask}
 use Rattle.lock_resources.specs.declared.resource.Resource.{Resource}
+use Rattle.lock_resources.specs.contracts.resource.ResourcePartialEq.TheImpl as resource_equal
 use Rattle.lock_table.specs.Asks.{is_barred}
-use Rattle.lock_table.specs.Resources.{resource_cmp, same_resource}
+use Rattle.lock_table.specs.Resources.{same_resource}
 use Rattle.lock_table.specs.Tables.{Table}
+
+-- for each resource the owners there with their modes
+abbrev pub RowMap : Type 0
+RowMap = HashMap Resource (BTreeMap ℕ Ask) (BuildHasherDefault FoldHasher)
+
+-- whether `==` finds two resources equal
+abbrev pub resource_eq : Resource → Resource → Bool
+resource_eq = (resource_equal.ghosts).eq
+
+-- the row of a resource, if it has one
+abbrev pub row_at : RowMap → Resource → Option (BTreeMap ℕ Ask)
+row_at rows r = hashed.get resource_eq rows r
 
 -- what a row has for an owner
 abbrev pub in_row : Option (BTreeMap ℕ Ask) → ℕ → Option Ask
@@ -15,8 +32,8 @@ in_row None o = None
 in_row (Some row) o = tree.get nat_cmp row o
 
 -- what the owner holds at the resource
-abbrev pub held_in : BTreeMap Resource (BTreeMap ℕ Ask) → ℕ → Resource → Option Ask
-held_in rows o r = in_row (tree.get resource_cmp rows r) o
+abbrev pub held_in : RowMap → ℕ → Resource → Option Ask
+held_in rows o r = in_row (row_at rows r) o
 
 -- whether a resource is in a list
 abbrev pub is_listed : Resource → List Resource → Bool
@@ -33,18 +50,18 @@ abbrev pub owned_by : BTreeMap ℕ (List Resource) → ℕ → List Resource
 owned_by owned o = listed (tree.get nat_cmp owned o)
 
 -- where an owner holds something, that resource is listed for it
-abbrev pub AreListed : BTreeMap Resource (BTreeMap ℕ Ask) → BTreeMap ℕ (List Resource) → Type 0
+abbrev pub AreListed : RowMap → BTreeMap ℕ (List Resource) → Type 0
 AreListed rows owned = (o : ℕ) (r : Resource) → IsSome (held_in rows o r) → IsTrue (is_listed r (owned_by owned o))
 
 -- no owner bars what another one holds
-abbrev pub AreTogether : BTreeMap Resource (BTreeMap ℕ Ask) → Type 0
+abbrev pub AreTogether : RowMap → Type 0
 AreTogether rows = (o p : ℕ) (r : Resource) → (p == o) ≡ false → is_barred (held_in rows o r) (held_in rows p r) ≡ false
 
 -- what a table keeps: each resource of an owner is listed for it, and owners hold what goes together
-pub record IsKept (rows : BTreeMap Resource (BTreeMap ℕ Ask)) (owned : BTreeMap ℕ (List Resource)) : Type 0 where
+pub record IsKept (rows : RowMap) (owned : BTreeMap ℕ (List Resource)) : Type 0 where
   pub listed : AreListed rows owned
   pub together : AreTogether rows
 
 -- the table that maps stand for
-abbrev pub table_of : BTreeMap Resource (BTreeMap ℕ Ask) → Table
+abbrev pub table_of : RowMap → Table
 table_of rows = map (λ e. (e.0, e.1.entries)) rows.entries
