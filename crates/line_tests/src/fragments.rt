@@ -1,17 +1,21 @@
 //! Fragments as JSON, the rules that a value breaks, and the limits.
-use dewey_labels::List;
+use dewey_labels::{List, Text};
 use jsonml_io::{FragmentError, of_value, read_fragment, read_value, to_value, write_fragment};
+use jsonml_text::text_of;
 use serde_json::Value;
 use std::alloc::Global;
 use std::test::Fail;
 use tree_model::Fragment;
 
-/// The fragment's text, or the name and place of a copy of the refusal.
+/// The fragment's text, which its value and its tokens give, or the name and place of a copy of the refusal.
 fn told(alloc: Global, read: Result<Fragment, FragmentError>) -> Result<String, Fail> {
     match read {
         Ok(fragment) => {
             let mut out = List::new(alloc);
             write_fragment(alloc, &fragment, &mut out)?;
+            if text_of(alloc, &fragment)?.as_slice() != out.as_slice() {
+                return Err(Fail::from("two texts"));
+            }
             match str::from_utf8(out.as_slice()) {
                 Ok(text) => Ok(String::from_str(alloc, text)?),
                 Err(_) => Err(Fail::from("no text")),
@@ -181,5 +185,27 @@ fn values_are_read_and_written(rt: HostRuntime) -> Result<(), Fail> {
     assert!(rt; read_value(alloc, &[0xFF])?.is_none());
     let refused = of_value(alloc, &Value::Null);
     assert_eq!(rt; told(alloc, refused)?.as_str(), "NotJsonMl ");
+    Ok(())
+}
+
+fn attribute(alloc: Global, name: &str, value: &str) -> Result<(Text, Text), Fail> {
+    Ok((Text::of(alloc, name)?, Text::of(alloc, value)?))
+}
+
+#[test]
+fn attributes_out_of_order_are_an_object(rt: HostRuntime) -> Result<(), Fail> {
+    let alloc = rt.alloc();
+    let attrs = vec![in alloc;
+        attribute(alloc, "b", "1")?,
+        attribute(alloc, "a", "2")?,
+        attribute(alloc, "b", "3")?,
+    ]?;
+    let fragment = Fragment::Element {
+        name: Text::of(alloc, "e")?,
+        attrs: List::from_vec(attrs),
+        children: List::new(alloc),
+    };
+    let want = "[\"e\",{\"a\":\"2\",\"b\":\"3\"}]";
+    assert_eq!(rt; told(alloc, Ok(fragment))?.as_str(), want);
     Ok(())
 }

@@ -1,0 +1,2 @@
+-- words that only private functions and the proof use
+pub mod inside
