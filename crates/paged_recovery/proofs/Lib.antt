@@ -10,6 +10,7 @@ mod NetLaws
 mod OverLaws
 mod PagedSteps
 mod ReadyLaws
+mod RunLaws
 mod SyncSteps
 mod TestLaws
 mod WalkLaws

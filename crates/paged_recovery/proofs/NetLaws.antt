@@ -26,7 +26,8 @@ use Rattle.paged_seq.specs.PagedMaps.{is_valid_entry, valid_at, valid_entries}
 use Rattle.paged_seq.proofs.MapLaws.{get_kept, kept_sorted}
 use Rattle.paged_seq.proofs.ValidLaws.{key_test, valid_test}
 use Rattle.store_contents.specs.Contents.{after_commits, last_of}
-use Rattle.paged_recovery.specs.inside.Nets.{NetOf, as_changes}
+use Rattle.paged_recovery.specs.inside.Nets.{NetOf, after_runs, as_changes}
+use Rattle.paged_recovery.proofs.RunLaws.{runs_sorted}
 use Rattle.store_contents.proofs.CommitLaws.{after_more}
 
 -- ---- notes
@@ -56,14 +57,20 @@ laid_makes : (cs lower : List Change) (es : Entries) → Rising lower → Sorted
 laid_makes [] lower es r s = refl
 laid_makes (c ∷ cs) lower es r s = laid_makes cs (with_change c lower) es (rising_laid (c ∷ []) lower r) s ∙ ap (changed cs) (changed_laid (c ∷ []) lower es (tt, tt) r s)
 
--- one commit more
-pub net_rises : (cs net now : List Change) → now ≡ laid cs net → Rising net → Rising now
-net_rises cs net now is r = subst Rising (sym is) (rising_laid cs net r)
+-- changes noted of none are a run that makes the same
+pub noted_rise : (cs none now : List Change) → none ≡ [] → now ≡ laid cs none → Rising now
+noted_rise cs none now e is = subst Rising (sym (is ∙ ap (laid cs) e)) (rising_laid cs [] tt)
 
-pub net_makes : (groups : List Group) (group : Group) (net now : List Change) (es : Entries) → now ≡ laid group.changes net → Rising net → Sorted es → changed net es ≡ after_commits groups es
-    → changed now es ≡ after_commits (groups ++ group ∷ []) es
-net_makes groups group net now es is r s so_far =
-    ap (λ (v : List Change). changed v es) is ∙ laid_makes group.changes net es r s ∙ ap (changed group.changes) so_far ∙ sym (after_more groups group es)
+pub noted_make : (cs none now : List Change) (es : Entries) → none ≡ [] → now ≡ laid cs none → Sorted es → changed now es ≡ changed cs es
+noted_make cs none now es e is s = ap (λ (v : List Change). changed v es) (is ∙ ap (laid cs) e) ∙ laid_makes cs [] es tt s
+
+-- one commit more
+pub net_makes : (groups : List Group) (group : Group) (older now : List (List Change)) (newest next run : List Change) (es : Entries) → Sorted es
+    → ((fs : Entries) → Sorted fs → changed next fs ≡ changed group.changes fs) → changed newest (after_runs older es) ≡ after_commits groups es
+    → changed run (after_runs now es) ≡ changed next (changed newest (after_runs older es)) → changed run (after_runs now es) ≡ after_commits (groups ++ group ∷ []) es
+net_makes groups group older now newest next run es s same so_far is =
+    is ∙ same (changed newest (after_runs older es)) (sorted_changed newest (after_runs older es) (runs_sorted older es s))
+    ∙ ap (changed group.changes) so_far ∙ sym (after_more groups group es)
 
 -- ---- a tree's entries are valid
 

@@ -18,6 +18,7 @@ mod once;
 mod opening;
 mod over;
 mod page_zero;
+mod runs;
 mod syncing;
 mod walking;
 

@@ -1,7 +1,7 @@
 // What commits make of the records that the pages hold: the whole map is tested as it is read, and the net changes are kept.
 ghost use Rattle.std.specs.Prelude.{◌≡◌, ◌≤◌, IsTrue, IfOk, IfErr, OnOk};
 ghost use Rattle.outside_traits.specs.Faults.{FaultCounted};
-ghost use Rattle.tree_model.specs.Changes.{Rising, laid};
+ghost use Rattle.tree_model.specs.Changes.{Rising, keys_rise, laid};
 ghost use Rattle.tree_model.specs.Entries.{Entries, Sorted, changed};
 ghost use Rattle.journal.specs.Refusals.{HasReason, UnlessFault};
 ghost use Rattle.node_seq.specs.ChangeLists.{IsChangeList};
@@ -11,6 +11,7 @@ ghost use Rattle.paged_recovery.specs.inside.Nets.{IsMisfit, IsNetOf, MakeTree, 
 
 use crate::counting::told;
 use crate::holding::fault_of;
+use crate::runs::{Run, all_in_one, go_on};
 use crate::walking::broken_at;
 use dewey_labels::{List, NoMemory};
 use journal::Group;
@@ -97,14 +98,45 @@ fn net_changes(alloc: Global, base: u32, commits: List<Group>) -> Result<(Change
     ensures effect { IfOk result (λ net. (es : Entries) → Sorted es → changed net.0 es ≡ after_commits commits es) }
     ensures number { IfOk result (λ net. net.1 ≡ last_of commits base) }
 {
-    let mut net = BTreeMap::new(alloc);
+    let mut older = Vec::new(alloc);
+    let mut newest = Run::new(Vec::new(alloc));
     let mut number = base;
     for group in commits.into_vec() {
-        note(&mut net, group.changes)?;
+        let next = run_of(alloc, group.changes)?;
+        newest = go_on(alloc, &mut older, newest, next)?;
         number = group.number;
     }
+    let net = all_in_one(alloc, older, newest)?;
+    Ok((List::from_vec(net.into_changes()), number))
+}
+
+/// Changes as a run. A journal gives them by rising keys, and they are taken as they are. On a disk that isn't known keys may fall: then a tree sorts them.
+fn run_of(alloc: Global, changes: Changes) -> Result<Run, NoMemory>
+    ensures { IfOk result (λ run. (es : Entries) → Sorted es → changed run es ≡ changed changes es) }
+{
+    if rises(changes.as_slice()) {
+        return Ok(Run::new(changes.into_vec()));
+    }
+    let mut net = BTreeMap::new(alloc);
+    note(&mut net, changes)?;
     let changes = changes_of(alloc, net)?;
-    Ok((changes, number))
+    Ok(Run::new(changes.into_vec()))
+}
+
+/// Whether each key stands above the one before it.
+fn rises(changes: &[Change]) -> bool
+    ensures { result ≡ keys_rise changes.now }
+{
+    let mut rest = changes;
+    while let [first, after @ ..] = rest {
+        if let [second, ..] = after {
+            if first.key.cmp(&second.key).is_ge() {
+                return false;
+            }
+        }
+        rest = after;
+    }
+    true
 }
 
 /// Notes what changes say of their keys, in place of what was said of them before.

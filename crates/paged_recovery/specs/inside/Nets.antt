@@ -17,6 +17,11 @@ abbrev pub as_changes : List (Key × Option Record) → List Change
 as_changes [] = []
 as_changes (e ∷ es) = record { key = e.0; now = e.1 } ∷ as_changes es
 
+-- the map after runs of changes, one after another
+abbrev pub after_runs : List (List Change) → Entries → Entries
+after_runs [] es = es
+after_runs (run ∷ runs) es = after_runs runs (changed run es)
+
 -- these changes make of the valid records that pages hold what the commits make of all of them, which is a tree's map; and this is the last number
 pub record NetOf (records : Entries) (base : ℕ) (commits : List Group) (changes : List Change) (number : ℕ) : Type 0 where
   pub last : number ≡ last_of commits base
