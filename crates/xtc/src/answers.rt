@@ -2,13 +2,15 @@
 ghost use Rattle.std.specs.Prelude.{◌≡◌, ◌++◌, ◌∷◌, [], IfOk};
 ghost use Rattle.command_lines.specs.ReplyValues.{reply_value};
 ghost use Rattle.serde_json.specs.Written.{compact_text};
+ghost use Rattle.jsonml_io.specs.Written.{fragment_text};
 ghost use Rattle.xtc.specs.Documents.{answer_line, hits_in, hits_line, label_in, tree_in, label_line, tree_line};
 
 use crate::question::Question;
 use command_lines::{LineAnswer, LineReply, write_answer};
 use dewey_labels::{Label, List, NoMemory};
+use jsonml_text::text_of;
 use std::alloc::Global;
-use tree_model::Reply;
+use tree_model::{Fragment, Reply};
 
 /// The first label that is answered.
 pub fn label_in(alloc: Global, replies: &[LineReply]) -> Result<Option<Label>, NoMemory>
@@ -54,11 +56,11 @@ fn tree_line(alloc: Global, replies: &[LineReply]) -> Result<Vec<u8>, NoMemory>
 {
     for reply in replies {
         if let LineReply::Said {
-            answer: LineAnswer::Reply(shown @ Reply::Tree(Some(_))),
+            answer: LineAnswer::Reply(Reply::Tree(Some(tree))),
             ..
         } = reply
         {
-            return line_of(alloc, shown);
+            return fragment_line(alloc, tree);
         }
     }
     line_of(alloc, &Reply::Nothing)
@@ -78,6 +80,15 @@ fn hits_line(alloc: Global, replies: &[LineReply]) -> Result<Vec<u8>, NoMemory>
         }
     }
     line_of(alloc, &Reply::Nothing)
+}
+
+/// A fragment's text, and LF. No value is built of it.
+fn fragment_line(alloc: Global, fragment: &Fragment) -> Result<Vec<u8>, NoMemory>
+    ensures { IfOk result (λ text. text.items ≡ fragment_text fragment.now ++ 10 ∷ []) }
+{
+    let mut text = text_of(alloc, fragment)?;
+    text.push(b'\n')?;
+    Ok(text)
 }
 
 /// A reply's value as compact text, and LF.

@@ -7,5 +7,5 @@ use Rattle.xtc.proofs.answers.tree_line.Goals as goal
 
 pub returns : goal.returns
 returns c =
-    subst (λ (found : Option Fragment). IfOk c.line_of-2.result (λ text. text.items ≡ tree_line found))
-    (sym (c.loop-reply.invariant ∙ at_drop_all tree_in c.args.replies.now c.loop-reply.reply-index c.loop-reply-test.false)) c.line_of-2.ensures
+    subst (λ (found : Option Fragment). IfOk c.line_of.result (λ text. text.items ≡ tree_line found))
+    (sym (c.loop-reply.invariant ∙ at_drop_all tree_in c.args.replies.now c.loop-reply.reply-index c.loop-reply-test.false)) c.line_of.ensures
