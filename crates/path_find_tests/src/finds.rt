@@ -105,6 +105,36 @@ fn a_predicate_counts_the_children_of_each_node(rt: HostRuntime) -> Result<(), F
     Ok(())
 }
 
+/// Where the predicate hangs on no position one walk finds them. Worked by hand, and the same by xmllint.
+const FOUND_BELOW_TWO: [(&str, &str); 5] = [
+    ("//b[@k='2']", "1.1001.1001.1003,"),
+    ("//*[@k]", "1.1001.1001.1001,1.1001.1001.1003,"),
+    ("//*[b]", "1.1001.1001,"),
+    ("//*[b/@k=2]/b", "1.1001.1001.1001,1.1001.1001.1003,"),
+    ("//b[3]", ""),
+];
+
+/// The same of the prices.
+const FOUND_BELOW_PRICES: [(&str, &str); 4] = [
+    ("//price[. = 9]", "1.1001.1001.1001.1001,"),
+    ("//text()[. > 10]", "1.1001.1001.1003.1001.1001,"),
+    ("//*[price > 10]", "1.1001.1001.1003,"),
+    ("//node()[text()='9']/..", "1.1001.1001.1001,"),
+];
+
+#[test]
+fn a_predicate_that_hangs_on_no_position_holds_at_each_node(rt: HostRuntime) -> Result<(), Fail> {
+    for (path, wanted) in FOUND_BELOW_TWO {
+        let found = finds(rt.alloc(), &TWO, "1.1001", path, wanted)?;
+        assert_eq!(rt; found, true, "at {path:?}");
+    }
+    for (path, wanted) in FOUND_BELOW_PRICES {
+        let found = finds(rt.alloc(), &PRICES, "1.1001", path, wanted)?;
+        assert_eq!(rt; found, true, "at {path:?}");
+    }
+    Ok(())
+}
+
 /// The same; what is found from one node after the other stands in document order.
 const FOUND_IN_PRICES: [(&str, &str); 4] = [
     ("/c/i[price > 10]", "1.1001.1001.1003,"),

@@ -1,5 +1,5 @@
 -- Steps to all from one position down, and from there to the children of each.
-use Rattle.std.proofs.Common.{◌≡◌, ◌≤◌, ◌+◌, ℕ, List, [], ◌∷◌, ◌++◌, length, take, drop, refl, sym, ap, subst, ◌∙◌, append-nil, arith}
+use Rattle.std.proofs.Common.{◌≡◌, ◌+◌, ℕ, List, [], ◌∷◌, ◌++◌, take, drop, refl, sym, ap, subst, ◌∙◌, append-nil, arith}
 use Rattle.std.specs.List.{filter}
 use Rattle.std.proofs.lemmas.List.{take-append-drop}
 use Rattle.tree_model.specs.Tree.{Tree}
@@ -11,19 +11,19 @@ use Rattle.path_model.specs.declared.path.NodeTest.TheVariants.{Node}
 use Rattle.path_model.specs.declared.path.Step.{Step, out-Step}
 use Rattle.path_model.specs.AxisPrograms.{along, children}
 use Rattle.path_model.specs.Evaluation.{in_order, filtered}
-use Rattle.path_model.specs.Paths.{Exprs, no_more}
+use Rattle.path_model.specs.Paths.{Exprs}
 use Rattle.path_model.specs.PlainPaths.{plain_row}
 use Rattle.path_model.specs.Positions.{Position, a_node, an_attribute, passes}
 use Rattle.path_model.specs.Programs.{Look, Program, ends, and_then, answer, looked, gathered}
 use Rattle.path_model.proofs.ProgramAnswers.{answer-and_then}
-use Rattle.xpath_axes.specs.Runs.{HasRun, reads_of}
+use Rattle.xpath_axes.specs.Runs.{HasRun}
 use Rattle.xpath_axes.specs.Wholes.{IsWhole}
 use Rattle.xpath_axes.proofs.RowsAhead.{whole_rises}
 use Rattle.xpath_axes.proofs.Running.{looked-and_then}
 use Rattle.xpath_eval.specs.inside.Steps.{from_node, LeadsDown}
 use Rattle.xpath_eval.proofs.Orders.{rising_is_ordered}
 
-all_pass : (ns : List Position) → filter (passes DescendantOrSelf Node) ns ≡ ns
+pub all_pass : (ns : List Position) → filter (passes DescendantOrSelf Node) ns ≡ ns
 all_pass [] = refl
 all_pass (a_node l r ∷ ns) = ap (λ (ms : List Position). a_node l r ∷ ms) (all_pass ns)
 all_pass (an_attribute l n v ∷ ns) = ap (λ (ms : List Position). an_attribute l n v ∷ ms) (all_pass ns)

@@ -3,3 +3,6 @@ mod Chains
 mod Opened
 mod Orders
 mod DownSteps
+mod OneWalk
+mod FreeTests
+mod WalkedPaths

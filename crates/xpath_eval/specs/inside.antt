@@ -5,3 +5,4 @@ pub mod Operations
 pub mod Orders
 pub mod Steps
 pub mod Texts
+pub mod Walks

@@ -14,6 +14,7 @@ ghost use Rattle.xpath_axes.specs.Positions.{plain, all_plain};
 ghost use Rattle.xpath_eval.specs.inside.Steps.{from_path};
 
 use crate::expressions::{begun, taken};
+use crate::one_walk::in_one_walk;
 use dewey_labels::{Label, List, NoMemory};
 use node_seq::{NodeRead, SeqError};
 use path_model::{XPath, find_answers_a_set_or_not_found};
@@ -54,7 +55,8 @@ pub fn evaluate<S: NodeRead>(
 {
     // It tells that the program answers the set that the path means.
     find_answers_a_set_or_not_found();
-    answer_find(alloc, path, at, seq, &mut NoLooks)
+    let walk = in_one_walk(alloc, path)?;
+    answer_find(alloc, &walk, at, seq, &mut NoLooks)
 }
 
 /// The node is looked at first, and the path is evaluated from it where one was seen.

@@ -7,6 +7,7 @@ mod context;
 mod expressions;
 mod find;
 mod numbers;
+mod one_walk;
 mod operations;
 mod order;
 mod strings;
