@@ -1,11 +1,19 @@
-use Rattle.std.proofs.Common.{◌≡◌, ◌∙◌, ap}
+use Rattle.std.proofs.Common.{◌≡◌, ◌∙◌, ◌+◌, ℕ, ap, subst, sym}
+use Rattle.std.specs.Prelude.{IsTrue}
+use Rattle.journal.specs.Groups.{is_next}
 use Rattle.turn_lock.specs.Turns.{has_number}
 use Rattle.shared_store.specs.Sessions.{SessionView}
-use Rattle.workers_text.proofs.Opened.{opens_all, opens_first}
+use Rattle.workers_text.proofs.Opened.{opens_all, opens_first, opens_seen}
+use Rattle.workers_text.proofs.Started.{begun_last}
 use Rattle.workers_text.proofs.run.open.Goals as goal
 
 pub new-requires-2-clause-all : goal.new-requires-2-clause-all
 new-requires-2-clause-all g c = opens_all c.args.core c.args.number c.in-Ok.made.0 c.in-Ok.made.1 c.in-Ok.ensures.ok
+
+pub new-requires-2-clause-next : goal.new-requires-2-clause-next
+new-requires-2-clause-next g c =
+    let seen = opens_seen c.args.core c.args.number c.in-Ok.made.0 c.in-Ok.made.1 c.in-Ok.ensures.ok in
+    subst (λ (n : ℕ). IsTrue (is_next c.args.journal.last (n + 1))) (sym (begun_last c.args.core c.requires.book c.in-Ok.made.1.seen seen)) c.requires.takes.1
 
 pub close-requires-clause-all : goal.close-requires-clause-all
 close-requires-clause-all g c n small = ap (λ (v : SessionView _ _). has_number v.has n) c.in-Err-new.ensures.err.1 ∙ opens_all c.args.core c.args.number c.in-Ok.made.0 c.in-Ok.made.1 c.in-Ok.ensures.ok n small
