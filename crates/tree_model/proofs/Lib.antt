@@ -8,6 +8,7 @@ pub mod EditedTrees
 pub mod Edits
 pub mod Ends
 pub mod Entries
+pub mod FirstChanges
 pub mod ForwardReads
 pub mod Found
 pub mod FoundParents

@@ -8,6 +8,7 @@ mod dom_call;
 mod fragment;
 mod key;
 mod laws;
+mod laying;
 mod limits;
 mod names;
 mod record;
@@ -23,6 +24,7 @@ pub use laws::{
     differences_lead_from_map_to_map, placed_fragments_are_read_again, rising_keys_pass_their_test,
     split_texts_are_texts,
 };
+pub use laying::lay;
 pub use limits::{DEEPEST_LEVEL, MOST_NAME_BYTES, MOST_TEXT_BYTES};
 pub use names::is_name;
 pub use record::Record;
