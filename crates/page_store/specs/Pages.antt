@@ -1,7 +1,8 @@
 -- The pages of a file, and those that are kept in memory (docs/FILE_FORMAT.md, "The page file").
-use Rattle.std.specs.Prelude.{◌≡◌, ◌≤◌, ℕ, ◌+◌, ◌-◌, ◌*◌, ◌^◌, min, Bool, if◌then◌else◌, nat_eq, List, take, drop, is_some, IsTrue}
+use Rattle.std.specs.Prelude.{◌≡◌, ◌≤◌, ℕ, ◌+◌, ◌-◌, ◌*◌, ◌^◌, min, Bool, if◌then◌else◌, nat_eq, List, ◌∷◌, take, drop, is_some, IsTrue, Result, MatchResult}
 use Rattle.std.specs.List.{AllByRecursion}
 use Rattle.std.specs.Map.{lookup}
+use Rattle.lru.specs.LruCache.{promoted}
 
 -- the page with this number: fewer bytes where the file ends before its end
 abbrev pub page_of : ℕ → List ℕ → List ℕ
@@ -38,3 +39,15 @@ pub record IsAfterAsking (page : ℕ) (old new : PoolView) : Type 0 where
   pub most : new.most ≡ old.most
   pub reads : new.reads ≤ old.reads + 1
   pub unread : IsTrue (is_kept page old) → new.reads ≡ old.reads
+
+-- the pages that stay where one is read: all that are kept, but the last where there is room for no more
+abbrev pub with_room : PoolView → List (ℕ × List ℕ)
+with_room pool = take (pool.most - 1) pool.kept
+
+-- the pages that are kept once one was answered: one that was kept goes first, another comes with these bytes before those that stay
+abbrev pub kept_after : ℕ → List ℕ → PoolView → List (ℕ × List ℕ)
+kept_after page bytes pool = if is_kept page pool then promoted (nat_eq page) pool.kept else (page, bytes) ∷ with_room pool
+
+-- the pages that are kept once one was asked for: where it was answered as `kept_after` says, with some bytes; else those that stay where one is read
+abbrev pub KeepsPages : {T E : Type 0} → ℕ → PoolView → Result T E → PoolView → Type 0
+KeepsPages page old result new = MatchResult result (λ _. (bytes : List ℕ) × (new.kept ≡ kept_after page bytes old)) (λ _. new.kept ≡ with_room old)

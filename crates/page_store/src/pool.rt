@@ -4,7 +4,7 @@ ghost use Rattle.std.specs.Map.{lookup};
 ghost use Rattle.std.specs.Borrow.{sem, follows_so};
 ghost use mathlib.Core.Option.{none};
 ghost use Rattle.outside_traits.specs.Faults.{HasCause};
-ghost use Rattle.page_store.specs.Pages.{ArePagesOf, IsAfterAsking, is_kept, page_of, reads_after};
+ghost use Rattle.page_store.specs.Pages.{ArePagesOf, IsAfterAsking, KeepsPages, is_kept, page_of, reads_after, with_room};
 ghost use Rattle.page_store.specs.contracts.pool.Pool.{the_row};
 ghost use Rattle.page_store.specs.declared.page_error.PageError.TheVariants.{DiskFault};
 
@@ -76,6 +76,8 @@ impl Pool {
         ensures pages { IsTrue P.is_known → ArePagesOf (P.history disk.new).now.reads self.new.kept }
         ensures there { OnOk result (IsTrue (is_kept page self.new)) }
         ensures most { self.new.most ≡ self.old.most }
+        // The others stay, in their order. Only where the page has to be read and all frames are in use the last one goes, also if that fails.
+        ensures others { KeepsPages page self.old result self.new }
         // What is kept is found without a read.
         ensures kept_suffices { IsTrue (is_kept page self.old) → IsOk result }
         ensures read_once { OnOk result (self.new.reads ≡ reads_after page self.old) }
@@ -95,6 +97,7 @@ impl Pool {
 
     /// A frame to read into: the one that was asked least recently where all are in use, else a new one.
     fn spare(&mut self, alloc: Global) -> Result<Frame, AllocError>
+        ensures room { self.new.kept ≡ with_room self.old }
         ensures kept { (file : List ℕ) → ArePagesOf file self.old.kept → ArePagesOf file self.new.kept }
         ensures most { self.new.most ≡ self.old.most }
         ensures reads { self.new.reads ≡ self.old.reads }
@@ -120,7 +123,7 @@ impl Pool {
     }
 
     /// A page of the file, read where it isn't kept: `fill` and `frame` in one. What is kept was read since the file was written.
-    /// The page that is answered stays among those that are kept.
+    /// The page that is answered is kept, and the others stay as after `fill`.
     pub fn read_page<P: Disk>(
         &mut self,
         alloc: Global,
@@ -130,7 +133,8 @@ impl Pool {
         requires within { IsTrue P.is_known → 8_192 * page + 8_192 ≤ length (P.history disk.old).now.reads }
         requires pages { IsTrue P.is_known → ArePagesOf (P.history disk.old).now.reads self.old.kept }
         ensures* after { sem 𝓛 (follows_so the_row the_row self.entry.ghost_name none (λ _ _. ⊤)
-            (λ n. IsAfterAsking page self.old n × OnOk result (IsTrue (is_kept page n)) × (IsTrue P.is_known → ArePagesOf (P.history disk.old).now.reads n.kept))) }
+            (λ n. IsAfterAsking page self.old n × OnOk result (IsTrue (is_kept page n)) × (IsTrue P.is_known → ArePagesOf (P.history disk.old).now.reads n.kept)
+            × KeepsPages page self.old result n)) }
         // What is kept is answered without a read, memory or fault.
         ensures kept_suffices { IsTrue (is_kept page self.old) → IsOk result }
         ensures value { IfOk result (λ bytes. IsTrue P.is_known → bytes.now ≡ page_of page (P.history disk.old).now.reads) }

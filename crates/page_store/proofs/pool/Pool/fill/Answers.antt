@@ -1,11 +1,11 @@
-use Rattle.std.proofs.Common.{◌≡◌, ℕ, List, true, nat_eq, sym, ap, subst, is_some}
+use Rattle.std.proofs.Common.{◌≡◌, ℕ, ◌-◌, List, [], true, false, take, nat_eq, sym, ap, subst, is_some, ◌∙◌}
 use Rattle.std.specs.Cmp.{nat_eq_equiv}
 use Rattle.std.specs.Map.{lookup}
 use Rattle.outside_traits.specs.Moments.{History}
-use Rattle.lru.specs.LruCache.{LruCache}
+use Rattle.lru.specs.LruCache.{LruCache, promoted}
 use Rattle.lru.proofs.CallerLemmas.{lookup-put_entries}
-use Rattle.page_store.specs.Pages.{ArePagesOf, PoolView}
-use Rattle.page_store.proofs.KeptLaws.{pages_promoted, pages_put, there_promoted}
+use Rattle.page_store.specs.Pages.{ArePagesOf, PoolView, is_kept, with_room}
+use Rattle.page_store.proofs.KeptLaws.{kept_at_err, kept_promoted, kept_put, pages_promoted, pages_put, room_promoted, there_promoted}
 use Rattle.page_store.proofs.pool.Pool.fill.Goals as goal
 
 pub returns-then-promote-clause-pages : goal.returns-then-promote-clause-pages
@@ -56,3 +56,44 @@ pub returns-clause-there : goal.returns-clause-there
 returns-clause-there g c =
     subst (λ (x : LruCache ℕ (List ℕ)). is_some (lookup (nat_eq c.args.page) x.entries) ≡ true) (sym c.in_ok-put.ensures.entries)
     (ap is_some (lookup-put_entries nat_eq c.self-2.inside.frames c.args.page c.read.new.self nat_eq_equiv))
+
+pub returns-then-promote-clause-others : goal.returns-then-promote-clause-others
+returns-then-promote-clause-others g c = (
+  [],
+  ap (λ (x : LruCache ℕ (List ℕ)). x.entries) c.promote.ensures.entries
+      ∙ ap (λ (v : PoolView). promoted (nat_eq c.args.page) v.kept) c.self.view_is
+      ∙ kept_promoted c.args.page [] c.args.self.now (subst (λ (v : PoolView). is_kept c.args.page v ≡ true) c.self.view_is (sym c.if-promote.ensures.value)),
+)
+
+pub returns-in_err-frame-clause-others : goal.returns-in_err-frame-clause-others
+returns-in_err-frame-clause-others g c =
+    kept_at_err _ c.args.page c.args.self.now c.spare.new.self.kept c.from_residual.result c.from_residual.ensures.1
+    (c.spare.ensures.room ∙ subst (λ (v : PoolView). take (c.promote.new.self.cap - 1) c.promote.new.self.entries ≡ with_room v) c.self.view_is
+    (room_promoted c.args.page c.self.inside.frames c.promote.new.self (sym c.if-promote.ensures.value) c.promote.ensures.entries))
+
+pub returns-in_err-read-clause-others : goal.returns-in_err-read-clause-others
+returns-in_err-read-clause-others g c =
+    kept_at_err _ c.args.page c.args.self.now c.self-2.inside.frames.entries c.from_residual-in_err-read.result c.from_residual-in_err-read.ensures.1
+    (ap (λ (v : PoolView). v.kept) c.self-2.view_is ∙ c.spare.ensures.room
+    ∙ subst (λ (v : PoolView). take (c.promote.new.self.cap - 1) c.promote.new.self.entries ≡ with_room v) c.self.view_is
+    (room_promoted c.args.page c.self.inside.frames c.promote.new.self (sym c.if-promote.ensures.value) c.promote.ensures.entries))
+
+pub returns-in_err-put-clause-others : goal.returns-in_err-put-clause-others
+returns-in_err-put-clause-others g c =
+    kept_at_err _ c.args.page c.args.self.now c.put.new.self.entries c.from_residual-in_err-put.result c.from_residual-in_err-put.ensures.1
+    (ap (λ (x : LruCache ℕ (List ℕ)). x.entries) c.in_err-put.ensures.err ∙ ap (λ (v : PoolView). v.kept) c.self-2.view_is ∙ c.spare.ensures.room
+    ∙ subst (λ (v : PoolView). take (c.promote.new.self.cap - 1) c.promote.new.self.entries ≡ with_room v) c.self.view_is
+    (room_promoted c.args.page c.self.inside.frames c.promote.new.self (sym c.if-promote.ensures.value) c.promote.ensures.entries))
+
+pub returns-clause-others : goal.returns-clause-others
+returns-clause-others g c =
+    let stay = ap (λ (v : PoolView). v.kept) c.self-2.view_is ∙ c.spare.ensures.room
+    ∙ subst (λ (v : PoolView). take (c.promote.new.self.cap - 1) c.promote.new.self.entries ≡ with_room v) c.self.view_is
+    (room_promoted c.args.page c.self.inside.frames c.promote.new.self (sym c.if-promote.ensures.value) c.promote.ensures.entries) in
+    let most = ap (λ (v : PoolView). v.most) c.self-2.view_is ∙ c.spare.ensures.most ∙ ap (λ (x : LruCache ℕ (List ℕ)). x.cap) c.promote.ensures.entries
+    ∙ ap (λ (v : PoolView). v.most) c.self.view_is in
+    let none : is_kept c.args.page c.args.self.now ≡ false = subst (λ (v : PoolView). is_kept c.args.page v ≡ false) c.self.view_is (sym c.if-promote.ensures.value) in (
+      c.read.new.self,
+      ap (λ (x : LruCache ℕ (List ℕ)). x.entries) c.in_ok-put.ensures.entries
+          ∙ kept_put c.args.page c.read.new.self c.args.self.now c.self-2.inside.frames none stay most,
+    )
