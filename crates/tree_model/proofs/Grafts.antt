@@ -17,7 +17,7 @@ use Rattle.tree_model.specs.ValidTrees.{KeysRise, KindsAllowed, LimitsKept}
 use Rattle.tree_model.specs.Fragments.{Fragments, no_more, element, text, IsValid, depth}
 use Rattle.dewey_labels.specs.NewLabels.{first_division}
 use Rattle.tree_model.specs.Graft.{graft_below, graft, all_within}
-use Rattle.tree_model.specs.inside.GraftLimits.{fit_below, fit_at}
+use Rattle.tree_model.specs.GraftLimits.{fit_below, fit_at}
 
 -- ---- the codes 1001, 1003 and so on
 

@@ -13,6 +13,7 @@ pub mod StoredTree
 -- The calls
 pub mod Fragments
 pub mod Graft
+pub mod GraftLimits
 pub mod Outcomes
 pub mod NodeKinds
 pub mod Edits

@@ -1,6 +1,7 @@
 -- Which kind of node was found in a tree (DOM Level 3 Core, interface Node: `nodeType`).
-use Rattle.std.specs.Prelude.{Bool, false, true}
+use Rattle.std.specs.Prelude.{Bool, Option, Some, false, true}
 use Rattle.tree_model.specs.Tree.{Forest, node}
+use Rattle.tree_model.specs.declared.record.Record.{Record}
 use Rattle.tree_model.specs.declared.record.Record.TheVariants.{Document, Element, Text}
 
 -- the found node is a document
@@ -17,3 +18,8 @@ is_element found = false
 abbrev pub is_text_node : Forest → Bool
 is_text_node (node l (Text d) ats ch nx) = true
 is_text_node found = false
+
+-- a text's record
+abbrev pub is_text_record : Option Record → Bool
+is_text_record (Some (Text d)) = true
+is_text_record r = false

@@ -1,4 +1,3 @@
 -- Words of the proofs alone.
 pub mod FoundNodes
-pub mod GraftLimits
 pub mod Seeks

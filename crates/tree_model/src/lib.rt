@@ -6,6 +6,7 @@
 mod change;
 mod dom_call;
 mod fragment;
+mod fragment_limits;
 mod key;
 mod laws;
 mod laying;
