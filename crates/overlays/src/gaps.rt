@@ -16,7 +16,7 @@ ghost use Rattle.tree_model.specs.Orders.{by_order};
 ghost use Rattle.node_seq.specs.ChangeLists.{IsChangeList};
 
 use crate::direction::Direction;
-use crate::run::Run;
+use crate::run::{Hint, Run};
 use crate::{Layers, Overlay};
 use dewey_labels::NoMemory;
 use std::alloc::Global;
@@ -115,6 +115,8 @@ const MOST: usize = 16;
 #[derive(Debug, Drop)]
 pub struct Gaps {
     stretches: Vec<Stretch>,
+    /// Where the last walk stands in the changes. No answer depends on it.
+    hint: Hint,
 }
 
 impl Model for Gaps {
@@ -261,6 +263,7 @@ impl Gaps {
     {
         Gaps {
             stretches: Vec::new(alloc),
+            hint: Hint::new(),
         }
     }
 
@@ -269,6 +272,18 @@ impl Gaps {
         ensures { result ≡ (length self.now == 0) }
     {
         self.stretches.is_empty()
+    }
+
+    /// Where the last walk stands in the changes.
+    pub(crate) fn hint(&self) -> Hint {
+        self.hint
+    }
+
+    /// Keeps where a walk stands in the changes, for the next one.
+    pub(crate) fn keep_hint(&mut self, hint: Hint)
+        ensures { self.new ≡ self.old }
+    {
+        self.hint = hint;
     }
 
     /// The last key ahead that lies in the same stretch; the key itself where it lies in none.
@@ -397,7 +412,9 @@ fn changed_beside<'o>(
     toward: Direction,
     key: &Key,
 ) -> Option<&'o Key> {
-    match own.beside(toward, key, layers.beside(toward, key)) {
+    let mut hint = Hint::new();
+    let below = layers.beside(toward, key, &mut hint);
+    match own.beside(toward, key, below, &mut hint) {
         Some(change) => Some(&change.key),
         None => None,
     }

@@ -18,6 +18,7 @@ ghost use Rattle.overlays.specs.Steps.{most_steps, NoneOpen};
 ghost use Rattle.overlays.specs.inside.Passing.{first_gone, first_seen, first_key_seen, Sees, SeesKey, key_gone, Spans, IsSettled, HasCome, AllCovered, NoneGone, with_piece};
 
 use crate::direction::Direction;
+use crate::run::Hint;
 use crate::{Gaps, Layers, Overlay, Stretch};
 use dewey_labels::{Copied, NoMemory};
 use node_seq::{NodeRead, SeqError};
@@ -28,7 +29,7 @@ use tree_model::{Change, Key, Record};
 /// What a transaction sees: a base changed by the layers of commits, and then by what the transaction has changed itself.
 ///
 /// A read looks into each run of changes by at most one binary search, and asks the base once. A read to the side of a key does so again for each deletion that it passes;
-/// what took more than a few such steps is noted in `gaps`, and the next reads jump over it.
+/// what took more than a few such steps is noted in `gaps`, and the next reads jump over it. Where the last one stood in the longest run is kept there too, and looked at first.
 #[derive(Drop)]
 pub struct View<'a, S: NodeRead> {
     pub base: &'a mut S,
@@ -93,6 +94,7 @@ fn pass_gone<'g, 'o: 'g, S: NodeRead>(
     gaps: &'g Gaps,
     toward: Direction,
     key: &'g Key,
+    hint: &mut Hint,
 ) -> Result<(Come<'o>, Option<Stretch>), SeqError>
     requires empty { (es : Entries) → contents_after own.now (contents_after layers.now.changes (S.contents base.old)) ≡ Some es → AreEmpty gaps.now es }
     ensures come { IfOk result (λ c. HasCome toward key.now (laid own.now layers.now.changes) (S.contents base.old) (unwrap_or c.0.at key.now)) }
@@ -113,12 +115,12 @@ fn pass_gone<'g, 'o: 'g, S: NodeRead>(
     let mut at = gaps.skip(toward, key);
     let mut near = if_ahead(toward, key, at);
     let mut steps: usize = 0;
-    let mut change = change_ahead(layers, own, toward, at);
+    let mut change = change_ahead(layers, own, toward, at, hint);
     while let Some(gone) = next_gone(alloc, base, toward, at, change)? {
         near = near.or(Some(gone));
         at = gaps.skip(toward, gone);
         steps = steps.saturating_add(1);
-        change = change_ahead(layers, own, toward, at);
+        change = change_ahead(layers, own, toward, at, hint);
     }
     let stretch = spanned(alloc, toward, near, at, steps)?;
     let at = copy_other(alloc, toward, key, at)?;
@@ -240,7 +242,9 @@ fn note_gone<'o, S: NodeRead>(
     ensures all_reads { S.reads base.new ≤ S.reads base.old + (1 + most_steps toward key.now gaps.old (laid own.now layers.now.changes)) }
     ensures cause { HasCause DiskFault (S.count base.old) (S.count base.new) result }
 {
-    let (come, stretch) = pass_gone(alloc, base, layers, own, gaps, toward, key)?;
+    let mut hint = gaps.hint();
+    let (come, stretch) = pass_gone(alloc, base, layers, own, gaps, toward, key, &mut hint)?;
+    gaps.keep_hint(hint);
     note_if(gaps, stretch)?;
     Ok(come)
 }
@@ -272,12 +276,14 @@ fn change_ahead<'o>(
     own: &'o Overlay,
     toward: Direction,
     key: &Key,
+    hint: &mut Hint,
 ) -> Option<&'o Change>
     ensures nearest { IsNearest toward key.now (λ j. now_at j (laid own.now layers.now.changes)) (as_pair (option_copied result)) }
     ensures own { IsChangeList own.now }
     ensures layers { IsChangeList layers.now.changes }
 {
-    own.beside(toward, key, layers.beside(toward, key))
+    let below = layers.beside(toward, key, hint);
+    own.beside(toward, key, below, hint)
 }
 
 /// The entry at the nearest key ahead in the base.
