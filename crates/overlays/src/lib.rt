@@ -11,7 +11,6 @@
 mod direction;
 mod gaps;
 mod layers;
-mod merge;
 mod overlay;
 mod rebase;
 mod run;
