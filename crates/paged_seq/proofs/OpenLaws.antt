@@ -16,7 +16,7 @@ use Rattle.node_records.specs.declared.open_error.OpenError.TheVariants.{Damaged
 use Rattle.page_store.specs.Pages.{page_of}
 use Rattle.node_pages.specs.PagesIn.{after_pages, starts_in}
 use Rattle.node_pages.specs.Scanning.{and_then}
-use Rattle.paged_seq.specs.PagedFiles.{AllPagesKeepRules, HasReason, IsFirstBroken, IsIndexOf, IsPageWith, index_at}
+use Rattle.paged_seq.specs.PagedFiles.{AllPagesKeepRules, HasReason, IsFirstBroken, IsIndexOf, IsPageWith, index_at, whole_below}
 
 take_whole : (n : ℕ) (bytes : List ℕ) → length bytes ≤ n → take n bytes ≡ bytes
 take_whole zero [] h = refl
@@ -30,6 +30,16 @@ tail_page n count file is few = sym (take_whole 8_192 (drop (8_192 * n) file) (o
 
 pub whole_page : (n count : ℕ) (file : List ℕ) → count ≡ length file → 8_192 ≤ count - 8_192 * n → length (page_of n file) ≡ 8_192
 whole_page n count file is more = omega (arith, is, more, length-take 8_192 (drop (8_192 * n) file), length-drop (8_192 * n) file)
+
+-- ---- how many pages are read
+
+-- pages that are taken one behind the other
+pub read_on : (from at to : ℕ) (file : List ℕ) (r s t : ℕ) → s + whole_below from file ≤ r + whole_below at file → t + whole_below at file ≤ s + whole_below to file → t + whole_below from file ≤ r + whole_below to file
+read_on from at to file r s t so_far step = omega (arith, so_far, step)
+
+-- no more than all
+pub read_within : (from at to : ℕ) (file : List ℕ) (r s : ℕ) → at ≤ to → s + whole_below from file ≤ r + whole_below at file → s + whole_below from file ≤ r + whole_below to file
+read_within from at to file r s less so_far = omega (arith, less, so_far)
 
 -- a reason is one of something else, too
 pub reason_on : (P Q : ℕ → Type 0) (C D : Type 0) → ((n : ℕ) → P n → Q n) → (C → D) → (fault : OpenError) → HasReason (IsPageWith P) C fault → HasReason (IsPageWith Q) D fault

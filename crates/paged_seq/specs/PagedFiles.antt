@@ -1,5 +1,5 @@
 -- A file of pages that is open: what is kept of it between reads.
-use Rattle.std.specs.Prelude.{◌≡◌, ◌<◌, ◌^◌, ℕ, Bool, true, false, IsTrue, List, [], ◌∷◌, length, Ok, Err}
+use Rattle.std.specs.Prelude.{◌≡◌, ◌<◌, ◌^◌, ◌/◌, min, ℕ, Bool, true, false, IsTrue, List, [], ◌∷◌, length, Ok, Err}
 use Rattle.std.proofs.Common.{ap, refl}
 use Rattle.outside_traits.specs.Moments.{History}
 use Rattle.page_store.specs.Pages.{PoolView}
@@ -31,6 +31,14 @@ pub record IsIndexOf (is_known : Bool) (bytes : List ℕ) (i : Index) : Type 0 w
 -- an index with these parts
 abbrev pub index_at : ℕ → List PageStart → Index
 index_at base starts = record { base = base; starts = starts }
+
+-- how many pages of a file have all their bytes
+abbrev pub whole_count : List ℕ → ℕ
+whole_count file = length file / 8_192
+
+-- how many of them are below this page
+abbrev pub whole_below : ℕ → List ℕ → ℕ
+whole_below page file = min page (whole_count file)
 
 -- ---- why it isn't opened
 

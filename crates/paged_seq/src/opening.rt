@@ -1,4 +1,4 @@
-//! Opening a file of pages: each page is read once, and the first that breaks a rule is found.
+//! Opening a file of pages: each page is read at most once, and the first that breaks a rule is found.
 ghost use Rattle.std.specs.Prelude.{◌≡◌, ◌≤◌, ◌<◌, ◌+◌, ◌*◌, ◌^◌, ℕ, List, [], length, Some, None, Ok, Err, IsTrue, IfOk, IfErr, OnOk};
 ghost use Rattle.outside_traits.specs.Faults.{FaultCounted, HasCause};
 ghost use Rattle.node_records.specs.declared.open_error.OpenError.TheVariants.{Damaged, DiskFault, NoMemory};
@@ -8,7 +8,7 @@ ghost use Rattle.node_pages.specs.PageFiles.{file_page, index_of_file};
 ghost use Rattle.node_pages.specs.PageZero.{header_in};
 ghost use Rattle.node_pages.specs.PagesIn.{after_pages, starts_in};
 ghost use Rattle.page_store.specs.Pages.{page_of};
-ghost use Rattle.paged_seq.specs.PagedFiles.{HasReason, IsPageWith, index_at, page_place};
+ghost use Rattle.paged_seq.specs.PagedFiles.{HasReason, IsPageWith, index_at, page_place, whole_below, whole_count};
 
 use crate::page_file::PageFile;
 use dewey_labels::List;
@@ -53,6 +53,8 @@ fn page_bytes<P: Disk + Drop>(
 ) -> Result<Vec<u8>, SeqError>
     requires count { IsTrue P.is_known → count ≡ length (P.history file.old.disk).now.reads }
     ensures bytes { IfOk result (λ bytes. IsTrue P.is_known → bytes.items ≡ page_of page (P.history file.old.disk).now.reads) }
+    ensures reads { IsTrue P.is_known → file.new.pool.reads + whole_below page (P.history file.old.disk).now.reads
+        ≤ file.old.pool.reads + whole_below (page + 1) (P.history file.old.disk).now.reads }
     ensures most { file.new.pool.most ≡ file.old.pool.most }
     ensures same { IsTrue P.is_known → P.history file.new.disk ≡ P.history file.old.disk }
     ensures cause { HasCause seq.DiskFault (P.faults file.old.disk) (P.faults file.new.disk) result }
@@ -86,6 +88,8 @@ fn take_page<P: Disk + Drop, T: PagePass>(
     ensures reason { IfErr result (HasReason (IsPageWith (λ n. IsTrue P.is_known
         → T.after pass.old (file_page (P.history file.old.disk).now.reads page) ≡ Err n))
         (FaultCounted (P.faults file.old.disk) (P.faults file.new.disk))) }
+    ensures reads { IsTrue P.is_known → file.new.pool.reads + whole_below page (P.history file.old.disk).now.reads
+        ≤ file.old.pool.reads + whole_below (page + 1) (P.history file.old.disk).now.reads }
     ensures most { file.new.pool.most ≡ file.old.pool.most }
     ensures same { IsTrue P.is_known → P.history file.new.disk ≡ P.history file.old.disk }
     ensures cause { HasCause DiskFault (P.faults file.old.disk) (P.faults file.new.disk) result }
@@ -116,6 +120,8 @@ fn take_pages<P: Disk + Drop, T: PagePass>(
     ensures reason { IfErr result (HasReason (IsPageWith (λ n. IsTrue P.is_known
         → after_pages T.after (file_page (P.history file.old.disk).now.reads) first pages pass.old ≡ Err n))
         (FaultCounted (P.faults file.old.disk) (P.faults file.new.disk))) }
+    ensures reads { IsTrue P.is_known → file.new.pool.reads + whole_below first (P.history file.old.disk).now.reads
+        ≤ file.old.pool.reads + whole_below (first + pages) (P.history file.old.disk).now.reads }
     ensures most { file.new.pool.most ≡ file.old.pool.most }
     ensures same { IsTrue P.is_known → P.history file.new.disk ≡ P.history file.old.disk }
     ensures cause { HasCause DiskFault (P.faults file.old.disk) (P.faults file.new.disk) result }
@@ -137,6 +143,7 @@ fn read_zero<P: Disk + Drop>(
     ensures reason { IfErr result (HasReason (IsPageWith (λ n. (n ≡ 0) × (IsTrue P.is_known
         → header_in (file_page (P.history file.old.disk).now.reads 0) ≡ None)))
         (FaultCounted (P.faults file.old.disk) (P.faults file.new.disk))) }
+    ensures reads { IsTrue P.is_known → file.new.pool.reads ≤ file.old.pool.reads + whole_below 1 (P.history file.old.disk).now.reads }
     ensures most { file.new.pool.most ≡ file.old.pool.most }
     ensures same { IsTrue P.is_known → P.history file.new.disk ≡ P.history file.old.disk }
     ensures cause { HasCause DiskFault (P.faults file.old.disk) (P.faults file.new.disk) result }
@@ -165,6 +172,8 @@ fn read_starts<P: Disk + Drop>(
     ensures reason { IfErr result (HasReason (IsPageWith (λ n. IsTrue P.is_known
         → starts_in (file_page (P.history file.old.disk).now.reads) header.now ≡ Err n))
         (FaultCounted (P.faults file.old.disk) (P.faults file.new.disk))) }
+    ensures reads { IsTrue P.is_known → file.new.pool.reads + whole_below 1 (P.history file.old.disk).now.reads
+        ≤ file.old.pool.reads + whole_count (P.history file.old.disk).now.reads }
     ensures most { file.new.pool.most ≡ file.old.pool.most }
     ensures same { IsTrue P.is_known → P.history file.new.disk ≡ P.history file.old.disk }
     ensures cause { HasCause DiskFault (P.faults file.old.disk) (P.faults file.new.disk) result }
@@ -205,7 +214,7 @@ fn few(starts: List<PageStart>) -> Result<List<PageStart>, OpenError>
     Ok(starts)
 }
 
-/// The base of a file and where its data pages begin. It reads each page once.
+/// The base of a file and where its data pages begin. It reads each page at most once.
 pub(crate) fn read_index<P: Disk + Drop>(
     alloc: Global,
     file: &mut PageFile<P>,
@@ -214,6 +223,7 @@ pub(crate) fn read_index<P: Disk + Drop>(
     ensures few { IfOk result (λ i. length i.1 < 2 ^ 32) }
     ensures reason { IfErr result (HasReason (IsPageWith (λ n. IsTrue P.is_known → index_of_file (P.history file.old.disk).now.reads ≡ Err n))
         (FaultCounted (P.faults file.old.disk) (P.faults file.new.disk))) }
+    ensures reads { IsTrue P.is_known → file.new.pool.reads ≤ file.old.pool.reads + whole_count (P.history file.old.disk).now.reads }
     ensures most { file.new.pool.most ≡ file.old.pool.most }
     ensures same { IsTrue P.is_known → P.history file.new.disk ≡ P.history file.old.disk }
     ensures cause { HasCause DiskFault (P.faults file.old.disk) (P.faults file.new.disk) result }

@@ -1,7 +1,7 @@
 //! The pages of a file, read through a pool.
 ghost use Rattle.std.specs.Prelude.{◌≡◌, ◌≤◌, ◌<◌, ◌+◌, ◌*◌, ◌^◌, Some, None, List, length, drop, true, is_some, option_map, IsTrue, IsSome, IfOk, IfSome, OnOk};
 ghost use Rattle.outside_traits.specs.Faults.{HasCause, failed};
-ghost use Rattle.page_store.specs.Pages.{ArePagesOf, is_kept, page_of};
+ghost use Rattle.page_store.specs.Pages.{ArePagesOf, KeepsPages, is_kept, page_of};
 ghost use Rattle.node_records.specs.Records.{record_bytes, record_of};
 ghost use Rattle.node_pages.specs.PageFiles.{IsIndex, file_page};
 ghost use Rattle.node_seq.specs.declared.node_read.SeqError.TheVariants.{DiskFault};
@@ -105,6 +105,7 @@ impl<P: Disk + Drop> PageFile<P> {
     pub fn fill(&mut self, alloc: Global, page: u32) -> Result<(), SeqError>
         requires within { IsTrue P.is_known → length (page_of page (P.history self.old.disk).now.reads) ≡ 8_192 }
         ensures there { OnOk result (is_kept page self.new.pool ≡ true) }
+        ensures others { KeepsPages page self.old.pool result self.new.pool }
         ensures reads { self.new.pool.reads ≤ self.old.pool.reads + 1 }
         ensures most { self.new.pool.most ≡ self.old.pool.most }
         ensures same { IsTrue P.is_known → P.history self.new.disk ≡ P.history self.old.disk }
@@ -137,7 +138,8 @@ impl<P: Disk + Drop> PageFile<P> {
         requires few { length starts.now < 2 ^ 32 }
         requires index { IsTrue P.is_known → IsIndex (file_page (P.history self.old.disk).now.reads) starts.now }
         ensures within { IfOk result (λ p. p.at ≤ 8_192) }
-        ensures parts { IfOk result (λ p. IsTrue P.is_known → Parts (file_page (P.history self.old.disk).now.reads) (length starts.now) (passes key.now beyond) p) }
+        ensures parts { IfOk result (λ p. IsTrue P.is_known
+            → Parts (file_page (P.history self.old.disk).now.reads) (length starts.now) (passes key.now beyond) p) }
         ensures reads { self.new.pool.reads ≤ self.old.pool.reads + 1 }
         ensures most { self.new.pool.most ≡ self.old.pool.most }
         ensures same { IsTrue P.is_known → P.history self.new.disk ≡ P.history self.old.disk }

@@ -7,7 +7,7 @@ ghost use Rattle.node_pages.specs.PageFiles.{contents_of_file};
 ghost use Rattle.node_seq.specs.Reads.{Finds, IsEntryOfTrees, IsKeyAbove, IsKeyBelow, IsKeyOfTrees, IsRecordOfTrees, LiesAbove, LiesBelow};
 ghost use Rattle.node_seq.specs.Reads.{key_above, key_below};
 ghost use Rattle.node_seq.specs.declared.node_read.SeqError.TheVariants.{DiskFault};
-ghost use Rattle.paged_seq.specs.PagedFiles.{AllPagesKeepRules, BreaksPages, HasReason, IfDamagedAtFirst};
+ghost use Rattle.paged_seq.specs.PagedFiles.{AllPagesKeepRules, BreaksPages, HasReason, IfDamagedAtFirst, whole_count};
 ghost use Rattle.paged_seq.specs.PagedMaps.{chunks_found, chunks_of_entry, file_entries, map_of_file, next_cost, prev_cost, valid_entries};
 
 use crate::opening::{PagesFault, read_index};
@@ -47,7 +47,7 @@ impl<P: Disk + Drop> Model for PagedSeq<P> {
 }
 
 impl<P: Disk + Drop> PagedSeq<P> {
-    /// The map of a file of pages. It reads each page once, and keeps those that the pool has room for and where each data page begins.
+    /// The map of a file of pages. It reads each page at most once, and keeps those that the pool has room for and where each data page begins.
     /// The pages that the pool has already are the disk's. The disk and the pool are handed back with a fault.
     pub fn open(alloc: Global, disk: P, pool: Pool) -> Result<PagedSeq<P>, PagesFault<P>>
         requires kept { IsTrue P.is_known → ArePagesOf (P.history disk).now.reads pool.kept }
@@ -59,8 +59,12 @@ impl<P: Disk + Drop> PagedSeq<P> {
         // The rules are those of one page each: that page breaks one, no page before it does, and in a file that opens none does.
         ensures first { IfErr result (λ refused. IfDamagedAtFirst P.is_known (P.history disk).now.reads refused.fault) }
         ensures whole { OnOk result (IsTrue P.is_known → AllPagesKeepRules (P.history disk).now.reads) }
-        ensures same { IsTrue P.is_known → MatchResult result (λ seq. P.history seq.disk ≡ P.history disk) (λ refused. P.history refused.disk ≡ P.history disk) }
+        ensures same { IsTrue P.is_known
+            → MatchResult result (λ seq. P.history seq.disk ≡ P.history disk) (λ refused. P.history refused.disk ≡ P.history disk) }
         ensures most { IfOk result (λ seq. seq.pool.most ≡ pool.most) }
+        // No more pages are read than have all their bytes, also where the file isn't opened.
+        ensures reads { IsTrue P.is_known → MatchResult result (λ seq. seq.pool.reads ≤ pool.reads + whole_count (P.history disk).now.reads)
+            (λ refused. refused.pool.reads ≤ pool.reads + whole_count (P.history disk).now.reads) }
         ensures faults { MatchResult result (λ seq. P.faults seq.disk ≡ P.faults disk) (λ refused. P.faults disk ≤ P.faults refused.disk) }
     {
         let mut file = PageFile::new(disk, pool);
@@ -182,7 +186,8 @@ impl<P: Disk + Drop> PagedSeq<P> {
     /// The entry with the least key above a key, of those that a valid tree may have.
     /// At most three pages are read, and one a chunk of the record. Each other entry that is passed over costs as much again.
     fn valid_above(&mut self, alloc: Global, key: &Key) -> Result<Option<(Key, Record)>, SeqError>
-        ensures value { IfOk result (λ found. IsTrue P.is_known → found ≡ first_above key.now (valid_entries (file_entries (P.history self.old.disk).now.reads))) }
+        ensures value { IfOk result (λ found. IsTrue P.is_known
+            → found ≡ first_above key.now (valid_entries (file_entries (P.history self.old.disk).now.reads))) }
         ensures above { IfOk result (LiesAbove key.now) }
         ensures valid { IfOk result IsEntryOfTrees }
         ensures pages { OnOk result (IsTrue P.is_known
@@ -206,7 +211,8 @@ impl<P: Disk + Drop> PagedSeq<P> {
     /// The entry with the greatest key below a key, of those that a valid tree may have.
     /// At most three pages are read, and one a chunk of the record. Each other entry that is passed over costs as much again.
     fn valid_below(&mut self, alloc: Global, key: &Key) -> Result<Option<(Key, Record)>, SeqError>
-        ensures value { IfOk result (λ found. IsTrue P.is_known → found ≡ last_below key.now (valid_entries (file_entries (P.history self.old.disk).now.reads))) }
+        ensures value { IfOk result (λ found. IsTrue P.is_known
+            → found ≡ last_below key.now (valid_entries (file_entries (P.history self.old.disk).now.reads))) }
         ensures below { IfOk result (LiesBelow key.now) }
         ensures valid { IfOk result IsEntryOfTrees }
         ensures pages { OnOk result (IsTrue P.is_known

@@ -1,11 +1,11 @@
-use Rattle.std.proofs.Common.{ℕ, ◌≡◌, ◌+◌, ◌-◌, IsTrue, subst, ◌∙◌, arith}
+use Rattle.std.proofs.Common.{ℕ, ◌≡◌, ◌≤◌, ◌+◌, ◌-◌, IsTrue, subst, ◌∙◌, arith}
 use Rattle.std.specs.Prelude.{Ok, Err}
 use Rattle.outside_traits.specs.Faults.{FaultCounted}
 use Rattle.outside_traits.specs.Moments.{History}
 use Rattle.node_pages.specs.PageFiles.{file_page}
 use Rattle.node_pages.specs.PagesIn.{after_pages}
-use Rattle.paged_seq.specs.PagedFiles.{HasReason, IsPageWith}
-use Rattle.paged_seq.proofs.OpenLaws.{err_out, one_broken, one_taken, reason_on}
+use Rattle.paged_seq.specs.PagedFiles.{HasReason, IsPageWith, whole_below}
+use Rattle.paged_seq.proofs.OpenLaws.{err_out, one_broken, one_taken, read_on, read_within, reason_on}
 use Rattle.paged_seq.proofs.opening.take_pages.Goals as goal
 
 pub loop-page-preserved : goal.loop-page-preserved
@@ -16,6 +16,10 @@ loop-page-preserved g c =
       same = λ known. c.take_page.ensures.same known ∙ inv.same known;
       faults = c.in_ok-take_page.ensures.cause.exact ∙ inv.faults;
       most = c.take_page.ensures.most ∙ inv.most;
+      reads = λ known.
+          let step = subst (λ (h : History). c.take_page.new.file.pool.reads + whole_below c.loop-page.page h.now.reads ≤ c.loop-page.file.pool.reads + whole_below (c.loop-page.page + 1) h.now.reads)
+          (inv.same known) (c.take_page.ensures.reads known) in
+          read_on c.args.first c.loop-page.page (c.loop-page.page + 1) (g.P.Disk.history c.args.file.now.disk).now.reads c.args.file.now.pool.reads c.loop-page.file.pool.reads c.take_page.new.file.pool.reads (inv.reads known) step;
       taken = λ known.
           let page = file_page (g.P.Disk.history c.args.file.now.disk).now.reads in
           let end = c.args.first + c.args.pages in
@@ -44,3 +48,13 @@ returns-in_err-take_page-clause-reason g c =
 
 pub returns-in_err-take_page-clause-most : goal.returns-in_err-take_page-clause-most
 returns-in_err-take_page-clause-most g c = c.take_page.ensures.most ∙ c.loop-page.invariant.most
+
+pub returns-in_err-take_page-clause-reads : goal.returns-in_err-take_page-clause-reads
+returns-in_err-take_page-clause-reads g c known =
+    let inv = c.loop-page.invariant in
+    let less = c.loop-page-test.true in
+    let file = (g.P.Disk.history c.args.file.now.disk).now.reads in
+    let n = c.loop-page.page in
+    let step = subst (λ (h : History). c.take_page.new.file.pool.reads + whole_below n h.now.reads ≤ c.loop-page.file.pool.reads + whole_below (n + 1) h.now.reads) (inv.same known) (c.take_page.ensures.reads known) in
+    read_within c.args.first (n + 1) (c.args.first + c.args.pages) file c.args.file.now.pool.reads c.take_page.new.file.pool.reads (omega (arith, less))
+    (read_on c.args.first n (n + 1) file c.args.file.now.pool.reads c.loop-page.file.pool.reads c.take_page.new.file.pool.reads (inv.reads known) step)
