@@ -5,6 +5,7 @@ mod TreeWalks
 mod NodeWalks
 mod SingleLooks
 mod ReadCounts
+mod RowLimits
 mod TreeLooks
 pub mod Running
 mod LabelWays

@@ -114,6 +114,14 @@ one_left reach l t out c r v i w =
     let m = within reach l t _ _ g.on in
     omega (arith, n, m)
 
+-- what comes next of a row, and what stands behind that
+pub coming : (l : Label) (t : Tree) (out : List Position) (c : Label) (r : Record) → IsValidTree t → is_label l ≡ true → Left Children l t out (Some (c, r))
+    → (rest : List Position) × ((out ++ a_node c r ∷ []) ++ rest ≡ row_seen (below (at l t.documents)))
+coming l t out c r v i w =
+    let g = goes Children l t out (node_key c, r) v i w.0 w.1 in
+    let rest : List Position = row_seen g.on.rest in
+    (rest, subst (λ (x : Key × Record). (out ++ a_node x.0.label x.1 ∷ []) ++ rest ≡ row_seen (below (at l t.documents))) (sym g.entry) g.on.gathered)
+
 -- ---- its beginning
 
 -- no entry lies under a label that is no place's

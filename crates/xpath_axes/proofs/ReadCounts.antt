@@ -9,7 +9,7 @@ pub plain_pushed : (ps : List Position) (p : Position) → all_plain (ps ++ p �
 plain_pushed [] p = refl
 plain_pushed (q ∷ ps) p = ap (λ (xs : List path.Position). plain q ∷ xs) (plain_pushed ps p)
 
-plain_length : (ps : List Position) → length (all_plain ps) ≡ length ps
+pub plain_length : (ps : List Position) → length (all_plain ps) ≡ length ps
 plain_length [] = refl
 plain_length (p ∷ ps) = ap suc (plain_length ps)
 

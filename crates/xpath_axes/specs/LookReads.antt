@@ -1,11 +1,18 @@
 -- How many reads of the map a look makes at most.
-use Rattle.std.specs.Prelude.{ℕ, ◌+◌, ◌≤◌, length, Option}
+use Rattle.std.specs.Prelude.{ℕ, zero, suc, ◌+◌, ◌≤◌, Bool, if◌then◌else◌, List, [], ◌∷◌, length, Option}
 use Rattle.tree_model.specs.Entries.{Entries}
 use Rattle.tree_model.specs.Tree.{Tree}
 use Rattle.node_seq.specs.Trees.{StandsFor}
+use Rattle.path_model.specs.Positions.{Position}
 use Rattle.path_model.specs.Programs.{Look, seen}
 
 -- the count of reads rose by no more than one for each position that the look sees of the tree that the known map stands for, and one,
 -- however the call ended
 abbrev pub ReadsOfLook : Option Entries → Look → ℕ → ℕ → Type 0
 ReadsOfLook contents o before after = (t : Tree) → StandsFor contents t → after ≤ before + (length (seen t o) + 1)
+
+-- of positions those up to the last that is wanted, of so many that pass a test; all where fewer pass
+abbrev pub up_to : (Position → Bool) → ℕ → List Position → List Position
+up_to q zero ns = []
+up_to q (suc k) [] = []
+up_to q (suc k) (n ∷ ns) = n ∷ (if q n then up_to q k ns else up_to q (suc k) ns)

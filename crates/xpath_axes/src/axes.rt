@@ -1,7 +1,8 @@
 //! The axes (XPath 1.0, section 2.2): which positions lie on one from a position, in its order.
-ghost use Rattle.std.specs.Prelude.{◌≡◌, ◌∷◌, [], ◌++◌, IfOk, OnOk, reverse};
+ghost use Rattle.std.specs.Prelude.{◌≡◌, ◌∷◌, [], ◌++◌, IfOk, OnOk, reverse, take};
 ghost use Rattle.std.specs.List.{filter};
 ghost use Rattle.outside_traits.specs.Faults.{HasCause};
+ghost use Rattle.path_model.specs.declared.path.Axis.TheVariants as kinds;
 ghost use Rattle.path_model.specs.Positions as path;
 ghost use Rattle.path_model.specs.AxisPrograms as program;
 ghost use Rattle.path_model.specs.Programs.{ends, and_then};
@@ -10,7 +11,9 @@ ghost use Rattle.xpath_axes.specs.Runs.{Runs};
 ghost use Rattle.xpath_axes.specs.inside.Beside.{is_on, in_turn, labels_above, lies_on};
 
 use crate::labels::{document_label, labels_up, lies_left, lies_right, lies_under, parent_label};
-use crate::noted::{see_attribute, see_attributes, see_below, see_node, see_row, see_tree};
+use crate::noted::{
+    see_attribute, see_attributes, see_below, see_node, see_row, see_row_up_to, see_tree,
+};
 use crate::position::only;
 use crate::{Looks, Position};
 use dewey_labels::{Label, List, NoMemory};
@@ -36,6 +39,54 @@ pub fn axis<S: NodeRead, W: Looks>(
 {
     let found = along(alloc, axis, test, from, seq, looks)?;
     Ok(passing(alloc, axis, test, found)?)
+}
+
+/// The first positions on an axis that pass the node test, as many as there is room for, in the axis's order. What is looked at is that of the axis;
+/// of children no more are read than up to the last of them, and one.
+pub fn axis_up_to<S: NodeRead, W: Looks>(
+    alloc: Global,
+    of: Axis,
+    test: &NodeTest,
+    room: usize,
+    from: &Position,
+    seq: &mut S,
+    looks: &mut W,
+) -> Result<List<Position>, SeqError>
+    ensures run { Runs S.reads W.saw S.contents
+        (and_then (program.along of test.now (plain from.now)) (λ s. ends (take room (filter (path.passes of test.now) s)))) all_plain
+        seq.old looks.old result seq.new looks.new }
+    ensures unchanged { S.unchanged seq.old seq.new }
+    ensures cause { HasCause SeqError.DiskFault (S.count seq.old) (S.count seq.new) result }
+{
+    match of {
+        Axis::Child => children_up_to(alloc, test, room, from, seq, looks),
+        _ => {
+            let mut found = axis(alloc, of, test, from, seq, looks)?;
+            found.truncate(room);
+            Ok(found)
+        }
+    }
+}
+
+/// The first children that pass a node test.
+fn children_up_to<S: NodeRead, W: Looks>(
+    alloc: Global,
+    test: &NodeTest,
+    room: usize,
+    from: &Position,
+    seq: &mut S,
+    looks: &mut W,
+) -> Result<List<Position>, SeqError>
+    ensures run { Runs S.reads W.saw S.contents
+        (and_then (program.children (plain from.now)) (λ s. ends (take room (filter (path.passes kinds.Child test.now) s)))) all_plain
+        seq.old looks.old result seq.new looks.new }
+    ensures unchanged { S.unchanged seq.old seq.new }
+    ensures cause { HasCause SeqError.DiskFault (S.count seq.old) (S.count seq.new) result }
+{
+    match from {
+        Position::Node(label, _) => see_row_up_to(alloc, label, test, room, seq, looks),
+        Position::Attribute(..) => Ok(List::new(alloc)),
+    }
 }
 
 /// The positions that pass the test of a step along an axis.

@@ -1,20 +1,24 @@
 //! The looks at nodes: one, its children, and all from it down.
-ghost use Rattle.std.specs.Prelude.{◌≡◌, ◌≤◌, ◌+◌, ◌++◌, false, length, IfOk, None};
+ghost use Rattle.std.specs.Prelude.{◌≡◌, ◌≤◌, ◌+◌, ◌∷◌, [], ◌++◌, false, length, take, IfOk, OnOk, None};
+ghost use Rattle.std.specs.List.{filter};
 ghost use Rattle.tree_model.specs.Entries.{first_above};
 ghost use Rattle.tree_model.specs.inside.Seeks.{behind_attributes};
 ghost use Rattle.tree_model.specs.Places.{is_root};
 ghost use Rattle.tree_model.specs.Tree.{Tree, at as node_at};
 ghost use Rattle.node_seq.specs.Trees.{OnTree, StandsFor};
 ghost use Rattle.outside_traits.specs.Faults.{HasCause};
+ghost use Rattle.path_model.specs.declared.path.Axis.TheVariants as along;
+ghost use Rattle.path_model.specs.Positions as path;
 ghost use Rattle.path_model.specs.Programs as look;
-ghost use Rattle.xpath_axes.specs.Positions.{all_plain};
-ghost use Rattle.xpath_axes.specs.LookReads.{ReadsOfLook};
+ghost use Rattle.xpath_axes.specs.Positions.{plain, all_plain};
+ghost use Rattle.xpath_axes.specs.LookReads.{ReadsOfLook, up_to};
 ghost use Rattle.xpath_axes.specs.inside.Walks.{behind_key, node_under, nodes_below};
 
 use crate::Position;
 use crate::position::only;
 use dewey_labels::{Label, List, NoMemory};
 use node_seq::{NodeRead, SeqError};
+use path_model::{Axis, NodeTest};
 use std::alloc::Global;
 use tree_model::{Key, Record};
 
@@ -55,6 +59,56 @@ pub fn at_row<S: NodeRead>(
         return Ok(children);
     }
     below(alloc, at, Reach::Children, children, seq)
+}
+
+/// The first children of a node that pass a node test, as many as there is room for; none where there is no such node.
+/// One read a child up to the last of them, and one more where fewer pass.
+pub fn at_row_up_to<S: NodeRead>(
+    alloc: Global,
+    at: &Label,
+    test: &NodeTest,
+    room: usize,
+    seq: &mut S,
+) -> Result<List<Position>, SeqError>
+    ensures seen { OnTree (S.contents seq.old) result (λ t found.
+        all_plain found ≡ take room (filter (path.passes along.Child test.now) (look.seen t (look.at_row at.now)))) }
+    ensures unchanged { S.unchanged seq.old seq.new }
+    ensures reads { (t : Tree) → StandsFor (S.contents seq.old) t
+        → S.reads seq.new ≤ S.reads seq.old + (length (up_to (path.passes along.Child test.now) room (look.seen t (look.at_row at.now))) + 1) }
+    ensures cause { HasCause SeqError.DiskFault (S.count seq.old) (S.count seq.new) result }
+{
+    let mut found = List::new(alloc);
+    // The root is no node: below it lie the documents.
+    if is_root(at) {
+        return Ok(found);
+    }
+    if room == 0 {
+        return Ok(found);
+    }
+    // They tell that it is a label, and so is each one that is found.
+    let _divisions = at.divisions();
+    let key = Key::behind_attributes(alloc, at)?;
+    let mut next = node_under(at, seq.next_from(alloc, &key)?);
+    while let Some((label, record)) = next {
+        let _divisions = label.divisions();
+        let key = Key::behind_tree(alloc, &label)?;
+        put_passing(&mut found, Position::Node(label, record), test)?;
+        if found.len() == room {
+            return Ok(found);
+        }
+        next = node_under(at, seq.next_from(alloc, &key)?);
+    }
+    Ok(found)
+}
+
+/// Puts a child at the end where it passes the test.
+fn put_passing(found: &mut List<Position>, child: Position, test: &NodeTest) -> Result<(), NoMemory>
+    ensures { OnOk result (all_plain found.new ≡ all_plain found.old ++ filter (path.passes along.Child test.now) (plain child ∷ [])) }
+{
+    if child.passes(Axis::Child, test) {
+        found.push(child)?;
+    }
+    Ok(())
 }
 
 /// A node and all that lie under it, in document order; none where there is no such node. One read a node and one more, whatever attributes they have.
