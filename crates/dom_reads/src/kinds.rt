@@ -1,5 +1,6 @@
 //! The kinds of nodes, told by their records (DOM Level 3 Core, interface Node).
 ghost use Rattle.std.specs.Prelude.{◌≡◌, Some};
+ghost use Rattle.tree_model.specs.NodeKinds.{is_text_record};
 ghost use Rattle.tree_model.specs.StoredTree.{is_document_record, is_element_record};
 
 use tree_model::Record;
@@ -16,4 +17,11 @@ pub fn is_element(node: &Record) -> bool
     ensures { result ≡ is_element_record (Some node.now) }
 {
     matches!(node, Record::Element(_))
+}
+
+/// Whether a node's record is a text's, which has no children.
+pub fn is_text(node: &Record) -> bool
+    ensures { result ≡ is_text_record (Some node.now) }
+{
+    matches!(node, Record::Text(_))
 }
