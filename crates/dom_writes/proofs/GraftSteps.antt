@@ -1,5 +1,5 @@
 -- A fragment that is placed, child by child: what stands of its entries, limits and levels before each child.
-use Rattle.std.proofs.Common.{◌≡◌, ◌≤◌, ℕ, ◌+◌, ◌%◌, cond, true≢false, true, false, ◌&&◌, nat_le, nat_lt, List, [], ◌∷◌, ◌++◌, refl, sym, ap, subst, ◌∙◌, append-nil, arith}
+use Rattle.std.proofs.Common.{◌≡◌, ◌≤◌, ℕ, ◌+◌, ◌%◌, cond, true≢false, true, false, ◌&&◌, nat_le, nat_lt, List, [], ◌∷◌, ◌++◌, refl, sym, ap, ◌∙◌, append-nil, arith}
 use Rattle.std.proofs.lemmas.Bool.Decides.{nat_tests}
 use Rattle.std.proofs.lemmas.List.{map-append}
 use Rattle.dewey_labels.specs.Labels.{Label, IsLabel, greatest, is_code, is_odd, most_divisions, is_within}
@@ -7,7 +7,7 @@ use Rattle.dewey_labels.proofs.Labels.{child_label}
 use Rattle.dewey_labels.proofs.Limits.{within_of_test}
 use Rattle.dewey_labels.specs.NewLabels.{first_division}
 use Rattle.dewey_labels.proofs.Codes.{code_cases, eq_is, first_of_both, is_child_append, second_of_both}
-use Rattle.tree_model.specs.declared.fragment.Fragment.{Fragment, ind-Fragment, fold-roll-Fragment, map-Fragment}
+use Rattle.tree_model.specs.declared.fragment.Fragment.{Fragment}
 use Rattle.tree_model.specs.declared.fragment.Fragment.TheVariants as fragment
 use Rattle.tree_model.specs.declared.fragment.Fragment.TheOpen.{Fragment-F}
 use Rattle.tree_model.specs.declared.record.Record.{Record}
@@ -16,13 +16,9 @@ use Rattle.tree_model.specs.Fragments.{Fragments, no_more, in_a_row, put_before,
 use Rattle.tree_model.specs.Graft.{all_within, graft, graft_below}
 use Rattle.tree_model.specs.Names.{Name}
 use Rattle.tree_model.specs.Tree.{Attributes, none, attr_entry, own, entries_of}
-use Rattle.tree_model.specs.inside.GraftLimits.{fit_at, fit_below}
+use Rattle.tree_model.specs.GraftLimits.{fit_at, fit_below}
 use Rattle.tree_model.proofs.Lists.{all_behind}
-use Rattle.tree_model.proofs.PlainFragments.{plain-Element}
-
--- what holds of all that may be put before a row holds of what a fragment puts there
-pub by_put : (P : (Fragments → Fragments) → Type 0) → ((x : Fragment-F (Fragments → Fragments)) → P (put_before x)) → (f : Fragment) → P (before_row f)
-by_put P h = ind-Fragment (λ f. P (before_row f)) (λ x y e. subst P (sym (fold-roll-Fragment (Fragments → Fragments) put_before x)) (h (map-Fragment Fragment (Fragments → Fragments) before_row x)))
+use Rattle.tree_model.proofs.PlainFragments.{by_put, plain-Element}
 
 -- ---- entries
 

@@ -34,7 +34,7 @@ use Rattle.tree_model.specs.Places.{attributes_at, last_in}
 use Rattle.tree_model.specs.Records.{is_data}
 use Rattle.tree_model.specs.Tree.{none, Tree, beside, entries_of, map_of}
 use Rattle.tree_model.specs.ValidTrees.{IsValidTree, KeysRise, LimitsKept}
-use Rattle.tree_model.specs.inside.GraftLimits.{fit_at}
+use Rattle.tree_model.specs.GraftLimits.{fit_at}
 use Rattle.tree_model.proofs.Creates.{create_refused}
 use Rattle.tree_model.proofs.Grafts.{and_true, fits-graft_below, keys-graft, limits-graft}
 use Rattle.tree_model.proofs.Lists.{all_on}
@@ -42,12 +42,13 @@ use Rattle.tree_model.proofs.Seeks.{later_above}
 use Rattle.tree_model.proofs.Sorted.{entries_sorted}
 use Rattle.tree_model.proofs.Split.{Labelled, SideIs, all_under}
 use Rattle.tree_model.proofs.WholeTree.{beside_root}
+use Rattle.tree_model.proofs.PlainFragments.{by_put}
 use Rattle.tree_changes.proofs.DocumentLaws.{create_differences}
 use Rattle.node_seq.specs.ChangeLists.{IsChangeList}
 use Rattle.dom_writes.specs.inside.NewDocuments.{SuitsOrRefused, changes, entries, is_deep, within_limits}
 use Rattle.dom_writes.specs.inside.NewPlaces.{answer}
 use Rattle.dom_writes.proofs.GraftChanges.{forest_valid, puts_are_changes}
-use Rattle.dom_writes.proofs.GraftSteps.{by_put, child_fits, child_is_label, child_within}
+use Rattle.dom_writes.proofs.GraftSteps.{child_fits, child_is_label, child_within}
 use Rattle.dom_writes.proofs.PlacedCalls.{none_changed}
 
 -- ---- a label's text may stand as a value

@@ -1,5 +1,5 @@
 -- The changes that join the texts of a run, and those of all runs, one after another.
-use Rattle.std.proofs.Common.{◌≡◌, Bool, true, false, cond, ℕ, List, [], ◌∷◌, ◌++◌, map, Less, Greater, is_lt, is_eq, Result, Ok, Err, IfOk, ◌==◌, length, true≢false, refl, sym, ap, subst, ◌∙◌, append_assoc, append-nil}
+use Rattle.std.proofs.Common.{◌≡◌, Bool, true, false, cond, ℕ, List, [], ◌∷◌, ◌++◌, map, Less, Greater, is_lt, is_eq, Result, Ok, Err, IfOk, ◌==◌, length, true≢false, Some, refl, sym, ap, subst, ◌∙◌, append_assoc, append-nil}
 use Rattle.std.proofs.lemmas.Slice.Eq.{bytes_eq-Decides}
 use Rattle.std.specs.List.{AllByRecursion}
 use Rattle.tree_model.specs.declared.change.Change.{Change}
@@ -9,13 +9,14 @@ use Rattle.tree_model.specs.declared.record.Record.TheVariants.{Attr, Document, 
 use Rattle.tree_model.specs.Keys.{key_cmp}
 use Rattle.tree_model.specs.Entries.{Entries, Above, Sorted, get, entries_below, entries_above}
 use Rattle.tree_model.specs.Changes.{differences, drop_change, put_unless, same_record, stands}
+use Rattle.tree_model.specs.NodeKinds.{is_text_record}
 use Rattle.tree_model.proofs.Entries.{beyond_all, get_here, get_skip, sorted_behind}
 use Rattle.tree_model.proofs.Keys.{key_itself, key_turned}
 use Rattle.tree_model.proofs.Lists.{all_append, all_behind, all_before, all_on}
 use Rattle.tree_changes.proofs.ChangeLists.{no_differences}
 use Rattle.node_seq.specs.ChangeLists.{PutsValidEntry}
 use Rattle.dom_reads.specs.inside.Gathered.{texts_in}
-use Rattle.dom_writes.specs.inside.NormalTexts.{is_text, joins_first, IsRun, joining, past_joining, first_run, behind_run, text_at, joined_run, joined, IsValidText, run_changes}
+use Rattle.dom_writes.specs.inside.NormalTexts.{joins_first, IsRun, joining, past_joining, first_run, behind_run, text_at, joined_run, joined, IsValidText, run_changes}
 use Rattle.dom_writes.proofs.NormalRuns.{all_joined, joined_before, joining_all, parts_rise, rest_apart, run_and_rest, sorted_first}
 
 -- ---- the first entry of two maps
@@ -71,7 +72,7 @@ none_above [] = tt
 none_above (e ∷ es) = (tt, none_above es)
 
 -- by itself
-pub run_alone : (e : Key × Record) (r : Entries) → Sorted (e ∷ r) → is_text e.1 ≡ true → differences (e ∷ r) (joined_run (e ∷ r)) ≡ run_changes e r (texts_in (e ∷ r))
+pub run_alone : (e : Key × Record) (r : Entries) → Sorted (e ∷ r) → is_text_record (Some e.1) ≡ true → differences (e ∷ r) (joined_run (e ∷ r)) ≡ run_changes e r (texts_in (e ∷ r))
 run_alone e r s t =
     let d : List ℕ = texts_in (e ∷ r) in
     ap (λ b. differences (e ∷ r) (cond b (text_at e.0 d) (e ∷ r))) t
@@ -94,16 +95,16 @@ kept (x ∷ xs) es fs s =
 
 -- ---- one entry by itself
 
-pub not_text : (r : Record) → ((d : List ℕ) → r ≡ Text d → ⊥) → is_text r ≡ false
+pub not_text : (r : Record) → ((d : List ℕ) → r ≡ Text d → ⊥) → is_text_record (Some r) ≡ false
 not_text Document h = refl
 not_text (Element n) h = refl
 not_text (Text d) h = absurd (h d refl)
 not_text (Attr v) h = refl
 
-pub other_valid : (e : Key × Record) → is_text e.1 ≡ false → AllByRecursion IsValidText (joined_run (e ∷ []))
+pub other_valid : (e : Key × Record) → is_text_record (Some e.1) ≡ false → AllByRecursion IsValidText (joined_run (e ∷ []))
 other_valid e t = subst (λ b. AllByRecursion IsValidText (cond b (text_at e.0 (texts_in (e ∷ []))) (e ∷ []))) (sym t) (λ h. absurd (true≢false (sym h ∙ t)), tt)
 
-pub other_alone : (e : Key × Record) → is_text e.1 ≡ false → differences (e ∷ []) (joined_run (e ∷ [])) ≡ []
+pub other_alone : (e : Key × Record) → is_text_record (Some e.1) ≡ false → differences (e ∷ []) (joined_run (e ∷ [])) ≡ []
 other_alone e t = ap (λ b. differences (e ∷ []) (cond b (text_at e.0 (texts_in (e ∷ []))) (e ∷ []))) t ∙ no_differences (e ∷ []) (tt, tt)
 
 pub text_alone : (k : Key) (r : Record) (d : List ℕ) → r ≡ Text d → (length d == 0) ≡ false → differences ((k, r) ∷ []) (joined_run ((k, r) ∷ [])) ≡ []
@@ -119,7 +120,7 @@ text_alone k r d is h = ap (λ v. differences ((k, v) ∷ []) (joined_run ((k, v
 -- before what it doesn't join
 run_then : (e : Key × Record) (r ys : Entries) → Sorted ((e ∷ r) ++ ys) → IsRun (e ∷ r) → joins_first e ys ≡ false
     → differences ((e ∷ r) ++ ys) (joined ((e ∷ r) ++ ys)) ≡ differences (e ∷ r) (joined_run (e ∷ r)) ++ differences ys (joined ys)
-run_then e r ys s one h = ap (differences ((e ∷ r) ++ ys)) (joined_before e r ys one h) ∙ by (is_text e.1) refl
+run_then e r ys s one h = ap (differences ((e ∷ r) ++ ys)) (joined_before e r ys one h) ∙ by (is_text_record (Some e.1)) refl
   where
     first : Sorted (e ∷ r)
     first = sorted_first (e ∷ r) ys s
@@ -128,7 +129,7 @@ run_then e r ys s one h = ap (differences ((e ∷ r) ++ ys)) (joined_before e r 
     rise = all_on (λ x. AllByRecursion (Above x.0) ys) (λ x. AllByRecursion (Above x.0) (joined ys)) (λ x g. all_joined (λ k. key_cmp x.0 k ≡ Less) ys g) (e ∷ r)
         (parts_rise (e ∷ r) ys s)
 
-    by : (b : Bool) → is_text e.1 ≡ b → differences ((e ∷ r) ++ ys) (joined_run (e ∷ r) ++ joined ys) ≡ differences (e ∷ r) (joined_run (e ∷ r)) ++ differences ys (joined ys)
+    by : (b : Bool) → is_text_record (Some e.1) ≡ b → differences ((e ∷ r) ++ ys) (joined_run (e ∷ r) ++ joined ys) ≡ differences (e ∷ r) (joined_run (e ∷ r)) ++ differences ys (joined ys)
     by true t =
         ap (λ b. differences ((e ∷ r) ++ ys) (cond b (text_at e.0 (texts_in (e ∷ r))) (e ∷ r) ++ joined ys)) t
         ∙ text_run e r ys (joined ys) (texts_in (e ∷ r)) s rise
@@ -141,7 +142,7 @@ run_then e r ys s one h = ap (differences ((e ∷ r) ++ ys)) (joined_before e r 
 -- where its texts are valid, what is put is
 pub run_puts : (r : Entries) → Sorted r → AllByRecursion IsValidText (joined_run r) → AllByRecursion PutsValidEntry (differences r (joined_run r))
 run_puts [] s v = tt
-run_puts (e ∷ r) s v = by (is_text e.1) refl
+run_puts (e ∷ r) s v = by (is_text_record (Some e.1)) refl
   where
     drops : (es : Entries) → AllByRecursion PutsValidEntry (map drop_change es)
     drops [] = tt
@@ -154,7 +155,7 @@ run_puts (e ∷ r) s v = by (is_text e.1) refl
       | false ↦ (g.0 refl, drops r)
     ]
 
-    by : (b : Bool) → is_text e.1 ≡ b → AllByRecursion PutsValidEntry (differences (e ∷ r) (joined_run (e ∷ r)))
+    by : (b : Bool) → is_text_record (Some e.1) ≡ b → AllByRecursion PutsValidEntry (differences (e ∷ r) (joined_run (e ∷ r)))
     by true t = subst (AllByRecursion PutsValidEntry) (sym (run_alone e r s t)) (puts (texts_in (e ∷ r)) (subst (λ b. AllByRecursion IsValidText (cond b (text_at e.0 (texts_in (e ∷ r))) (e ∷ r))) t v))
     by false t = subst (AllByRecursion PutsValidEntry) (sym (ap (λ b. differences (e ∷ r) (cond b (text_at e.0 (texts_in (e ∷ r))) (e ∷ r))) t ∙ no_differences (e ∷ r) s)) tt
 

@@ -9,13 +9,13 @@ use Rattle.tree_model.specs.declared.record.Record.{Record}
 use Rattle.tree_model.specs.declared.record.Record.TheVariants.{Attr, Document, Element, Text}
 use Rattle.tree_model.specs.Entries.{Entries}
 use Rattle.tree_model.specs.Keys.{node_key}
-use Rattle.tree_model.specs.NodeKinds.{is_text_node}
+use Rattle.tree_model.specs.NodeKinds.{is_text_node, is_text_record}
 use Rattle.tree_model.specs.Texts.{join_text, normal}
 use Rattle.tree_model.specs.Tree.{Attributes, Forest, none, node, attr_entry, own, entries_of}
 use Rattle.tree_model.specs.ValidTrees.{KeysRise, KindsAllowed}
 use Rattle.tree_model.proofs.Lists.{all_append, all_on}
 use Rattle.dom_reads.specs.inside.Gathered.{texts_in}
-use Rattle.dom_writes.specs.inside.NormalTexts.{is_text, joins, joins_first, IsRun, text_at, joined}
+use Rattle.dom_writes.specs.inside.NormalTexts.{joins, joins_first, IsRun, text_at, joined}
 use Rattle.dom_writes.proofs.NormalRuns.{joined_before, joined_apart, joined_no_text}
 
 -- ---- the texts that head a row, and the row behind them
@@ -99,7 +99,7 @@ lead_first q (node l (Attr v) ats ch nx) k = refl
 
 -- a text on a level
 record IsTextOn (n : ℕ) (e : Key × Record) : Type 0 where
-  text : is_text e.1 ≡ true
+  text : is_text_record (Some e.1) ≡ true
   here : level e.0.label ≡ n
 
 lead_on_level : (p b : Label) (f : Forest) → is_label p ≡ true → KeysRise p b f → AllByRecursion (IsTextOn (level p + 1)) (lead_entries f)
@@ -123,9 +123,9 @@ one_run p l d es e h = all_on (IsTextOn (level p + 1)) (λ x. joins (node_key l,
 none_joins : (x : Key × Record) (f : Forest) → joins_first x (entries_of (past_lead f)) ≡ false
 none_joins x none = refl
 none_joins x (node l (Text d) ats ch nx) = none_joins x nx
-none_joins x (node l Document ats ch nx) = elim (is_text x.1) as (λ b. ((b && false) && (level x.0.label == level l)) ≡ false) [ true ↦ refl | false ↦ refl ]
-none_joins x (node l (Element n) ats ch nx) = elim (is_text x.1) as (λ b. ((b && false) && (level x.0.label == level l)) ≡ false) [ true ↦ refl | false ↦ refl ]
-none_joins x (node l (Attr v) ats ch nx) = elim (is_text x.1) as (λ b. ((b && false) && (level x.0.label == level l)) ≡ false) [ true ↦ refl | false ↦ refl ]
+none_joins x (node l Document ats ch nx) = elim (is_text_record (Some x.1)) as (λ b. ((b && false) && (level x.0.label == level l)) ≡ false) [ true ↦ refl | false ↦ refl ]
+none_joins x (node l (Element n) ats ch nx) = elim (is_text_record (Some x.1)) as (λ b. ((b && false) && (level x.0.label == level l)) ≡ false) [ true ↦ refl | false ↦ refl ]
+none_joins x (node l (Attr v) ats ch nx) = elim (is_text_record (Some x.1)) as (λ b. ((b && false) && (level x.0.label == level l)) ≡ false) [ true ↦ refl | false ↦ refl ]
 
 -- attributes stay
 joined_attributes : (l : Label) (ats : Attributes) (es : Entries) → joined (map (attr_entry l) ats ++ es) ≡ map (attr_entry l) ats ++ joined es
@@ -155,7 +155,7 @@ below_apart p l ch nx h c w v = all_on (λ e. level l < level e.0.label) (λ x. 
     by none v x g = refl
     by (node m r ats ch2 nx2) v x g =
         let lower : level m < level x.0.label = (let one = level_of_child p l h c in let two = level_of_child p m h v.0 in omega (arith, one, two, g)) in
-        elim (is_text x.1 && is_text r) as (λ b. (b && (level x.0.label == level m)) ≡ false) [ true ↦ other_level (level x.0.label) (level m) lower | false ↦ refl ]
+        elim (is_text_record (Some x.1) && is_text_record (Some r)) as (λ b. (b && (level x.0.label == level m)) ≡ false) [ true ↦ other_level (level x.0.label) (level m) lower | false ↦ refl ]
 
 -- ---- a row joined
 
@@ -165,7 +165,7 @@ record IsJoined (f : Forest) : Type 0 where
   past : joined (entries_of (past_lead f)) ≡ entries_of (normal (past_lead f))
 
 -- a node that is no text
-kept_node : (p l : Label) (r : Record) (ats : Attributes) (ch nx : Forest) → is_text r ≡ false → is_label p ≡ true → Rattle.dewey_labels.specs.Labels.is_child p l ≡ true
+kept_node : (p l : Label) (r : Record) (ats : Attributes) (ch nx : Forest) → is_text_record (Some r) ≡ false → is_label p ≡ true → Rattle.dewey_labels.specs.Labels.is_child p l ≡ true
     → KeysRise l l ch → KeysRise p l nx → joined (entries_of ch) ≡ entries_of (normal ch) → joined (entries_of nx) ≡ entries_of (normal nx)
     → joined (entries_of (node l r ats ch nx)) ≡ entries_of (node l r ats (normal ch) (normal nx))
 kept_node p l r ats ch nx t h c w v here behind =

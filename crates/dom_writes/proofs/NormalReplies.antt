@@ -13,7 +13,7 @@ use Rattle.tree_model.specs.declared.refusal.Refusal.TheVariants.{Dom, TextLimit
 use Rattle.tree_model.specs.declared.reply.Reply.TheVariants.{Nothing, Refused}
 use Rattle.tree_model.specs.Changes.{differences}
 use Rattle.tree_model.specs.Limits.{is_too_long, most_text_bytes}
-use Rattle.tree_model.specs.NodeKinds.{is_text_node}
+use Rattle.tree_model.specs.NodeKinds.{is_text_node, is_text_record}
 use Rattle.tree_model.specs.Outcomes.{Outcome, is_refused, not_found_err, refused, see_in}
 use Rattle.tree_model.specs.Records.{is_data}
 use Rattle.tree_model.specs.Texts.{normal, normalize, normalize_in, texts_fit}
@@ -28,7 +28,7 @@ use Rattle.tree_model.proofs.WholeTree.{map_sorted}
 use Rattle.tree_changes.proofs.ChangeLists.{no_differences}
 use Rattle.tree_changes.proofs.ContentLaws.{normalize_differences, normalize_of_text}
 use Rattle.tree_changes.proofs.NormalTexts.{normal_keys, normal_limits}
-use Rattle.dom_writes.specs.inside.NormalTexts.{is_text, joined, IsValidText}
+use Rattle.dom_writes.specs.inside.NormalTexts.{joined, IsValidText}
 use Rattle.dom_writes.proofs.EntriesBelow.{keys_below}
 use Rattle.dom_writes.proofs.NormalForests.{entries_joined}
 
@@ -108,21 +108,21 @@ module _ (l : Label) (t : Tree) (w : IsValidTree t) where
       by none q = refl
       by (node m s ats ch nx) q = cc
 
-  text_found : (r : Record) → Some r ≡ record_of (at l t.documents) → is_text_node (at l t.documents) ≡ is_text r
+  text_found : (r : Record) → Some r ≡ record_of (at l t.documents) → is_text_node (at l t.documents) ≡ is_text_record (Some r)
   text_found r h = by (at l t.documents) h
     where
-      kind : (m : Label) (s : Record) (ats : Attributes) (ch nx : Forest) → is_text_node (node m s ats ch nx) ≡ is_text s
+      kind : (m : Label) (s : Record) (ats : Attributes) (ch nx : Forest) → is_text_node (node m s ats ch nx) ≡ is_text_record (Some s)
       kind m Document ats ch nx = refl
       kind m (Element n) ats ch nx = refl
       kind m (Text d) ats ch nx = refl
       kind m (Attr v) ats ch nx = refl
 
-      by : (g : Forest) → Some r ≡ record_of g → is_text_node g ≡ is_text r
+      by : (g : Forest) → Some r ≡ record_of g → is_text_node g ≡ is_text_record (Some r)
       by none q = cc
-      by (node m s ats ch nx) q = kind m s ats ch nx ∙ ap is_text (sym (some_is r s q))
+      by (node m s ats ch nx) q = kind m s ats ch nx ∙ ap (λ v. is_text_record (Some v)) (sym (some_is r s q))
 
   reply_found : (r : Record) → Some r ≡ record_of (at l t.documents)
-      → (normalize l t).0 ≡ (if is_text r then Nothing else if texts_fit (normal (below (at l t.documents))) then Nothing else Refused TextLimit)
+      → (normalize l t).0 ≡ (if is_text_record (Some r) then Nothing else if texts_fit (normal (below (at l t.documents))) then Nothing else Refused TextLimit)
   reply_found r h = by (at l t.documents) h (text_found r h)
     where
       tests : (a b : Bool) (u v o : Outcome) → (if a then u else if b then v else o).0 ≡ (if a then u.0 else if b then v.0 else o.0)
@@ -130,16 +130,16 @@ module _ (l : Label) (t : Tree) (w : IsValidTree t) where
       tests false true u v o = refl
       tests false false u v o = refl
 
-      by : (g : Forest) → Some r ≡ record_of g → is_text_node g ≡ is_text r
-          → (see_in t (normalize_in l t) g).0 ≡ (if is_text r then Nothing else if texts_fit (normal (below g)) then Nothing else Refused TextLimit)
+      by : (g : Forest) → Some r ≡ record_of g → is_text_node g ≡ is_text_record (Some r)
+          → (see_in t (normalize_in l t) g).0 ≡ (if is_text_record (Some r) then Nothing else if texts_fit (normal (below g)) then Nothing else Refused TextLimit)
       by none q k = cc
       by (node m s ats ch nx) q k = tests (is_text_node (node m s ats ch nx)) (texts_fit (normal ch)) (Nothing, t) _ (refused TextLimit t)
           ∙ ap (λ b. if b then Nothing else if texts_fit (normal ch) then Nothing else Refused TextLimit) k
 
-  pub text_reply : (r : Record) → Some r ≡ record_of (at l t.documents) → is_text r ≡ true → Nothing ≡ (normalize l t).0
+  pub text_reply : (r : Record) → Some r ≡ record_of (at l t.documents) → is_text_record (Some r) ≡ true → Nothing ≡ (normalize l t).0
   text_reply r h k = sym (reply_found r h ∙ ap (λ b. if b then Nothing else if texts_fit (normal (below (at l t.documents))) then Nothing else Refused TextLimit) k)
 
-  pub other_reply : (r : Record) (fit : Bool) → Some r ≡ record_of (at l t.documents) → is_text r ≡ false → fit ≡ texts_fit (normal (below (at l t.documents)))
+  pub other_reply : (r : Record) (fit : Bool) → Some r ≡ record_of (at l t.documents) → is_text_record (Some r) ≡ false → fit ≡ texts_fit (normal (below (at l t.documents)))
       → (if fit then Nothing else Refused TextLimit) ≡ (normalize l t).0
   other_reply r fit h k f = sym (reply_found r h ∙ (λ i. if k i then Nothing else if sym f i then Nothing else Refused TextLimit))
 
@@ -151,10 +151,10 @@ module _ (l : Label) (t : Tree) (w : IsValidTree t) where
   pub refused_changes : is_refused (normalize l t).0 ≡ true → [] ≡ differences (map_of t) (map_of (normalize l t).1)
   refused_changes h = none_changed ((dom_refused (call.Normalize l) t).same h)
 
-  pub text_changes : (r : Record) → Some r ≡ record_of (at l t.documents) → is_text r ≡ true → [] ≡ differences (map_of t) (map_of (normalize l t).1)
+  pub text_changes : (r : Record) → Some r ≡ record_of (at l t.documents) → is_text_record (Some r) ≡ true → [] ≡ differences (map_of t) (map_of (normalize l t).1)
   text_changes r h k = none_changed (normalize_of_text l t (text_found r h ∙ k))
 
-  pub other_changes : (r : Record) (fit : Bool) → Some r ≡ record_of (at l t.documents) → is_text r ≡ false → fit ≡ texts_fit (normal (below (at l t.documents)))
+  pub other_changes : (r : Record) (fit : Bool) → Some r ≡ record_of (at l t.documents) → is_text_record (Some r) ≡ false → fit ≡ texts_fit (normal (below (at l t.documents)))
       → (if fit then differences (entries_of (below (at l t.documents))) (joined (entries_of (below (at l t.documents)))) else []) ≡ differences (map_of t) (map_of (normalize l t).1)
   other_changes r true h k f =
       ap (differences (entries_of (below (at l t.documents)))) joined_below

@@ -1,34 +1,35 @@
 -- Entries in runs: where they are cut, and what joining them keeps.
-use Rattle.std.proofs.Common.{◌≡◌, ◌≤◌, ◌<◌, ◌-◌, Bool, true, false, cond, ◌&&◌, ◌==◌, nat_eq, ℕ, List, [], ◌∷◌, ◌++◌, length, length-append, take, drop, slice_index_or, true≢false, arith, refl, sym, ap, subst, ◌∙◌, append_assoc, append-nil}
+use Rattle.std.proofs.Common.{◌≡◌, ◌≤◌, ◌<◌, ◌-◌, Bool, true, false, cond, ◌&&◌, ◌==◌, nat_eq, ℕ, List, [], ◌∷◌, ◌++◌, length, length-append, take, drop, slice_index_or, true≢false, arith, Some, refl, sym, ap, subst, ◌∙◌, append_assoc, append-nil}
 use Rattle.std.specs.List.{AllByRecursion}
 use Rattle.dewey_labels.specs.Labels.{level}
 use Rattle.dewey_labels.proofs.Codes.{eq_is, first_of_both, second_of_both}
 use Rattle.tree_model.specs.declared.key.Key.{Key}
 use Rattle.tree_model.specs.declared.record.Record.{Record}
 use Rattle.tree_model.specs.Entries.{Entries, Above, Sorted}
+use Rattle.tree_model.specs.NodeKinds.{is_text_record}
 use Rattle.tree_model.proofs.Entries.{sorted_append, sorted_behind}
 use Rattle.tree_model.proofs.Lists.{all_append, all_behind, all_before, all_on}
 use Rattle.dom_reads.specs.inside.Gathered.{texts_in}
-use Rattle.dom_writes.specs.inside.NormalTexts.{is_text, joins, joins_first, before_runs, runs, IsRun, joining, past_joining, first_run, behind_run, text_at, joined_run, joined_runs, joined}
+use Rattle.dom_writes.specs.inside.NormalTexts.{joins, joins_first, before_runs, runs, IsRun, joining, past_joining, first_run, behind_run, text_at, joined_run, joined_runs, joined}
 
 -- ---- which entries join
 
 -- what joins an entry joins the same entries
 pub joins_on : (a b c : Key × Record) → joins a b ≡ true → joins b c ≡ joins a c
 joins_on a b c h =
-    let texts = first_of_both (is_text a.1 && is_text b.1) (level a.0.label == level b.0.label) h in
-    let levels : level a.0.label ≡ level b.0.label = eq_is (level a.0.label) (level b.0.label) (second_of_both (is_text a.1 && is_text b.1) (level a.0.label == level b.0.label) h) in
-    let both : is_text b.1 ≡ is_text a.1 = second_of_both (is_text a.1) (is_text b.1) texts ∙ sym (first_of_both (is_text a.1) (is_text b.1) texts) in
-    λ i. (both i && is_text c.1) && (sym levels i == level c.0.label)
+    let texts = first_of_both (is_text_record (Some a.1) && is_text_record (Some b.1)) (level a.0.label == level b.0.label) h in
+    let levels : level a.0.label ≡ level b.0.label = eq_is (level a.0.label) (level b.0.label) (second_of_both (is_text_record (Some a.1) && is_text_record (Some b.1)) (level a.0.label == level b.0.label) h) in
+    let both : is_text_record (Some b.1) ≡ is_text_record (Some a.1) = second_of_both (is_text_record (Some a.1)) (is_text_record (Some b.1)) texts ∙ sym (first_of_both (is_text_record (Some a.1)) (is_text_record (Some b.1)) texts) in
+    λ i. (both i && is_text_record (Some c.1)) && (sym levels i == level c.0.label)
 
 joins_first_on : (a b : Key × Record) (es : Entries) → joins a b ≡ true → joins_first b es ≡ joins_first a es
 joins_first_on a b [] h = refl
 joins_first_on a b (x ∷ es) h = joins_on a b x h
 
 -- what is no text joins nothing
-pub joins_no_text : (e : Key × Record) (es : Entries) → is_text e.1 ≡ false → joins_first e es ≡ false
+pub joins_no_text : (e : Key × Record) (es : Entries) → is_text_record (Some e.1) ≡ false → joins_first e es ≡ false
 joins_no_text e [] h = refl
-joins_no_text e (x ∷ es) h = λ i. (h i && is_text x.1) && (level e.0.label == level x.0.label)
+joins_no_text e (x ∷ es) h = λ i. (h i && is_text_record (Some x.1)) && (level e.0.label == level x.0.label)
 
 -- ---- where entries are cut into runs
 
@@ -71,7 +72,7 @@ pub joined_apart : (xs ys : Entries) → AllByRecursion (λ x. joins_first x ys 
 joined_apart xs ys h = ap joined_runs (runs_apart xs ys h) ∙ joined_runs-append (runs xs) (runs ys)
 
 -- what is no text stays
-pub joined_no_text : (e : Key × Record) (es : Entries) → is_text e.1 ≡ false → joined (e ∷ es) ≡ e ∷ joined es
+pub joined_no_text : (e : Key × Record) (es : Entries) → is_text_record (Some e.1) ≡ false → joined (e ∷ es) ≡ e ∷ joined es
 joined_no_text e es h = joined_before e [] es tt (joins_no_text e es h) ∙ ap (λ b. cond b (text_at e.0 (texts_in (e ∷ []))) (e ∷ []) ++ joined es) h
 
 -- ---- keys of joined entries
@@ -91,7 +92,7 @@ module _ (P : Key → Type 0) where
 
   all_joined_run : (r : Entries) → AllByRecursion (λ x. P x.0) r → AllByRecursion (λ x. P x.0) (joined_run r)
   all_joined_run [] h = tt
-  all_joined_run (e ∷ es) h = elim (is_text e.1) as (λ b. AllByRecursion (λ x. P x.0) (cond b (text_at e.0 (texts_in (e ∷ es))) (e ∷ es))) [
+  all_joined_run (e ∷ es) h = elim (is_text_record (Some e.1)) as (λ b. AllByRecursion (λ x. P x.0) (cond b (text_at e.0 (texts_in (e ∷ es))) (e ∷ es))) [
     | true ↦ by (texts_in (e ∷ es))
     | false ↦ h
   ]
@@ -132,7 +133,7 @@ sorted_first (x ∷ xs) ys s = (all_before (Above x.0) xs ys s.0, sorted_first x
 
 sorted_joined_run : (r : Entries) → Sorted r → Sorted (joined_run r)
 sorted_joined_run [] s = tt
-sorted_joined_run (e ∷ es) s = elim (is_text e.1) as (λ b. Sorted (cond b (text_at e.0 (texts_in (e ∷ es))) (e ∷ es))) [ true ↦ by (texts_in (e ∷ es)) | false ↦ s ]
+sorted_joined_run (e ∷ es) s = elim (is_text_record (Some e.1)) as (λ b. Sorted (cond b (text_at e.0 (texts_in (e ∷ es))) (e ∷ es))) [ true ↦ by (texts_in (e ∷ es)) | false ↦ s ]
   where
     by : (d : List ℕ) → Sorted (text_at e.0 d)
     by [] = tt

@@ -16,7 +16,7 @@ use Rattle.tree_model.specs.Changes.{differences}
 use Rattle.tree_model.specs.Edits.{edited}
 use Rattle.tree_model.specs.Fragments.{Fragments, IsValid, is_text_fragment, plain}
 use Rattle.tree_model.specs.Graft.{all_within, graft}
-use Rattle.tree_model.specs.NodeKinds.{is_document, is_text_node}
+use Rattle.tree_model.specs.NodeKinds.{is_document, is_text_node, is_text_record}
 use Rattle.tree_model.specs.Outcomes.{Outcome, hierarchy_request_err, not_found_err, is_refused, refused, see_in}
 use Rattle.tree_model.specs.Places.{last_in}
 use Rattle.tree_model.specs.Placing.{append, append_to, as_place, has_child, insert, insert_into, is_full, is_too_deep, place, with_last}
@@ -32,7 +32,7 @@ use Rattle.tree_changes.proofs.PlacingLaws.{append_differences, insert_differenc
 use Rattle.node_seq.specs.ChangeLists.{IsChangeList}
 use Rattle.dom_reads.proofs.ReplyLaws.{on_found, there}
 use Rattle.dom_reads.proofs.StepLaws.{root_not_found, row_of}
-use Rattle.dom_writes.specs.inside.NewPlaces.{AreNeighbours, SuitsOrRefused, answer, changes, is_text_record, takes_none, within_limits}
+use Rattle.dom_writes.specs.inside.NewPlaces.{AreNeighbours, SuitsOrRefused, answer, changes, takes_none, within_limits}
 use Rattle.dom_writes.proofs.GraftChanges.{graft_changes}
 
 -- ---- the found node
@@ -46,10 +46,10 @@ seen_reply : (change : Forest → Outcome) (g : Forest) (t : Tree) → found g �
 seen_reply change none t y = absurd (true≢false (sym y))
 seen_reply change (node l r ats ch nx) t y = refl
 
-text_is : (g : Forest) (r : Record) → Some r ≡ record_of g → is_text_node g ≡ is_text_record r
-text_is g r e = on_found (λ h. is_text_node h ≡ is_text_record r) g r e (λ l ats ch nx. by l ats ch nx r)
+text_is : (g : Forest) (r : Record) → Some r ≡ record_of g → is_text_node g ≡ is_text_record (Some r)
+text_is g r e = on_found (λ h. is_text_node h ≡ is_text_record (Some r)) g r e (λ l ats ch nx. by l ats ch nx r)
   where
-    by : (l : Label) (ats : Attributes) (ch nx : Forest) (r : Record) → is_text_node (node l r ats ch nx) ≡ is_text_record r
+    by : (l : Label) (ats : Attributes) (ch nx : Forest) (r : Record) → is_text_node (node l r ats ch nx) ≡ is_text_record (Some r)
     by l ats ch nx Document = refl
     by l ats ch nx (Element n) = refl
     by l ats ch nx (Text d) = refl
@@ -117,7 +117,7 @@ module _ (p : Label) (f : Fragments) (t : Tree) (w : IsValidTree t) (r : Record)
   abbrev at_end : Outcome
   at_end = place f (new_label p (last_child_of g) None) (with_last f) as_place p t
 
-  pub append_text : is_text_record r ≡ true → Refused (Dom hierarchy_request_err) ≡ (append p f t).0
+  pub append_text : is_text_record (Some r) ≡ true → Refused (Dom hierarchy_request_err) ≡ (append p f t).0
   append_text h =
       ap (λ b. (if b || is_full f g then refused (Dom hierarchy_request_err) t else if is_too_deep p f then refused TooDeep t else at_end).0) (sym (text_is g r e ∙ h))
       ∙ seen_reply (append_to p f t) g t (there g r e)
@@ -129,12 +129,12 @@ module _ (p : Label) (f : Fragments) (t : Tree) (w : IsValidTree t) (r : Record)
   full_is last l = λ i. sym (document_is g r e) i && (is_text_fragment f || is_some (last_is last l i))
 
   -- neither a text, nor a document that takes none
-  pub append_full : (last : Option Label) → is_text_record r ≡ false → last ≡ last_in p t → takes_none r f last ≡ true → Refused (Dom hierarchy_request_err) ≡ (append p f t).0
+  pub append_full : (last : Option Label) → is_text_record (Some r) ≡ false → last ≡ last_in p t → takes_none r f last ≡ true → Refused (Dom hierarchy_request_err) ≡ (append p f t).0
   append_full last h l full =
       (λ i. (if sym (text_is g r e ∙ h) i || sym (sym (full_is last l) ∙ full) i then refused (Dom hierarchy_request_err) t else if is_too_deep p f then refused TooDeep t else at_end).0)
       ∙ seen_reply (append_to p f t) g t (there g r e)
 
-  module _ (last : Option Label) (h : is_text_record r ≡ false) (l : last ≡ last_in p t) (room : takes_none r f last ≡ false) where
+  module _ (last : Option Label) (h : is_text_record (Some r) ≡ false) (l : last ≡ last_in p t) (room : takes_none r f last ≡ false) where
     append_on : (if is_too_deep p f then refused TooDeep t else at_end).0 ≡ (append p f t).0
     append_on =
         (λ i. (if sym (text_is g r e ∙ h) i || sym (sym (full_is last l) ∙ room) i then refused (Dom hierarchy_request_err) t else if is_too_deep p f then refused TooDeep t else at_end).0)
@@ -201,25 +201,25 @@ module _ (p c : Label) (f : Fragments) (t : Tree) (w : IsValidTree t) (r : Recor
       else if deep then refused TooDeep t
       else before
 
-  insert_is : (text child document deep : Bool) → is_text_record r ≡ text → has_child p c t ≡ child → is_document_record (Some r) ≡ document → is_too_deep p f ≡ deep
+  insert_is : (text child document deep : Bool) → is_text_record (Some r) ≡ text → has_child p c t ≡ child → is_document_record (Some r) ≡ document → is_too_deep p f ≡ deep
       → (tested text child document deep).0 ≡ (insert p (Some c) f t).0
   insert_is text child document deep a b d k =
       (λ i. (tested (sym (text_is q r e ∙ a) i) (sym b i) (sym (document_is q r e ∙ d) i) (sym k i)).0)
       ∙ seen_reply (insert_into p c f t) q t (there q r e)
 
-  pub insert_text : is_text_record r ≡ true → Refused (Dom hierarchy_request_err) ≡ (insert p (Some c) f t).0
+  pub insert_text : is_text_record (Some r) ≡ true → Refused (Dom hierarchy_request_err) ≡ (insert p (Some c) f t).0
   insert_text a = insert_is true (has_child p c t) (is_document_record (Some r)) (is_too_deep p f) a refl refl refl
 
-  pub insert_no_child : is_text_record r ≡ false → has_child p c t ≡ false → Refused (Dom not_found_err) ≡ (insert p (Some c) f t).0
+  pub insert_no_child : is_text_record (Some r) ≡ false → has_child p c t ≡ false → Refused (Dom not_found_err) ≡ (insert p (Some c) f t).0
   insert_no_child a b = insert_is false false (is_document_record (Some r)) (is_too_deep p f) a b refl refl
 
-  pub insert_full : is_text_record r ≡ false → has_child p c t ≡ true → is_document_record (Some r) ≡ true → Refused (Dom hierarchy_request_err) ≡ (insert p (Some c) f t).0
+  pub insert_full : is_text_record (Some r) ≡ false → has_child p c t ≡ true → is_document_record (Some r) ≡ true → Refused (Dom hierarchy_request_err) ≡ (insert p (Some c) f t).0
   insert_full a b d = insert_is false true true (is_too_deep p f) a b d refl
 
-  pub insert_deep : is_text_record r ≡ false → has_child p c t ≡ true → is_document_record (Some r) ≡ false → is_too_deep p f ≡ true → Refused TooDeep ≡ (insert p (Some c) f t).0
+  pub insert_deep : is_text_record (Some r) ≡ false → has_child p c t ≡ true → is_document_record (Some r) ≡ false → is_too_deep p f ≡ true → Refused TooDeep ≡ (insert p (Some c) f t).0
   insert_deep a b d k = insert_is false true false true a b d k
 
-  pub insert_placed : (left o : Option Label) → is_text_record r ≡ false → has_child p c t ≡ true → is_document_record (Some r) ≡ false → is_too_deep p f ≡ false
+  pub insert_placed : (left o : Option Label) → is_text_record (Some r) ≡ false → has_child p c t ≡ true → is_document_record (Some r) ≡ false → is_too_deep p f ≡ false
       → left ≡ prev_of None c t.documents → o ≡ new_label p left (Some c) → answer (within_limits f o) ≡ (insert p (Some c) f t).0
   insert_placed left o a b d k l new =
       ap (λ n. answer (within_limits f n)) (new ∙ ap (λ m. new_label p m (Some c)) l)

@@ -2,7 +2,7 @@
 use Rattle.std.proofs.Common.{◌≡◌, ◌≤◌, ◌+◌, ℕ, Bool, true, false, if◌then◌else◌, length, Option, Some, None, Ok, refl, sym, ap, subst, ◌∙◌, arith}
 use Rattle.dewey_labels.specs.Labels.{Label}
 use Rattle.tree_model.specs.Fragments.{Fragments}
-use Rattle.tree_model.specs.NodeKinds.{is_element, is_text_node}
+use Rattle.tree_model.specs.NodeKinds.{is_element, is_text_node, is_text_record}
 use Rattle.tree_model.specs.Outcomes.{Outcome, is_refused}
 use Rattle.tree_model.specs.Placing.{replace}
 use Rattle.tree_model.specs.Names.{Name}
@@ -13,7 +13,6 @@ use Rattle.dom_reads.specs.ReadCounts.{subtree_reads}
 use Rattle.dom_reads.specs.SubtreeWalks.{subtree_of}
 use Rattle.dom_reads.proofs.ReplyLaws.{element_is, on_found}
 use Rattle.dom_writes.specs.ReadCounts.{drop_reads, normalize_reads, removal_reads, replace_reads, set_text_reads}
-use Rattle.dom_writes.specs.inside.NormalTexts.{is_text}
 use Rattle.dom_writes.specs.inside.Outcomes.{placed_instead}
 
 module _ (first : ℕ) (t : Tree) where
@@ -49,15 +48,15 @@ module _ (first : ℕ) (t : Tree) where
   normalize_one after l a =
       elim (is_text_node (at l t.documents)) as (λ b. after ≤ first + (if b then 1 else removal_reads l t)) [ true ↦ a | false ↦ omega (arith, a) ]
 
-  pub normalize_all : (read after : ℕ) (l : Label) (r : Record) → Some r ≡ record_of (at l t.documents) → is_text r ≡ false
+  pub normalize_all : (read after : ℕ) (l : Label) (r : Record) → Some r ≡ record_of (at l t.documents) → is_text_record (Some r) ≡ false
       → read ≤ first + 1 → after ≤ read + subtree_reads l t → after ≤ first + normalize_reads l t
   normalize_all read after l r e h a b =
       subst (λ c. after ≤ first + (if c then 1 else removal_reads l t)) (sym (text_is (at l t.documents) r e ∙ h)) (removal_all read after l a b)
     where
-      text_is : (g : Forest) (r : Record) → Some r ≡ record_of g → is_text_node g ≡ is_text r
-      text_is g r e = on_found (λ h. is_text_node h ≡ is_text r) g r e (λ l ats ch nx. by l ats ch nx r)
+      text_is : (g : Forest) (r : Record) → Some r ≡ record_of g → is_text_node g ≡ is_text_record (Some r)
+      text_is g r e = on_found (λ h. is_text_node h ≡ is_text_record (Some r)) g r e (λ l ats ch nx. by l ats ch nx r)
         where
-          by : (l : Label) (ats : Attributes) (ch nx : Forest) (r : Record) → is_text_node (node l r ats ch nx) ≡ is_text r
+          by : (l : Label) (ats : Attributes) (ch nx : Forest) (r : Record) → is_text_node (node l r ats ch nx) ≡ is_text_record (Some r)
           by l ats ch nx Document = refl
           by l ats ch nx (Element n) = refl
           by l ats ch nx (Text d) = refl

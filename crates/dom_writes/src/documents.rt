@@ -13,8 +13,8 @@ ghost use Rattle.outside_traits.specs.Faults.{HasCause};
 ghost use Rattle.dom_writes.specs.inside.NewDocuments as new_documents;
 ghost use Rattle.dom_writes.specs.inside.NewPlaces.{answer};
 
-use crate::grafts::{child_label, fits_at, is_deeper, push_graft, puts};
-use crate::places::{is_text_fragment, label_between};
+use crate::grafts::{child_label, push_graft, puts};
+use crate::places::label_between;
 use crate::refusals::{
     document_exists, hierarchy_request, invalid_character, label_limit, too_deep,
 };
@@ -85,7 +85,7 @@ fn is_text(fragment: Option<&Fragment>) -> bool
     ensures { result ≡ is_text_fragment (plain_or_none (option_map (λ f. f.now) fragment.entry)) }
 {
     match fragment {
-        Some(fragment) => is_text_fragment(fragment),
+        Some(fragment) => fragment.is_text(),
         None => false,
     }
 }
@@ -95,7 +95,7 @@ fn is_deep(fragment: Option<&Fragment>) -> bool
     ensures { result ≡ new_documents.is_deep (plain_or_none (option_map (λ f. f.now) fragment.entry)) }
 {
     match fragment {
-        Some(fragment) => is_deeper(DEEPEST_LEVEL - 1, fragment),
+        Some(fragment) => fragment.is_deeper(DEEPEST_LEVEL - 1),
         None => false,
     }
 }
@@ -116,7 +116,7 @@ fn fits_below(at: &Label, fragment: Option<&Fragment>) -> bool
 {
     let divisions = at.divisions().len();
     match fragment {
-        Some(fragment) => divisions < MOST_DIVISIONS && fits_at(divisions + 1, fragment),
+        Some(fragment) => divisions < MOST_DIVISIONS && fragment.fits_behind(divisions + 1),
         None => true,
     }
 }

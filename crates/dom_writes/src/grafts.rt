@@ -1,17 +1,15 @@
-//! Fragments at a label of the tree: the entries of their nodes, and whether they keep the limits.
-ghost use Rattle.std.specs.Prelude.{◌≡◌, ◌++◌, [], ◌∷◌, ◌+◌, map, nat_lt, IfOk, IsTrue, OnOk};
+//! Fragments at a label of the tree: the entries of their nodes.
+ghost use Rattle.std.specs.Prelude.{◌≡◌, ◌++◌, [], ◌∷◌, map, IfOk, IsTrue, OnOk};
 ghost use Rattle.dewey_labels.specs.Labels.{IsLabel};
 ghost use Rattle.tree_model.specs.declared.record.Record.TheVariants.{Element};
 ghost use Rattle.tree_model.specs.Changes.{put_change};
-ghost use Rattle.tree_model.specs.Fragments.{depth, plain};
+ghost use Rattle.tree_model.specs.Fragments.{plain};
 ghost use Rattle.tree_model.specs.Graft.{all_within, graft};
-ghost use Rattle.tree_model.specs.Placing.{is_too_deep};
 ghost use Rattle.tree_model.specs.Tree.{entries_of, none, own};
-ghost use Rattle.tree_model.specs.inside.GraftLimits.{fit_at};
 
-use dewey_labels::{FIRST_DIVISION, GREATEST, Label, List, MOST_DIVISIONS, NoMemory, Text};
+use dewey_labels::{FIRST_DIVISION, Label, List, NoMemory, Text};
 use std::alloc::Global;
-use tree_model::{Change, Changes, DEEPEST_LEVEL, Fragment, Key, Record};
+use tree_model::{Change, Changes, Fragment, Key, Record};
 
 /// The entries of a fragment as a tree at a label, by rising keys.
 pub(crate) fn graft_entries(
@@ -114,62 +112,5 @@ pub(crate) fn child_label(alloc: Global, parent: &Label, division: u32) -> Resul
     match Label::of_divisions(List::from_vec(divisions)) {
         Some(label) => Ok(label),
         None => unreachable!(),
-    }
-}
-
-/// Whether all labels of a fragment at a label within the limits keep them, told without making any.
-pub(crate) fn is_graft_within(at: &Label, fragment: &Fragment) -> bool
-    ensures { result ≡ all_within (graft at.now (plain fragment.now) none) }
-{
-    fits_at(at.divisions().len(), fragment)
-}
-
-/// The same for a label of this many divisions.
-pub(crate) fn fits_at(divisions: usize, fragment: &Fragment) -> bool
-    ensures { result ≡ fit_at divisions (plain fragment.now) }
-{
-    match fragment {
-        Fragment::Text(_) => true,
-        Fragment::Element { children, .. } => {
-            let mut division = FIRST_DIVISION;
-            for child in children.as_slice() {
-                if divisions >= MOST_DIVISIONS
-                    || division > GREATEST
-                    || !fits_at(divisions + 1, child)
-                {
-                    return false;
-                }
-                division += 2;
-            }
-            true
-        }
-    }
-}
-
-/// Whether below a label a fragment's deepest node would lie too deep.
-pub(crate) fn is_too_deep(at: &Label, fragment: &Fragment) -> bool
-    ensures { result ≡ is_too_deep at.now (plain fragment.now) }
-{
-    let level = at.level();
-    level > DEEPEST_LEVEL || is_deeper(DEEPEST_LEVEL - level, fragment)
-}
-
-/// Whether a fragment takes more levels. It looks at none below these.
-pub(crate) fn is_deeper(levels: u32, fragment: &Fragment) -> bool
-    ensures { result ≡ nat_lt levels (depth (plain fragment.now)) }
-{
-    if levels == 0 {
-        return true;
-    }
-    match fragment {
-        Fragment::Text(_) => false,
-        Fragment::Element { children, .. } => {
-            for child in children.as_slice() {
-                if is_deeper(levels - 1, child) {
-                    return true;
-                }
-            }
-            false
-        }
     }
 }

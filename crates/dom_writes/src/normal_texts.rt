@@ -7,11 +7,12 @@ ghost use Rattle.tree_model.specs.declared.record.Record.TheVariants.{Text as te
 ghost use Rattle.node_seq.specs.ChangeLists.{IsChangeList, PutsValidEntry};
 ghost use Rattle.node_seq.specs.Reads.{IsValidEntry};
 ghost use Rattle.dom_reads.specs.inside.Gathered.{data_of, texts_in};
-ghost use Rattle.dom_writes.specs.inside.NormalTexts.{IsRun, IsValidText, behind_run, first_run, is_text, joined as all_joined};
+ghost use Rattle.dom_writes.specs.inside.NormalTexts.{IsRun, IsValidText, behind_run, first_run, joined as all_joined};
 ghost use Rattle.dom_writes.specs.inside.NormalTexts.{joined_run, joins, past_joining, run_changes};
 
 use crate::merges::{push_drop, push_drops};
 use dewey_labels::{List, NoMemory, Text};
+use dom_reads::is_text;
 use std::alloc::Global;
 use tree_model::{Change, Changes, Key, Record};
 
@@ -90,13 +91,6 @@ fn joins(a: &(Key, Record), b: &(Key, Record)) -> bool
     ensures { result ≡ joins a.now b.now }
 {
     is_text(&a.1) && is_text(&b.1) && a.0.label.level() == b.0.label.level()
-}
-
-/// Whether a record is a text's.
-pub(crate) fn is_text(record: &Record) -> bool
-    ensures { result ≡ is_text «record».now }
-{
-    matches!(record, Record::Text(_))
 }
 
 /// The changes that join a run into its first text. It answers whether that may stand in a tree.

@@ -9,11 +9,11 @@ ghost use Rattle.outside_traits.specs.Faults.{HasCause};
 ghost use Rattle.dom_reads.specs.ReadCounts.{ReadsOfTree};
 ghost use Rattle.dom_writes.specs.ReadCounts.{normalize_reads};
 
-use crate::normal_texts::{is_text, join_texts};
+use crate::normal_texts::join_texts;
 use crate::refusals::text_limit;
 use crate::subtree_entries::entries_below;
 use dewey_labels::Label;
-use dom_reads::{not_found, record_at};
+use dom_reads::{is_text, not_found, record_at};
 use node_seq::{NodeRead, SeqError};
 use std::alloc::Global;
 use tree_model::{Changes, Reply};

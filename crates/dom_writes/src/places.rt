@@ -3,13 +3,12 @@ ghost use Rattle.std.specs.Prelude.{◌≡◌, Some, None, Err, IfOk, IfSome, Is
 ghost use Rattle.dewey_labels.specs.Labels.{is_child};
 ghost use Rattle.dewey_labels.specs.NewLabels.{new_label};
 ghost use Rattle.dewey_labels.specs.declared.new_labels.LabelError.TheVariants.{LabelLimit};
-ghost use Rattle.tree_model.specs.Fragments.{is_text_fragment, plain};
+ghost use Rattle.tree_model.specs.Fragments.{plain};
 ghost use Rattle.tree_model.specs.Placing.{has_child};
 ghost use Rattle.node_seq.specs.Trees.{OnTree};
 ghost use Rattle.outside_traits.specs.Faults.{HasCause};
-ghost use Rattle.dom_writes.specs.inside.NewPlaces.{AreNeighbours, is_text_record, takes_none, within_limits};
+ghost use Rattle.dom_writes.specs.inside.NewPlaces.{AreNeighbours, takes_none, within_limits};
 
-use crate::grafts::is_graft_within;
 use crate::refusals::label_limit;
 use dewey_labels::{
     Label, LabelError, NoMemory, child_after, child_before, child_between, child_first,
@@ -61,7 +60,7 @@ pub(crate) fn within_limits(new: Option<Label>, fragment: &Fragment) -> Result<L
     ensures { result ≡ within_limits (plain fragment.now) new }
 {
     match new {
-        Some(label) if is_graft_within(&label, fragment) => Ok(label),
+        Some(label) if fragment.fits_at(&label) => Ok(label),
         _ => Err(label_limit()),
     }
 }
@@ -90,23 +89,9 @@ pub(crate) fn has_child<S: NodeRead>(
     }
 }
 
-/// Whether a node's record is a text's, which has no children.
-pub(crate) fn is_text(node: &Record) -> bool
-    ensures { result ≡ is_text_record node.now }
-{
-    matches!(node, Record::Text(_))
-}
-
-/// Whether a fragment is a text.
-pub(crate) fn is_text_fragment(fragment: &Fragment) -> bool
-    ensures { result ≡ is_text_fragment (plain fragment.now) }
-{
-    matches!(fragment, Fragment::Text(_))
-}
-
 /// Whether the parent is a document that doesn't take the fragment behind its last child: it takes one element alone.
 pub(crate) fn takes_none(parent: &Record, fragment: &Fragment, last: &Option<Label>) -> bool
     ensures { result ≡ takes_none parent.now (plain fragment.now) last.now }
 {
-    is_document(parent) && (is_text_fragment(fragment) || last.is_some())
+    is_document(parent) && (fragment.is_text() || last.is_some())
 }

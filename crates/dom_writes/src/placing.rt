@@ -10,11 +10,11 @@ ghost use Rattle.node_seq.specs.Trees.{OnTree};
 ghost use Rattle.outside_traits.specs.Faults.{HasCause};
 ghost use Rattle.dom_writes.specs.inside.NewPlaces.{SuitsOrRefused, answer, changes};
 
-use crate::grafts::{graft_changes, is_too_deep};
-use crate::places::{has_child, is_text, label_between, takes_none, within_limits};
+use crate::grafts::graft_changes;
+use crate::places::{has_child, label_between, takes_none, within_limits};
 use crate::refusals::{hierarchy_request, too_deep};
 use dewey_labels::{Label, NoMemory};
-use dom_reads::{is_document, last_child, not_found, previous_sibling, record_at};
+use dom_reads::{is_document, is_text, last_child, not_found, previous_sibling, record_at};
 use node_seq::{NodeRead, SeqError};
 use std::alloc::Global;
 use tree_model::{Changes, Fragment, Reply};
@@ -64,7 +64,7 @@ fn place_at_end<S: NodeRead>(
     if takes_none(&parent, fragment, &last) {
         return Ok(Err(hierarchy_request()));
     }
-    if is_too_deep(at, fragment) {
+    if fragment.is_too_deep(at) {
         return Ok(Err(too_deep()));
     }
     let new = label_between(alloc, at, last, None)?;
@@ -152,7 +152,7 @@ fn place_before<S: NodeRead>(
     if is_document(&parent) {
         return Ok(Err(hierarchy_request()));
     }
-    if is_too_deep(at, fragment) {
+    if fragment.is_too_deep(at) {
         return Ok(Err(too_deep()));
     }
     let left = previous_sibling(alloc, child, seq)?;

@@ -13,9 +13,9 @@ ghost use Rattle.dom_writes.specs.ReadCounts.{removal_reads, replace_reads};
 ghost use Rattle.dom_writes.specs.inside.NewPlaces.{SuitsOrRefused};
 ghost use Rattle.dom_writes.specs.inside.Outcomes.{parent_of, placed_instead, reply_and_changes};
 
-use crate::grafts::{graft_entries, is_too_deep};
+use crate::grafts::graft_entries;
 use crate::merges::{differences_between, push_drops};
-use crate::places::{has_child, is_text_fragment, label_between, within_limits};
+use crate::places::{has_child, label_between, within_limits};
 use crate::refusals::{hierarchy_request, too_deep};
 use dewey_labels::{Label, List};
 use dom_reads::{
@@ -160,7 +160,7 @@ fn place_instead<S: NodeRead>(
     if takes_no_text(&parent, fragment) {
         return Ok(Err(hierarchy_request()));
     }
-    if is_too_deep(at, fragment) {
+    if fragment.is_too_deep(at) {
         return Ok(Err(too_deep()));
     }
     let left = previous_sibling(alloc, old, seq)?;
@@ -173,7 +173,7 @@ fn place_instead<S: NodeRead>(
 fn takes_no_text(parent: &Record, fragment: &Fragment) -> bool
     ensures { result ≡ (is_document_record (Some parent.now) && is_text_fragment (plain fragment.now)) }
 {
-    is_document(parent) && is_text_fragment(fragment)
+    is_document(parent) && fragment.is_text()
 }
 
 /// The record of the node `at`, if that is the parent of the label `child`. One read at most.

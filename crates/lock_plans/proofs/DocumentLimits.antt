@@ -10,7 +10,7 @@ use Rattle.tree_model.specs.Fragments.{Fragments, in_a_row, no_more, plain, put_
 use Rattle.tree_model.specs.Graft.{all_within, graft, graft_below}
 use Rattle.tree_model.specs.Tree.{none}
 use Rattle.tree_model.proofs.Grafts.{and_true}
-use Rattle.lock_plans.proofs.FragmentLaws.{by_put}
+use Rattle.tree_model.proofs.PlainFragments.{by_put}
 
 -- an empty document
 pub empty_fits : (l : Label) → is_within l ≡ true → true ≡ all_within (document_at l no_more)

@@ -2,7 +2,6 @@ pub mod AppendOutcome
 pub mod Causes
 pub mod DocumentLimits
 pub mod DocumentOutcomes
-pub mod FragmentLaws
 pub mod GapLaws
 pub mod InsertOutcome
 pub mod NodeOutcomes

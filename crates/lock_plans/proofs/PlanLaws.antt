@@ -16,14 +16,14 @@ use Rattle.lock_resources.specs.Resources.{Fits}
 use Rattle.tree_model.specs.declared.record.Record.{Record}
 use Rattle.tree_model.specs.declared.record.Record.TheVariants.{Document, Element, Text, Attr}
 use Rattle.tree_model.specs.Limits.{is_too_long, most_text_bytes}
-use Rattle.tree_model.specs.NodeKinds.{is_document, is_element, is_text_node}
+use Rattle.tree_model.specs.NodeKinds.{is_document, is_element, is_text_node, is_text_record}
 use Rattle.tree_model.specs.Outcomes.{Outcome}
 use Rattle.tree_model.specs.StoredTree.{is_document_record}
 use Rattle.tree_model.specs.Tree.{Attributes, Forest, none, node, found, record_of}
 use Rattle.tree_model.proofs.Found.{some_is}
 use Rattle.lock_plans.specs.Plans.{Run, ends, read_found, take_left, take_right}
 use Rattle.lock_plans.specs.DomPlans.{data_of}
-use Rattle.lock_plans.specs.inside.PlanSteps.{is_text_record, reads_found, takes_left, takes_right, text_data}
+use Rattle.lock_plans.specs.inside.PlanSteps.{reads_found, takes_left, takes_right, text_data}
 
 -- requests that fit, behind others that do
 pub all_append : (rs qs : List Request) → AllByRecursion Fits rs → AllByRecursion Fits qs → AllByRecursion Fits (rs ++ qs)

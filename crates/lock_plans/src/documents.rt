@@ -3,7 +3,7 @@ ghost use Rattle.std.specs.Prelude.{◌≡◌, ◌++◌, ◌+◌, ◌∷◌, [],
 ghost use Rattle.dewey_labels.specs.Labels.{root};
 ghost use Rattle.tree_model.specs.declared.dom_call.DomCall.TheVariants as call;
 ghost use Rattle.tree_model.specs.Documents.{document_at};
-ghost use Rattle.tree_model.specs.Fragments.{depth, is_text_fragment as is_text_at_top, plain_or_none};
+ghost use Rattle.tree_model.specs.Fragments.{depth, is_text_fragment, plain_or_none};
 ghost use Rattle.tree_model.specs.Graft.{all_within};
 ghost use Rattle.tree_model.specs.Limits.{deepest_level};
 ghost use Rattle.tree_model.specs.Outcomes.{Outcome};
@@ -14,7 +14,6 @@ ghost use Rattle.lock_plans.specs.DomPlans.{requests};
 ghost use Rattle.lock_plans.specs.inside.PlacedReplies.{placed_label};
 ghost use Rattle.lock_plans.specs.inside.PlanSteps.{asked_by, create_end};
 
-use crate::fragment_limits::{is_deeper, is_text_fragment, keeps_limits};
 use crate::gaps::new_label;
 use crate::placing::take_out_child;
 use crate::plan::Plan;
@@ -153,15 +152,15 @@ fn document_keeps_limits(
     let Some(element) = new_label(alloc, at, &None, &None)? else {
         return Ok(false);
     };
-    Ok(keeps_limits(&element, fragment))
+    Ok(fragment.fits_at(&element))
 }
 
 /// Whether a document would be a text.
 fn is_text_alone(fragment: &Option<Fragment>) -> bool
-    ensures { result ≡ is_text_at_top (plain_or_none fragment.now) }
+    ensures { result ≡ is_text_fragment (plain_or_none fragment.now) }
 {
     match fragment {
-        Some(fragment) => is_text_fragment(fragment),
+        Some(fragment) => fragment.is_text(),
         None => false,
     }
 }
@@ -171,7 +170,7 @@ fn is_too_deep_alone(fragment: &Option<Fragment>) -> bool
     ensures { result ≡ nat_lt deepest_level (1 + depth (plain_or_none fragment.now)) }
 {
     match fragment {
-        Some(fragment) => is_deeper(fragment, DEEPEST_LEVEL - 1),
+        Some(fragment) => fragment.is_deeper(DEEPEST_LEVEL - 1),
         None => false,
     }
 }

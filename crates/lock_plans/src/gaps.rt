@@ -11,7 +11,6 @@ ghost use Rattle.tree_model.specs.Tree.{Tree};
 ghost use Rattle.lock_plans.specs.Plans.{grafted, place};
 ghost use Rattle.lock_plans.specs.inside.PlanSteps.{asked_by, IsMade};
 
-use crate::fragment_limits::keeps_limits;
 use crate::plan::Plan;
 use dewey_labels::{
     Label, LabelError, NoMemory, child_after, child_before, child_between, child_first,
@@ -68,7 +67,7 @@ pub fn place_fragment(
     let Some(new) = new_label(alloc, parent, left, right)? else {
         return Ok(());
     };
-    if !keeps_limits(&new, fragment) {
+    if !fragment.fits_at(&new) {
         return Ok(());
     }
     plan.take_tree(alloc, &new)?;

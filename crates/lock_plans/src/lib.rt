@@ -6,7 +6,6 @@
 mod all_calls;
 mod attributes;
 mod documents;
-mod fragment_limits;
 mod gaps;
 mod laws;
 mod navigation;

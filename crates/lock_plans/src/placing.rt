@@ -2,7 +2,7 @@
 ghost use Rattle.std.specs.Prelude.{◌≡◌, ◌&&◌, ◌++◌, IsTrue, None, Some};
 ghost use Rattle.dewey_labels.specs.Labels.{is_child, parent as parent_of};
 ghost use Rattle.tree_model.specs.declared.dom_call.DomCall.TheVariants as call;
-ghost use Rattle.tree_model.specs.Fragments.{is_text_fragment as is_text_at_top, plain};
+ghost use Rattle.tree_model.specs.Fragments.{is_text_fragment, plain};
 ghost use Rattle.tree_model.specs.Outcomes.{Outcome};
 ghost use Rattle.tree_model.specs.StoredTree.{is_document_record};
 ghost use Rattle.tree_model.specs.Tree.{at as node_at, found as is_found};
@@ -11,12 +11,10 @@ ghost use Rattle.outside_traits.specs.Faults.{HasCause};
 ghost use Rattle.lock_plans.specs.DomPlans.{requests};
 ghost use Rattle.lock_plans.specs.inside.PlanSteps.{append_end, asked_by, insert_end, remove_end, replace_end};
 
-use crate::fragment_limits::{is_text_fragment, is_too_deep};
 use crate::gaps::place_fragment;
 use crate::plan::Plan;
-use crate::seen_nodes::is_text;
 use dewey_labels::Label;
-use dom_reads::{first_child, is_document, last_child, next_sibling, previous_sibling};
+use dom_reads::{first_child, is_document, is_text, last_child, next_sibling, previous_sibling};
 use lock_resources::Side;
 use node_seq::{NodeRead, SeqError};
 use std::alloc::Global;
@@ -44,7 +42,7 @@ pub fn append<S: NodeRead>(
     if !is_document(&found) {
         return append_last(alloc, at, fragment, seq, plan);
     }
-    if is_text_fragment(fragment) {
+    if fragment.is_text() {
         return Ok(plan);
     }
     plan.read_edge(alloc, at, Side::First)?;
@@ -67,7 +65,7 @@ fn append_last<S: NodeRead>(
     ensures unchanged { S.unchanged seq.old seq.new }
     ensures cause { HasCause SeqError.DiskFault (S.count seq.old) (S.count seq.new) result }
 {
-    if is_too_deep(at, fragment) {
+    if fragment.is_too_deep(at) {
         return Ok(plan);
     }
     let last = last_child(alloc, at, seq)?;
@@ -120,7 +118,7 @@ fn insert_before<S: NodeRead>(
     ensures unchanged { S.unchanged seq.old seq.new }
     ensures cause { HasCause SeqError.DiskFault (S.count seq.old) (S.count seq.new) result }
 {
-    if is_too_deep(at, fragment) {
+    if fragment.is_too_deep(at) {
         return Ok(plan);
     }
     let left = previous_sibling(alloc, child, seq)?;
@@ -157,9 +155,9 @@ pub fn replace<S: NodeRead>(
 
 /// Whether a text would stand in a document.
 fn is_text_in_document(node: &Record, fragment: &Fragment) -> bool
-    ensures { result ≡ (is_document_record (Some node.now) && is_text_at_top (plain fragment.now)) }
+    ensures { result ≡ (is_document_record (Some node.now) && is_text_fragment (plain fragment.now)) }
 {
-    is_document(node) && is_text_fragment(fragment)
+    is_document(node) && fragment.is_text()
 }
 
 /// The last requests of `replace`, in place of a child that is there.
@@ -178,7 +176,7 @@ fn replace_child<S: NodeRead>(
     ensures unchanged { S.unchanged seq.old seq.new }
     ensures cause { HasCause SeqError.DiskFault (S.count seq.old) (S.count seq.new) result }
 {
-    if is_too_deep(at, fragment) {
+    if fragment.is_too_deep(at) {
         return Ok(plan);
     }
     let left = previous_sibling(alloc, old, seq)?;

@@ -1,5 +1,5 @@
 //! Nodes that a plan asks for and that are then read, since the requests behind them depend on what they are.
-ghost use Rattle.std.specs.Prelude.{◌≡◌, ◌≢◌, ◌++◌, IsTrue, IfOk, OnOk, Some};
+ghost use Rattle.std.specs.Prelude.{◌≡◌, ◌≢◌, ◌++◌, IsTrue, IfOk, OnOk};
 ghost use Rattle.dewey_labels.specs.Labels.{is_child, parent as parent_of, root};
 ghost use Rattle.lock_modes.specs.declared.ask.Ask.TheVariants as ask;
 ghost use Rattle.lock_modes.specs.declared.mode.Mode.TheVariants.{NR};
@@ -11,7 +11,7 @@ ghost use Rattle.tree_model.specs.Tree.{at as node_at, found as is_found, record
 ghost use Rattle.tree_model.specs.ValidTrees.{same_label};
 ghost use Rattle.node_seq.specs.Trees.{OnTree};
 ghost use Rattle.outside_traits.specs.Faults.{HasCause};
-ghost use Rattle.lock_plans.specs.inside.PlanSteps.{is_text_record, sees_child, text_data};
+ghost use Rattle.lock_plans.specs.inside.PlanSteps.{sees_child, text_data};
 
 use crate::plan::Plan;
 use dewey_labels::{Label, NoMemory, Text};
@@ -122,11 +122,4 @@ fn is_child_of(alloc: Global, at: &Label, child: &Label) -> Result<bool, NoMemor
         Some(parent) => Ok(parent == *at),
         None => Ok(false),
     }
-}
-
-/// Whether a node's record is a text's.
-pub fn is_text(node: &Record) -> bool
-    ensures { result ≡ is_text_record (Some node.now) }
-{
-    matches!(node, Record::Text(_))
 }

@@ -7,9 +7,8 @@ ghost use Rattle.outside_traits.specs.Faults.{HasCause};
 ghost use Rattle.lock_plans.specs.DomPlans.{requests};
 
 use crate::plan::Plan;
-use crate::seen_nodes::is_text;
 use dewey_labels::Label;
-use dom_reads::is_document;
+use dom_reads::{is_document, is_text};
 use node_seq::{NodeRead, SeqError};
 use std::alloc::Global;
 

@@ -2,6 +2,7 @@
 ghost use Rattle.std.specs.Prelude.{◌≡◌, ◌++◌, ◌&&◌, not, IsTrue, Some};
 ghost use Rattle.tree_model.specs.declared.dom_call.DomCall.TheVariants as call;
 ghost use Rattle.tree_model.specs.Limits.{is_too_long as is_past_limit};
+ghost use Rattle.tree_model.specs.NodeKinds.{is_text_record};
 ghost use Rattle.tree_model.specs.Outcomes.{Outcome};
 ghost use Rattle.tree_model.specs.Placing.{is_too_deep};
 ghost use Rattle.tree_model.specs.Texts.{data_from, text_below};
@@ -9,13 +10,12 @@ ghost use Rattle.tree_model.specs.Tree.{at as node_at, found};
 ghost use Rattle.node_seq.specs.Trees.{OnTree};
 ghost use Rattle.outside_traits.specs.Faults.{HasCause};
 ghost use Rattle.lock_plans.specs.DomPlans.{requests};
-ghost use Rattle.lock_plans.specs.inside.PlanSteps.{asked_by, is_text_record, split_end};
+ghost use Rattle.lock_plans.specs.inside.PlanSteps.{asked_by, split_end};
 
 use crate::gaps::new_label;
 use crate::plan::Plan;
-use crate::seen_nodes::is_text;
 use dewey_labels::{Label, Text};
-use dom_reads::{cut, is_document, next_sibling};
+use dom_reads::{cut, is_document, is_text, next_sibling};
 use lock_resources::Side;
 use node_seq::{NodeRead, SeqError};
 use std::alloc::Global;

@@ -2,7 +2,7 @@
 ghost use Rattle.std.specs.Prelude.{◌≡◌, ◌≢◌, ◌+◌, ◌≤◌, ℕ, List, [], length, None, Ok, Err, IfOk, IfErr, OnOk, IfSome};
 ghost use Rattle.outside_traits.specs.Bytes.{Gave};
 ghost use Rattle.outside_traits.specs.DiskPairs.{pair_of};
-ghost use Rattle.tree_model.specs.Fragments.{IsValid, plain, is_text_fragment};
+ghost use Rattle.tree_model.specs.Fragments.{IsValid, plain};
 ghost use Rattle.tree_model.specs.Tree.{Tree};
 ghost use Rattle.node_seq.specs.Trees.{StandsFor};
 ghost use Rattle.paged_recovery.specs.Openings.{TakesBehind};
@@ -170,21 +170,12 @@ fn element_in(alloc: Global, bytes: &[u8]) -> Result<Fragment, FragmentError>
     ensures valid { IfOk result (λ element. IsValid (plain element)) }
 {
     let fragment = read_fragment(alloc, bytes)?;
-    if is_text(&fragment) {
+    if fragment.is_text() {
         return Err(FragmentError::NotJsonMl {
             path: Text::from_string(String::new(alloc)),
         });
     }
     Ok(fragment)
-}
-
-fn is_text(fragment: &Fragment) -> bool
-    ensures { result ≡ is_text_fragment (plain fragment.now) }
-{
-    match fragment {
-        Fragment::Text(_) => true,
-        Fragment::Element { .. } => false,
-    }
 }
 
 /// Creates a document of an element and commits, and answers the line of its label.

@@ -1,12 +1,11 @@
 -- Where a call puts its fragment: between which neighbours, at which new label, or why it is refused.
-use Rattle.std.specs.Prelude.{◌≡◌, ◌&&◌, ◌||◌, Bool, true, false, if◌then◌else◌, List, [], map, is_some, IfSome, IsTrue, Option, Some, None, Result, Ok, Err}
+use Rattle.std.specs.Prelude.{◌≡◌, ◌&&◌, ◌||◌, Bool, false, if◌then◌else◌, List, [], map, is_some, IfSome, IsTrue, Option, Some, None, Result, Ok, Err}
 use Rattle.std.specs.Cmp.Lexicographic.{slice_cmp}
 use Rattle.std.specs.Ordering.{nat_cmp}
 use Rattle.std.specs.declared.cmp.Ordering.TheVariants.{Less}
 use Rattle.dewey_labels.specs.Labels.{Label, is_child}
 use Rattle.tree_model.specs.declared.change.Change.{Change}
 use Rattle.tree_model.specs.declared.record.Record.{Record}
-use Rattle.tree_model.specs.declared.record.Record.TheVariants.{Text}
 use Rattle.tree_model.specs.declared.refusal.Refusal.TheVariants.{LabelLimit}
 use Rattle.tree_model.specs.declared.reply.Reply.{Reply}
 use Rattle.tree_model.specs.declared.reply.Reply.TheVariants.{Place, Refused}
@@ -27,11 +26,6 @@ pub record AreNeighbours (p : Label) (left right : Option Label) : Type 0 where
   pub order : IfSome left (λ l. IfSome right (λ r. slice_cmp nat_cmp l r ≡ Less))
 
 -- ---- the parent's kind
-
--- a text's record
-abbrev pub is_text_record : Record → Bool
-is_text_record (Text d) = true
-is_text_record r = false
 
 -- a document takes no text, and no second child
 abbrev pub takes_none : Record → Fragments → Option Label → Bool

@@ -1,9 +1,10 @@
 -- Adjacent texts joined, among the entries below a node.
-use Rattle.std.specs.Prelude.{◌≡◌, ℕ, Bool, true, false, cond, ◌&&◌, ◌==◌, List, [], ◌∷◌, ◌++◌, map, IsTrue}
+use Rattle.std.specs.Prelude.{◌≡◌, ℕ, Bool, true, false, cond, ◌&&◌, ◌==◌, List, [], ◌∷◌, ◌++◌, map, IsTrue, Some}
 use Rattle.std.specs.List.{AllByRecursion}
 use Rattle.dewey_labels.specs.Labels.{level}
 use Rattle.tree_model.specs.Changes.{drop_change, put_unless, same_record}
 use Rattle.tree_model.specs.Entries.{Entries}
+use Rattle.tree_model.specs.NodeKinds.{is_text_record}
 use Rattle.tree_model.specs.declared.change.Change.{Change}
 use Rattle.tree_model.specs.declared.key.Key.{Key}
 use Rattle.tree_model.specs.declared.record.Record.{Record}
@@ -13,14 +14,9 @@ use Rattle.dom_reads.specs.inside.Gathered.{texts_in}
 
 -- ---- runs
 
--- a text's record
-abbrev pub is_text : Record → Bool
-is_text (Text d) = true
-is_text r = false
-
 -- both are texts, on one level: where nothing stands between them they are siblings
 abbrev pub joins : Key × Record → Key × Record → Bool
-joins a b = (is_text a.1 && is_text b.1) && (level a.0.label == level b.0.label)
+joins a b = (is_text_record (Some a.1) && is_text_record (Some b.1)) && (level a.0.label == level b.0.label)
 
 -- an entry joins the first one of some
 abbrev pub joins_first : Key × Record → Entries → Bool
@@ -70,7 +66,7 @@ text_at k (b ∷ d) = (k, Text (b ∷ d)) ∷ []
 -- the first text with the data of all; what is no text stays
 abbrev pub joined_run : Entries → Entries
 joined_run [] = []
-joined_run (e ∷ es) = cond (is_text e.1) (text_at e.0 (texts_in (e ∷ es))) (e ∷ es)
+joined_run (e ∷ es) = cond (is_text_record (Some e.1)) (text_at e.0 (texts_in (e ∷ es))) (e ∷ es)
 
 abbrev pub joined_runs : List Entries → Entries
 joined_runs [] = []
@@ -82,7 +78,7 @@ joined es = joined_runs (runs es)
 
 -- a tree may have it, if it is a text
 abbrev pub IsValidText : Key × Record → Type 0
-IsValidText e = IsTrue (is_text e.1) → IsValidEntry e
+IsValidText e = IsTrue (is_text_record (Some e.1)) → IsValidEntry e
 
 -- the changes of a run, by the data of all its texts: those of the first one and of the others
 abbrev pub run_changes : Key × Record → Entries → List ℕ → List Change

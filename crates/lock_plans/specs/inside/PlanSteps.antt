@@ -64,11 +64,6 @@ sees_child p c = if same_label (parent c) p then with_intentions (Node c) (ask.N
 abbrev pub asked_by : List Step → Outcome → List Request
 asked_by steps end = (in_turn steps (ends end)).requests
 
--- a text's record
-abbrev pub is_text_record : Option Record → Bool
-is_text_record (Some (Text d)) = true
-is_text_record found = false
-
 -- what was made of a new label, where memory didn't run out
 abbrev pub IsMade : Result Label LabelError → Option Label → Type 0
 IsMade made None = made ≡ Err LabelLimit

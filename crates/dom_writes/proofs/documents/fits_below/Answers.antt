@@ -6,7 +6,7 @@ use Rattle.tree_model.specs.declared.fragment.Fragment.{Fragment}
 use Rattle.tree_model.specs.Documents.{document_at}
 use Rattle.tree_model.specs.Fragments.{plain, plain_or_none}
 use Rattle.tree_model.specs.Graft.{all_within}
-use Rattle.tree_model.specs.inside.GraftLimits.{fit_at}
+use Rattle.tree_model.specs.GraftLimits.{fit_at}
 use Rattle.dom_writes.proofs.MadeDocuments.{document_within, empty_within}
 use Rattle.dom_writes.proofs.documents.fits_below.Goals as goal
 
@@ -21,7 +21,7 @@ returns-then-divisions-lt-MOST_DIVISIONS c =
     let l = c.args.at.now in
     let f = c.in-Some.fragment.now in
     let few : nat_lt (length l) most_divisions ≡ true = ap (λ v. nat_lt (length v) most_divisions) (sym c.divisions-divisions.ensures.divisions) ∙ is_less (length c.divisions-divisions.result.now) c.if-divisions-lt-MOST_DIVISIONS.true in
-    c.fits_at.ensures
+    c.fits_behind.ensures
     ∙ ap (λ v. fit_at (length v + 1) (plain f)) c.divisions-divisions.ensures.divisions
     ∙ ap (λ b. b && fit_at (length l + 1) (plain f)) (sym few)
     ∙ document_within l f (test_of_within l c.divisions-divisions.ensures.label.1)

@@ -1,4 +1,4 @@
-use Rattle.std.proofs.Common.{◌≡◌, ◌↔◌, ◌∙◌, [], if◌then◌else◌, false, IsTrue, sym, ap, subst}
+use Rattle.std.proofs.Common.{◌≡◌, ◌↔◌, ◌∙◌, [], if◌then◌else◌, false, IsTrue, Some, sym, ap, subst}
 use Rattle.std.specs.List.{AllByRecursion}
 use Rattle.tree_model.specs.declared.record.Record.{Record}
 use Rattle.tree_model.specs.declared.refusal.Refusal.TheVariants.{TextLimit}
@@ -8,9 +8,10 @@ use Rattle.tree_model.specs.Entries.{Entries}
 use Rattle.tree_model.specs.Outcomes.{is_refused}
 use Rattle.tree_model.specs.Texts.{normal, texts_fit}
 use Rattle.tree_model.specs.Tree.{at, below, entries_of}
+use Rattle.tree_model.specs.NodeKinds.{is_text_record}
 use Rattle.dom_reads.proofs.ReplyLaws.{later}
 use Rattle.dom_reads.proofs.SubtreeEntries.{missing}
-use Rattle.dom_writes.specs.inside.NormalTexts.{IsValidText, is_text, joined}
+use Rattle.dom_writes.specs.inside.NormalTexts.{IsValidText, joined}
 use Rattle.dom_writes.proofs.NormalReplies.{fit_is, missing_reply, other_changes, other_reply, refused_changes, text_changes}
 use Rattle.dom_writes.proofs.ReadLaws.{normalize_all, normalize_one}
 use Rattle.dom_writes.proofs.normalization.normalize.Goals as goal
@@ -32,7 +33,7 @@ returns-then-branch-clause-reply g c t stands =
     let fit = c.in_ok-join_texts.field-0 in
     let r : Record = c.in-Some.found in
     let found = sym c.in-Some.is ∙ c.in_ok-found.ensures.found t stands in
-    let other : is_text r ≡ false = sym c.is_text.ensures ∙ c.if-is_text.false in
+    let other : is_text_record (Some r) ≡ false = sym c.is_text.ensures ∙ c.if-is_text.false in
     let below_is : c.as_slice.result.now ≡ entries_of (below (at l t.documents)) =
     c.as_slice.ensures ∙ c.in_ok-entries.ensures.entries t (later _ _ t (law.unchanged_contents _ _ c.in_ok-found.ensures.unchanged) stands) in
     let is : fit ≡ texts_fit (normal (below (at l t.documents))) =
@@ -46,7 +47,7 @@ returns-then-branch-clause-changes g c t stands =
     let fit = c.in_ok-join_texts.field-0 in
     let r : Record = c.in-Some.found in
     let found = sym c.in-Some.is ∙ c.in_ok-found.ensures.found t stands in
-    let other : is_text r ≡ false = sym c.is_text.ensures ∙ c.if-is_text.false in
+    let other : is_text_record (Some r) ≡ false = sym c.is_text.ensures ∙ c.if-is_text.false in
     let below_is : c.as_slice.result.now ≡ entries_of (below (at l t.documents)) =
     c.as_slice.ensures ∙ c.in_ok-entries.ensures.entries t (later _ _ t (law.unchanged_contents _ _ c.in_ok-found.ensures.unchanged) stands) in
     let is : fit ≡ texts_fit (normal (below (at l t.documents))) =
@@ -60,7 +61,7 @@ returns-clause-reply g c t stands =
     let fit = c.in_ok-join_texts.field-0 in
     let r : Record = c.in-Some.found in
     let found = sym c.in-Some.is ∙ c.in_ok-found.ensures.found t stands in
-    let other : is_text r ≡ false = sym c.is_text.ensures ∙ c.if-is_text.false in
+    let other : is_text_record (Some r) ≡ false = sym c.is_text.ensures ∙ c.if-is_text.false in
     let below_is : c.as_slice.result.now ≡ entries_of (below (at l t.documents)) =
     c.as_slice.ensures ∙ c.in_ok-entries.ensures.entries t (later _ _ t (law.unchanged_contents _ _ c.in_ok-found.ensures.unchanged) stands) in
     let is : fit ≡ texts_fit (normal (below (at l t.documents))) =
@@ -74,7 +75,7 @@ returns-clause-changes g c t stands =
     let fit = c.in_ok-join_texts.field-0 in
     let r : Record = c.in-Some.found in
     let found = sym c.in-Some.is ∙ c.in_ok-found.ensures.found t stands in
-    let other : is_text r ≡ false = sym c.is_text.ensures ∙ c.if-is_text.false in
+    let other : is_text_record (Some r) ≡ false = sym c.is_text.ensures ∙ c.if-is_text.false in
     let below_is : c.as_slice.result.now ≡ entries_of (below (at l t.documents)) =
     c.as_slice.ensures ∙ c.in_ok-entries.ensures.entries t (later _ _ t (law.unchanged_contents _ _ c.in_ok-found.ensures.unchanged) stands) in
     let is : fit ≡ texts_fit (normal (below (at l t.documents))) =

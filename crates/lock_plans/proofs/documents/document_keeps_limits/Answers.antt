@@ -19,6 +19,6 @@ returns-in_default-2 c =
 pub returns : goal.returns
 returns c =
     let l = c.args.at.now in
-    c.keeps_limits.ensures
+    c.fits_at.ensures
     ∙ document_fits l c.in-Some-2.element (plain c.in-Some.fragment) (test_of_within l c.divisions-divisions.ensures.label.1) (sym c.in_ok-element.ensures ∙ c.in-Some-2.is)
     ∙ ap (λ o. all_within (document_at l (plain_or_none o))) (sym c.in-Some.is)

@@ -7,10 +7,11 @@ use Rattle.tree_model.specs.DomCalls.{dom}
 use Rattle.tree_model.specs.Fragments.{plain}
 use Rattle.tree_model.specs.StoredTree.{is_document_record}
 use Rattle.tree_model.specs.Tree.{at, head_label, record_of}
+use Rattle.tree_model.specs.NodeKinds.{is_text_record}
 use Rattle.tree_model.proofs.PlaceLaws.{not_root}
 use Rattle.dom_reads.proofs.ReplyLaws.{later}
 use Rattle.dom_reads.proofs.StepLaws.{row_of}
-use Rattle.lock_plans.specs.inside.PlanSteps.{append_end, asked_by, is_text_record}
+use Rattle.lock_plans.specs.inside.PlanSteps.{append_end, asked_by}
 use Rattle.lock_plans.proofs.Causes.{answer_cause, fault_cause, memory_cause, rest_cause}
 use Rattle.lock_plans.proofs.GapLaws.{one_way, onward, other_way}
 use Rattle.lock_plans.proofs.PlanLaws.{begun, document_is, edge_asks, ended, grown, joined, not_there, past, sees, stopped, text_is, there}
@@ -81,8 +82,8 @@ returns-then-not-is_document-clause-unchanged g c = g.met.S.NodeRead.unchanged_o
 pub returns-then-not-is_document-clause-cause : goal.returns-then-not-is_document-clause-cause
 returns-then-not-is_document-clause-cause g c = rest_cause _ c.in_ok-found.ensures.cause.exact c.append_last.ensures.cause
 
-pub returns-then-is_text_fragment-clause-append : goal.returns-then-is_text_fragment-clause-append
-returns-then-is_text_fragment-clause-append g c = λ t stands.
+pub returns-then-is_text-2-clause-append : goal.returns-then-is_text-2-clause-append
+returns-then-is_text-2-clause-append g c = λ t stands.
     let l = c.args.at.now in
     let node = at l t.documents in
     let e : Some c.in-Some.found ≡ record_of node = sym c.in-Some.is ∙ c.in_ok-found.ensures.found t stands in
@@ -91,16 +92,16 @@ returns-then-is_text_fragment-clause-append g c = λ t stands.
     let seen = begun _ c.new-plan.ensures c.in_ok-found.ensures.asks in
     let text = sym (text_is node) ∙ ap is_text_record (sym e) ∙ sym c.is_text.ensures ∙ c.if-is_text.false in
     let document = sym (document_is node) ∙ ap is_document_record (sym e) ∙ sym c.is_document.ensures ∙ c.if-not-is_document.false in
-    past w _ (ap not is_there) (past w _ text (one_way w _ _ document (stopped _ (sym c.is_text_fragment.ensures ∙ c.if-is_text_fragment.true) seen)))
+    past w _ (ap not is_there) (past w _ text (one_way w _ _ document (stopped _ (sym c.is_text-2.ensures ∙ c.if-is_text-2.true) seen)))
 
-pub returns-then-is_text_fragment-clause-insert : goal.returns-then-is_text_fragment-clause-insert
-returns-then-is_text_fragment-clause-insert g c = returns-then-is_text_fragment-clause-append g c
+pub returns-then-is_text-2-clause-insert : goal.returns-then-is_text-2-clause-insert
+returns-then-is_text-2-clause-insert g c = returns-then-is_text-2-clause-append g c
 
-pub returns-then-is_text_fragment-clause-unchanged : goal.returns-then-is_text_fragment-clause-unchanged
-returns-then-is_text_fragment-clause-unchanged g c = c.see.ensures.unchanged
+pub returns-then-is_text-2-clause-unchanged : goal.returns-then-is_text-2-clause-unchanged
+returns-then-is_text-2-clause-unchanged g c = c.see.ensures.unchanged
 
-pub returns-then-is_text_fragment-clause-cause : goal.returns-then-is_text_fragment-clause-cause
-returns-then-is_text_fragment-clause-cause g c = answer_cause _ c.in_ok-found.ensures.cause.exact
+pub returns-then-is_text-2-clause-cause : goal.returns-then-is_text-2-clause-cause
+returns-then-is_text-2-clause-cause g c = answer_cause _ c.in_ok-found.ensures.cause.exact
 
 pub returns-in_err-read_edge : goal.returns-in_err-read_edge
 returns-in_err-read_edge g c = record {
@@ -131,7 +132,7 @@ returns-then-is_some-clause-append g c = λ t stands.
     let now = later _ _ t (g.met.S.NodeRead.unchanged_contents _ _ c.see.ensures.unchanged) stands in
     let child = c.in_ok-first_child.ensures.found t now ∙ ap head_label (row_of l t (not_root l t stands.valid is_there)) in
     let taken = sym (ap is_some child) ∙ sym c.is_some.ensures ∙ c.if-is_some.true in
-    let element = sym c.is_text_fragment.ensures ∙ c.if-is_text_fragment.false in
+    let element = sym c.is_text-2.ensures ∙ c.if-is_text-2.false in
     let r = edge_asks l First ER in
     let asked = grown _ seen c.in_ok-read_edge.ensures in
     past w _ (ap not is_there) (past w _ text (one_way w _ _ document (past w _ element (joined w r _ (stopped _ taken asked)))))
@@ -159,7 +160,7 @@ returns-clause-append g c =
     let now = later _ _ t (g.met.S.NodeRead.unchanged_contents _ _ c.see.ensures.unchanged) stands in
     let child = c.in_ok-first_child.ensures.found t now ∙ ap head_label (row_of l t (not_root l t stands.valid is_there)) in
     let taken = sym (ap is_some child) ∙ sym c.is_some.ensures ∙ c.if-is_some.false in
-    let element = sym c.is_text_fragment.ensures ∙ c.if-is_text_fragment.false in
+    let element = sym c.is_text-2.ensures ∙ c.if-is_text-2.false in
     let r = edge_asks l First ER in
     let asked = grown _ seen c.in_ok-read_edge.ensures in
     let end = dom (call.Append l c.args.fragment.now) t in

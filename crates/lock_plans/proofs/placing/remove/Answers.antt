@@ -11,7 +11,7 @@ use Rattle.tree_model.specs.Tree.{at, found, record_of}
 use Rattle.tree_model.specs.ValidTrees.{same_label}
 use Rattle.dom_reads.proofs.ReplyLaws.{later}
 use Rattle.dom_reads.proofs.StepLaws.{root_not_found}
-use Rattle.lock_plans.specs.inside.PlanSteps.{asked_by, insert_end, is_text_record, remove_end, replace_end}
+use Rattle.lock_plans.specs.inside.PlanSteps.{asked_by, insert_end, remove_end, replace_end}
 use Rattle.lock_plans.proofs.Causes.{answer_cause, fault_cause, rest_cause}
 use Rattle.lock_plans.proofs.GapLaws.{onward, past_child, stopped_at_child}
 use Rattle.lock_plans.proofs.PlanLaws.{begun, document_is, grown, not_there, past, sees, stopped, text_is, there}

@@ -1,7 +1,7 @@
 use Rattle.std.proofs.Common.{◌≡◌, Some, Bool, true, false, [], ◌++◌, if◌then◌else◌, not, sym, ap, ◌∙◌}
 use Rattle.lock_modes.specs.declared.mode.Mode.TheVariants.{SX}
 use Rattle.tree_model.specs.Tree.{at, record_of}
-use Rattle.lock_plans.specs.inside.PlanSteps.{is_text_record}
+use Rattle.tree_model.specs.NodeKinds.{is_text_record}
 use Rattle.lock_plans.proofs.PlanLaws.{begun, ended, grown, joined, last_test, node_asks, not_there, past, sees, stopped, text_is, there}
 use Rattle.lock_plans.proofs.subtrees.normalize.Goals as goal
 
