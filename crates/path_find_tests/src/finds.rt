@@ -51,7 +51,7 @@ fn finds(
 }
 
 /// A node, a path, and what is found from there.
-const FOUND_IN_MIXED: [(&str, &str, &str); 6] = [
+const FOUND_IN_MIXED: [(&str, &str, &str); 12] = [
     (
         "1.1001.1001.1009",
         "preceding-sibling::*[1]",
@@ -74,6 +74,20 @@ const FOUND_IN_MIXED: [(&str, &str, &str); 6] = [
         "1.1001.1001.1007,",
     ),
     ("1.1001.1001.1011", "//b", "refused"),
+    ("1.1001.1001", "text()[2]", "1.1001.1001.1007,"),
+    ("1.1001.1001", "*[3]", "1.1001.1001.1009,"),
+    ("1.1001.1001", "c[1]", "1.1001.1001.1003,"),
+    ("1.1001.1001", "c[2]", ""),
+    (
+        "1.1001.1001.1009",
+        "preceding-sibling::*[2]",
+        "1.1001.1001.1001,",
+    ),
+    (
+        "1.1001.1001.1001",
+        "following-sibling::text()[1]",
+        "1.1001.1001.1005,",
+    ),
 ];
 
 #[test]
@@ -136,7 +150,12 @@ fn a_predicate_that_hangs_on_no_position_holds_at_each_node(rt: HostRuntime) -> 
 }
 
 /// The same; what is found from one node after the other stands in document order.
-const FOUND_IN_PRICES: [(&str, &str); 4] = [
+const FOUND_IN_PRICES: [(&str, &str); 9] = [
+    ("/c/i[3]", "1.1001.1001.1005,"),
+    ("/c/i[0]", ""),
+    ("/c/i[5]", ""),
+    ("/c/i[2][1]/price", "1.1001.1001.1003.1001,"),
+    ("/c/i[2][2]", ""),
     ("/c/i[price > 10]", "1.1001.1001.1003,"),
     ("//price[. > 10]/..", "1.1001.1001.1003,"),
     ("//node()[2]", "1.1001.1001.1003,"),
@@ -156,10 +175,17 @@ fn a_string_value_is_a_number_where_it_has_digits_alone(rt: HostRuntime) -> Resu
 }
 
 /// The node and the document cost a read each, a row one a child and one more, a tree one a node and one more, an attribute with a name one.
-/// The children of all nodes of a tree that was just seen cost none.
-const READS_IN_PRICES: [(&str, u64); 5] = [
+/// The children of all nodes of a tree that was just seen cost none, and those behind the place that is asked for aren't read.
+const READS_IN_PRICES: [(&str, u64); 12] = [
     ("/c", 4),
     ("/c/i", 9),
+    ("/c/i[1]", 5),
+    ("/c/i[3]", 7),
+    ("/c/i[4]", 8),
+    ("/c/i[5]", 9),
+    ("/c/i[0]", 4),
+    ("/c/i[2][price]", 8),
+    ("/c[1]/i[2]/price", 7),
     ("//i", 16),
     ("//i/price", 24),
     ("//i[@k]", 20),

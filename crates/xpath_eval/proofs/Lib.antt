@@ -2,6 +2,7 @@ mod Parts
 mod Chains
 mod Opened
 mod Orders
+mod PlacedNodes
 mod DownSteps
 mod OneWalk
 mod FreeTests

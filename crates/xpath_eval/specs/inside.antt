@@ -3,6 +3,7 @@ pub mod Contexts
 pub mod Chains
 pub mod Operations
 pub mod Orders
+pub mod Places
 pub mod Steps
 pub mod Texts
 pub mod Walks

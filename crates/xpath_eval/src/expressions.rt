@@ -19,12 +19,15 @@ ghost use Rattle.xpath_eval.specs.inside.Steps.{from_node, IsWholeIn, LeadsDown}
 use crate::context::Context;
 use crate::operations::applied;
 use crate::order::in_document_order;
+use crate::places::{at_place, enough_for};
 use crate::value::XValue;
 use dewey_labels::{List, NoMemory, Text};
 use node_seq::{NodeRead, SeqError};
 use path_model::{Axis, Expr, NodeTest, Op, Step};
 use std::alloc::Global;
-use xpath_axes::{Looks, Position, axis, document_label, keep_if, put_behind, row_ahead, see_node};
+use xpath_axes::{
+    Looks, Position, axis, axis_up_to, document_label, keep_if, put_behind, row_ahead, see_node,
+};
 
 /// The value of an expression.
 #[cycle(evaluation)]
@@ -264,11 +267,32 @@ fn stepped<S: NodeRead, W: Looks>(
 {
     let mut all = List::new(alloc);
     for node in from {
-        let found = axis(alloc, step.axis, &step.test, node, seq, looks)?;
-        let kept = filtered(alloc, step.tests.as_slice(), found, seq, looks)?;
+        let kept = stepped_from(alloc, step, node, seq, looks)?;
         put_behind(&mut all, kept)?;
     }
     Ok(all)
+}
+
+/// A step from one node. Where the first predicate is a number, nothing is asked of the axis behind its place.
+#[cycle(evaluation)]
+fn stepped_from<S: NodeRead, W: Looks>(
+    alloc: Global,
+    step: &Step,
+    from: &Position,
+    seq: &mut S,
+    looks: &mut W,
+) -> Result<List<Position>, SeqError>
+    ensures run { Runs S.reads W.saw S.contents (from_node step.now (plain from.now)) all_plain seq.old looks.old result seq.new looks.new }
+    ensures unchanged { S.unchanged seq.old seq.new }
+    ensures cause { HasCause SeqError.DiskFault (S.count seq.old) (S.count seq.new) result }
+{
+    let tests = step.tests.as_slice();
+    let Some(room) = enough_for(tests) else {
+        let found = axis(alloc, step.axis, &step.test, from, seq, looks)?;
+        return filtered(alloc, tests, found, seq, looks);
+    };
+    let found = axis_up_to(alloc, step.axis, &step.test, room, from, seq, looks)?;
+    filtered(alloc, tests, found, seq, looks)
 }
 
 /// The nodes that each predicate in turn keeps.
@@ -292,9 +316,30 @@ fn filtered<S: NodeRead, W: Looks>(
     Ok(left)
 }
 
-/// The nodes that a predicate keeps.
+/// The nodes that a predicate keeps. A number keeps the one at its place, and isn't evaluated at the others.
 #[cycle(evaluation)]
 fn kept<S: NodeRead, W: Looks>(
+    alloc: Global,
+    test: &Expr,
+    nodes: List<Position>,
+    seq: &mut S,
+    looks: &mut W,
+) -> Result<List<Position>, SeqError>
+    ensures run { Runs S.reads W.saw S.contents
+        (program.kept_by (λ c. program.value (paths.plain test.now) c) (length (all_plain nodes)) 1
+        (all_plain nodes)) all_plain seq.old looks.old result seq.new looks.new }
+    ensures unchanged { S.unchanged seq.old seq.new }
+    ensures cause { HasCause SeqError.DiskFault (S.count seq.old) (S.count seq.new) result }
+{
+    match test {
+        Expr::Number(number) => Ok(at_place(alloc, *number, nodes)?),
+        _ => kept_one_by_one(alloc, test, nodes, seq, looks),
+    }
+}
+
+/// The nodes that a predicate keeps, which is evaluated at each.
+#[cycle(evaluation)]
+fn kept_one_by_one<S: NodeRead, W: Looks>(
     alloc: Global,
     test: &Expr,
     nodes: List<Position>,

@@ -10,6 +10,7 @@ mod numbers;
 mod one_walk;
 mod operations;
 mod order;
+mod places;
 mod strings;
 mod value;
 

@@ -1,4 +1,5 @@
-use Rattle.std.proofs.Common.{◌≡◌, ◌+◌, ◌-◌, if◌then◌else◌, List, [], ◌∷◌, ◌++◌, length, take, drop, map, slice_index_or, refl, sym, ap, subst, ◌∙◌, arith}
+use Rattle.std.proofs.Common.{◌≡◌, ◌+◌, ◌-◌, if◌then◌else◌, List, [], ◌∷◌, ◌++◌, length, take, drop, map, slice_index_or, w64, FitsSigned, refl, sym, ap, subst, ◌∙◌, arith, rules}
+use Rattle.std.proofs.lemmas.Int.{to_z-of_z}
 use Rattle.std.specs.List.{filter}
 use Rattle.std.proofs.lemmas.List.{drop_more, length-drop}
 use Rattle.outside_traits.specs.Faults.{HasCause}
@@ -19,7 +20,7 @@ use Rattle.path_model.specs.Programs.{Program, ends, and_then, gathered}
 use Rattle.path_model.specs.Values.{nodes, flag, truth, same_flag}
 use Rattle.xpath_axes.specs.Positions.{all_plain}
 use Rattle.xpath_axes.specs.Positions as position
-use Rattle.xpath_axes.proofs.Running.{left_is, begins, goes, ended, each_goes, item_next, runs_as, and_then-ends, and_then-and_then}
+use Rattle.xpath_axes.proofs.Running.{left_is, begins, no_run, goes, ended, each_goes, item_next, runs_as, and_then-ends, and_then-and_then}
 use Rattle.xpath_eval.specs.Values.{meant, all_meant}
 use Rattle.xpath_eval.specs.inside.Chains.{both, chain_from, chain_of, linked}
 use Rattle.xpath_eval.specs.inside.Contexts.{stands}
@@ -28,6 +29,8 @@ use Rattle.xpath_eval.specs.inside.Steps.{from_node}
 use Rattle.xpath_eval.proofs.Chains.{grouped_is, apply_is}
 use Rattle.xpath_eval.proofs.Opened.{take_all, plain_append, plain_length, step_is, path_is, apply_opened, first_is, drop_all, chain_done, meant_pushed, operands_next, kept_next}
 use Rattle.xpath_eval.proofs.Parts.{later, run_is, answer_is, made_of, one_by_one, each_starts, on_tree}
+use Rattle.xpath_eval.proofs.PlacedNodes.{kept_number, number_opened}
+use Rattle.xpath_eval.specs.inside.Places.{at_place, place_of}
 use Rattle.xpath_eval.proofs.DownSteps.{whole_after, row_taken, in_its_place}
 use Rattle.xpath_eval.proofs.expressions.+evaluation.Goals as goal
 
@@ -216,23 +219,16 @@ stepped-loop-node-preserved g t c =
     let i = c.loop-node.node-index in
     let inv = c.loop-node.invariant in
     let x = c.node-item.result in
-    let s = c.args.step.now in
-    let f : List Position → List Position = λ ms. filter (passes s.axis s.test) ms in
-    let ways : Program (List Position) = along s.axis s.test (position.plain x) in
-    let one = c.in_ok-found.ensures in
-    let two = c.in_ok-kept.ensures in
+    let one = c.in_ok-kept.ensures in
     record {
-      same = seqs.unchanged_onward _ _ _ (seqs.unchanged_onward _ _ _ inv.same one.unchanged) two.unchanged;
-      counted = two.cause.exact ∙ one.cause.exact ∙ inv.counted;
+      same = seqs.unchanged_onward _ _ _ inv.same one.unchanged;
+      counted = one.cause.exact ∙ inv.counted;
       left = λ u stands_for.
-          let now = later _ _ u (seqs.unchanged_contents _ _ inv.same) stands_for in
-          each_goes reads saw u nothing further (from_node s) (position.plain x) (all_plain (drop (i + 1) c.args.from.now)) (all_plain c.loop-node.all)
+          each_goes reads saw u nothing further (from_node c.args.step.now) (position.plain x) (all_plain (drop (i + 1) c.args.from.now)) (all_plain c.loop-node.all)
           (ap all_plain (item_next c.args.from.now i x (omega arith) c.node-item.is))
           (ap all_plain c.in_ok-put_behind.ensures ∙ plain_append c.loop-node.all c.in_ok-kept.kept)
           (inv.left u stands_for)
-          (run_is reads saw u (and_then-and_then ways (λ ms. ends (f ms)) (λ ms. filtered (plain_row s.tests) ms))
-          (one_by_one reads saw u nothing further (and_then ways (λ ms. ends (f ms))) (λ ms. filtered (plain_row s.tests) ms) (one.run u now)
-          (run_is reads saw u (ap (λ ts. filtered (plain_row ts) (all_plain c.in_ok-found.found)) c.as_slice.ensures) (two.run u (later _ _ u (seqs.unchanged_contents _ _ one.unchanged) now)))));
+          (one.run u (later _ _ u (seqs.unchanged_contents _ _ inv.same) stands_for));
     }
 
 pub stepped_ahead-loop-index-init : goal.stepped_ahead-loop-index-init
@@ -381,8 +377,8 @@ values_of-loop-operand-preserved g t c =
           (c.in_ok-value.ensures.run u (later _ _ u (seqs.unchanged_contents _ _ inv.same) stands_for)));
     }
 
-pub kept-loop-index-init : goal.kept-loop-index-init
-kept-loop-index-init g t c =
+pub kept_one_by_one-loop-index-init : goal.kept_one_by_one-loop-index-init
+kept_one_by_one-loop-index-init g t c =
     let reads = g.S.NodeRead.reads in
     let saw = g.W.Looks.saw in
     let nothing = g.met.W.Looks.saw_nothing in
@@ -397,8 +393,8 @@ kept-loop-index-init g t c =
       left = λ u stands_for. left_is reads saw u (sym (and_then-ends all) ∙ (λ i. and_then all (λ more. ends (all_plain (sym c.new-kept.ensures i) ++ more)))) (begins reads saw u nothing further all c.args.seq.now c.args.looks.now);
     }
 
-pub kept-loop-index-preserved : goal.kept-loop-index-preserved
-kept-loop-index-preserved g t c =
+pub kept_one_by_one-loop-index-preserved : goal.kept_one_by_one-loop-index-preserved
+kept_one_by_one-loop-index-preserved g t c =
     let reads = g.S.NodeRead.reads in
     let saw = g.W.Looks.saw in
     let nothing = g.met.W.Looks.saw_nothing in
@@ -425,3 +421,54 @@ kept-loop-index-preserved g t c =
           ∙ kept_next test size (i + 1) (position.plain x) rest so_far) (inv.left u stands_for))
           (run_is reads saw u (ap (λ z. test (record { at = position.plain x; proximity = i + 1; size = z })) of_size) (c.in_ok-holds.ensures.run u (later _ _ u (seqs.unchanged_contents _ _ inv.same) stands_for))));
     }
+
+pub stepped_from-returns-in_default-clause-run : goal.stepped_from-returns-in_default-clause-run
+stepped_from-returns-in_default-clause-run g t c =
+    let reads = g.S.NodeRead.reads in
+    let saw = g.W.Looks.saw in
+    let nothing = g.met.W.Looks.saw_nothing in
+    let further = g.met.W.Looks.saw_further in
+    let seqs = g.met.S.NodeRead in
+    let s = c.args.step.now in
+    let f : List Position → List Position = λ ms. filter (passes s.axis s.test) ms in
+    let ways : Program (List Position) = along s.axis s.test (position.plain c.args.from.now) in
+    let behind : List Position → Program (List Position) = λ ms. filtered (plain_row s.tests) ms in
+    let one = c.in_ok-found.ensures in
+    on_tree _ _ _ _ c.filtered.result (λ u a stands_for h.
+    run_is reads saw u (and_then-and_then ways (λ ms. ends (f ms)) behind)
+    (one_by_one reads saw u nothing further (and_then ways (λ ms. ends (f ms))) behind (one.run u stands_for)
+    (run_is reads saw u (ap (λ ts. filtered (plain_row ts) (all_plain c.in_ok-found.found)) c.as_slice-tests.ensures) (h (later _ _ u (seqs.unchanged_contents _ _ one.unchanged) stands_for))))) c.filtered.ensures.run
+
+pub stepped_from-returns-clause-run : goal.stepped_from-returns-clause-run
+stepped_from-returns-clause-run g t c =
+    let reads = g.S.NodeRead.reads in
+    let saw = g.W.Looks.saw in
+    let nothing = g.met.W.Looks.saw_nothing in
+    let further = g.met.W.Looks.saw_further in
+    let seqs = g.met.S.NodeRead in
+    let s = c.args.step.now in
+    let f : List Position → List Position = λ ms. filter (passes s.axis s.test) ms in
+    let ways : Program (List Position) = along s.axis s.test (position.plain c.args.from.now) in
+    let behind : List Position → Program (List Position) = λ ms. filtered (plain_row s.tests) ms in
+    let first : List Position → Program (List Position) = λ ms. ends (take c.in-Some.room (f ms)) in
+    let is_enough : (ms : List Position) → behind (take c.in-Some.room ms) ≡ behind ms = λ ms. ap (λ ts. filtered (plain_row ts) (take c.in-Some.room ms)) (sym c.as_slice-tests.ensures) ∙ c.in-Some.ensures ms ∙ ap (λ ts. filtered (plain_row ts) ms) c.as_slice-tests.ensures in
+    let one = c.in_ok-found-2.ensures in
+    on_tree _ _ _ _ c.filtered-2.result (λ u a stands_for h.
+    run_is reads saw u (and_then-and_then ways first behind ∙ (λ i. and_then ways (λ ms. is_enough (f ms) i)))
+    (one_by_one reads saw u nothing further (and_then ways first) behind (one.run u stands_for)
+    (run_is reads saw u (ap (λ ts. filtered (plain_row ts) (all_plain c.in_ok-found-2.found)) c.as_slice-tests.ensures) (h (later _ _ u (seqs.unchanged_contents _ _ one.unchanged) stands_for))))) c.filtered-2.ensures.run
+
+pub kept-returns-in_ok-at_place-in-Number-clause-run : goal.kept-returns-in_ok-at_place-in-Number-clause-run
+kept-returns-in_ok-at_place-in-Number-clause-run g t c =
+    let reads = g.S.NodeRead.reads in
+    let saw = g.W.Looks.saw in
+    let nothing = g.met.W.Looks.saw_nothing in
+    let further = g.met.W.Looks.saw_further in
+    let ns = all_plain c.args.nodes in
+    let z = c.in-Number.number in
+    let fits : FitsSigned w64 z = search rules in
+    let kept_all : Expr → Program (List Position) = λ e. kept_by (λ k. program.value (plain e) k) (length ns) 1 ns in
+    let at_all : paths.Expr → Program (List Position) = λ e. kept_by (λ k. program.value e k) (length ns) 1 ns in
+    λ u stands_for.
+    run_is reads saw u (sym (kept_number z (length ns) ns) ∙ ap at_all (sym (number_opened z)) ∙ ap kept_all (sym c.in-Number.is))
+    (answer_is reads saw u (sym (c.in_ok-at_place-in-Number.ensures ∙ ap (λ p. at_place p ns) (ap place_of (to_z-of_z w64 z fits)))) (no_run reads saw u nothing further _ c.args.seq.now c.args.looks.now))

@@ -69,8 +69,8 @@ invariant-filtered-loop-test g l = record {
       (program.filtered (plain_row (drop l.test-index l.tests)) (all_plain l.left)) l.fn.seq l.fn.looks l.seq l.looks;
 }
 
-abbrev pub invariant-kept-loop-index : goal.invariant-kept-loop-index
-invariant-kept-loop-index g l = record {
+abbrev pub invariant-kept_one_by_one-loop-index : goal.invariant-kept_one_by_one-loop-index
+invariant-kept_one_by_one-loop-index g l = record {
   same : g.S.NodeRead.unchanged l.fn.seq l.seq;
   counted : g.S.NodeRead.count l.seq ≡ g.S.NodeRead.count l.fn.seq;
   left : (t : Tree) → StandsFor (g.S.NodeRead.contents l.fn.seq) t → IsLeft g.S.NodeRead.reads g.W.Looks.saw t

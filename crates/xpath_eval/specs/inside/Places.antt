@@ -1,0 +1,19 @@
+-- Numbers as predicates: places, counted from 1.
+use Rattle.std.specs.Prelude.{◌≡◌, ℕ, zero, suc, List, [], take, drop, ℤ, pos, negsuc}
+use Rattle.path_model.specs.Evaluation.{filtered}
+use Rattle.path_model.specs.Paths.{Exprs}
+use Rattle.path_model.specs.Positions.{Position}
+
+-- the place that a number is; 0 is none
+abbrev pub place_of : ℤ → ℕ
+place_of (pos n) = n
+place_of (negsuc n) = 0
+
+-- what stands at a place
+abbrev pub at_place : ℕ → List Position → List Position
+at_place zero ns = []
+at_place (suc p) ns = take 1 (drop p ns)
+
+-- predicates keep of the first so many nodes of a row what they keep of all
+abbrev pub IsEnough : ℕ → Exprs → Type 0
+IsEnough p es = (ns : List Position) → filtered es (take p ns) ≡ filtered es ns
