@@ -127,7 +127,8 @@ pub fn spread<R: Threads + Wait + Sync>(
     join(
         rt,
         move ||
-            requires { IsSync R.row × (pass.lock ≡ lock.now) × (pass.turn ≡ false) × (1 < threads) × ((n : ℕ) → n < threads - 1 → has_number pass.has n ≡ true) }
+            requires { IsSync R.row × (pass.lock ≡ lock.now) × (pass.turn ≡ false) × (1 < threads)
+                × ((n : ℕ) → n < threads - 1 → has_number pass.has n ≡ true) }
         { spread(rt, lock, pass, threads - 1, takes) },
         move ||
             requires { (other.lock ≡ lock.now) × (other.turn ≡ false) }
