@@ -54,8 +54,7 @@ impl ToJson for Label {
     ghost json = { label_value };
 
     fn to_json(&self, alloc: Global) -> Result<Value, NoMemory> {
-        let text = self.text(alloc)?;
-        Ok(Value::String(text.into_string()))
+        Ok(Value::String(self.string(alloc)?))
     }
 }
 
@@ -77,7 +76,7 @@ impl ToJson for Hit {
     ghost json = { hit_value };
 
     fn to_json(&self, alloc: Global) -> Result<Value, NoMemory> {
-        let mut text = self.label.text(alloc)?.into_string();
+        let mut text = self.label.string(alloc)?;
         if let Some(name) = &self.attr {
             text.push_str("/@")?;
             text.push_str(name.as_str())?;

@@ -7,9 +7,11 @@ ghost use Rattle.std.specs.List.{AllByRecursion};
 ghost use Rattle.dewey_labels.specs.Sides.{rest, first_code, fill, child_toward};
 ghost use Rattle.dewey_labels.specs.Labels.{root, greatest, is_child, is_label, IsLabel, IsAncestor, is_ancestor, are_codes as in_a_row, level as level_of, parent as parent_of};
 
+use crate::divisions::Divisions;
 use crate::{Copied, List, NoMemory};
 use std::alloc::Global;
 use std::cmp::Ordering;
+use std::fmt;
 use std::marker::Model;
 
 /// The most divisions of a label: `most_divisions` of the definitions.
@@ -19,9 +21,9 @@ pub const MOST_DIVISIONS: usize = 255;
 pub const GREATEST: u32 = 4_294_967_291;
 
 /// A label, seen as the list of its divisions.
-#[derive(Debug, Drop)]
+#[derive(Drop)]
 pub struct Label {
-    divisions: Vec<u32>,
+    divisions: Divisions,
 }
 
 impl Model for Label {
@@ -30,9 +32,9 @@ impl Model for Label {
 
     ghost Value = { p.List p.ℕ };
 
-    ghost view = { λ l. l.divisions.items };
+    ghost view = { λ l. l.divisions };
 
-    ghost invariant = { λ l. IsLabel l.divisions.items };
+    ghost invariant = { λ l. IsLabel l.divisions };
 }
 
 impl Label {
@@ -40,36 +42,50 @@ impl Label {
     pub fn root(alloc: Global) -> Result<Label, NoMemory>
         ensures { IfOk result (λ l. l ≡ root) }
     {
-        let divisions = Vec::from_slice(alloc, &[1])?;
+        let divisions = Divisions::of_slice(alloc, &[1])?;
         Ok(Label { divisions })
     }
 
     /// The label with these divisions. It takes no memory.
-    pub fn of_divisions(divisions: List<u32>) -> Option<Label>
+    pub fn of(divisions: Divisions) -> Option<Label>
         ensures label { IsSome result ↔ IsLabel divisions }
         ensures divisions { IfSome result (λ l. l ≡ divisions) }
     {
         if is_label(divisions.as_slice()) {
-            Some(Label {
-                divisions: divisions.into_vec(),
-            })
+            Some(Label { divisions })
         } else {
             None
         }
+    }
+
+    /// The label with the divisions of a list. It takes no memory.
+    pub fn of_divisions(divisions: List<u32>) -> Option<Label>
+        ensures label { IsSome result ↔ IsLabel divisions }
+        ensures divisions { IfSome result (λ l. l ≡ divisions) }
+    {
+        Label::of(Divisions::of_vec(divisions.into_vec()))
+    }
+
+    /// A copy of the label's divisions, to which more can be put.
+    pub fn own_divisions(&self, alloc: Global) -> Result<Divisions, NoMemory>
+        ensures divisions { IfOk result (λ own. own ≡ self.now) }
+        ensures label { IsLabel self.now }
+    {
+        self.divisions.copy(alloc)
     }
 
     pub fn divisions(&self) -> &[u32]
         ensures divisions { result.now ≡ self.now }
         ensures label { IsLabel self.now }
     {
-        &self.divisions
+        self.divisions.as_slice()
     }
 
     /// The level: 0 for the root, and one more for each code.
     pub fn level(&self) -> u32
         ensures { result ≡ level_of self.now }
     {
-        self.divisions
+        self.divisions()
             .iter()
             .filter(|division| **division % 2 == 1)
             .count() as u32
@@ -81,7 +97,8 @@ impl Label {
         ensures ancestor { IsTrue result ↔ IsAncestor self.now other.now }
         ensures prefix { result ≡ is_ancestor self.now other.now }
     {
-        self.divisions.len() < other.divisions.len() && other.divisions.starts_with(&self.divisions)
+        let (above, below) = (self.divisions(), other.divisions());
+        above.len() < below.len() && below.starts_with(above)
     }
 
     /// The label without its last code, or None for the root.
@@ -89,11 +106,11 @@ impl Label {
         ensures parent { IfOk result (λ found. IfSome found (λ p. p ≡ parent_of self.now)) }
         ensures root { IfOk result (λ found. IsNone found ↔ (self.now ≡ root)) }
     {
-        if self.divisions.len() == 1 {
+        let own = self.divisions();
+        if own.len() == 1 {
             return Ok(None);
         }
-        let end = last_code(&self.divisions);
-        let divisions = Vec::from_slice(alloc, &self.divisions[..end])?;
+        let divisions = Divisions::of_slice(alloc, &own[..last_code(own)])?;
         Ok(Some(Label { divisions }))
     }
 
@@ -105,7 +122,8 @@ impl Label {
         if !self.is_ancestor_of(below) {
             return Ok(None);
         }
-        let divisions = Vec::from_slice(alloc, cut_toward(&self.divisions, &below.divisions))?;
+        let way = cut_toward(self.divisions(), below.divisions());
+        let divisions = Divisions::of_slice(alloc, way)?;
         Ok(Some(Label { divisions }))
     }
 
@@ -113,7 +131,7 @@ impl Label {
     pub fn attr_root(&self, alloc: Global) -> Result<List<u32>, NoMemory>
         ensures { IfOk result (λ l. l ≡ self.now ++ 1 ∷ []) }
     {
-        let mut divisions = Vec::from_slice(alloc, &self.divisions)?;
+        let mut divisions = Vec::from_slice(alloc, self.divisions())?;
         divisions.push(1)?;
         Ok(List::from_vec(divisions))
     }
@@ -123,15 +141,17 @@ impl Label {
         ensures { IfOk result (λ l. l ≡ fill self.now) }
     {
         let mut divisions = Vec::with_capacity(alloc, MOST_DIVISIONS)?;
-        divisions.extend_from_slice(&self.divisions)?;
+        divisions.extend_from_slice(self.divisions())?;
         divisions.resize(MOST_DIVISIONS, GREATEST)?;
-        Ok(Label { divisions })
+        Ok(Label {
+            divisions: Divisions::of_vec(divisions),
+        })
     }
 
     pub fn copy(&self, alloc: Global) -> Result<Label, NoMemory>
         ensures { IfOk result (λ l. l ≡ self.now) }
     {
-        let divisions = Vec::from_slice(alloc, &self.divisions)?;
+        let divisions = self.divisions.copy(alloc)?;
         Ok(Label { divisions })
     }
 }
@@ -200,6 +220,14 @@ fn last_code(divisions: &[u32]) -> usize
         start -= 1;
     }
     start
+}
+
+impl fmt::Debug for Label {
+    fn fmt<W: fmt::Write>(&self, f: &mut fmt::Formatter<W>) -> fmt::Result {
+        f.debug_struct("Label")
+            .field("divisions", &self.divisions())
+            .finish()
+    }
 }
 
 impl PartialEq for Label {

@@ -6,7 +6,7 @@ ghost use Rattle.dewey_labels.specs.inside.LabelReader.{begins_division, ends_di
 ghost use Rattle.dewey_labels.specs.LabelText.{label_text, IsLabelText, BeginsLabelText};
 
 use crate::label::{GREATEST, Label, MOST_DIVISIONS};
-use crate::{List, NoMemory};
+use crate::{Divisions, NoMemory};
 use std::alloc::Global;
 use std::marker::Model;
 
@@ -14,7 +14,7 @@ use std::marker::Model;
 #[derive(Drop)]
 pub struct LabelReader {
     /// The divisions that a point ended.
-    divisions: Vec<u32>,
+    divisions: Divisions,
     /// The number of the digits behind them, or 0 where there are none.
     number: u32,
     /// How many bytes were read.
@@ -27,17 +27,17 @@ impl Model for LabelReader {
 
     ghost Value = { p.List p.ℕ };
 
-    ghost view = { λ r. text_so_far r.divisions.items r.number };
+    ghost view = { λ r. text_so_far r.divisions r.number };
 
-    ghost invariant = { λ r. CanGoOn r.divisions.items r.number × p.◌≡◌ r.place (p.length (text_so_far r.divisions.items r.number)) };
+    ghost invariant = { λ r. CanGoOn r.divisions r.number × p.◌≡◌ r.place (p.length (text_so_far r.divisions r.number)) };
 }
 
 impl LabelReader {
-    pub fn new(alloc: Global) -> LabelReader
+    pub fn new() -> LabelReader
         ensures { result ≡ [] }
     {
         LabelReader {
-            divisions: Vec::new(alloc),
+            divisions: Divisions::new(),
             number: 0,
             place: 0,
         }
@@ -52,13 +52,13 @@ impl LabelReader {
     }
 
     /// Reads one more byte, if a label's text may go on with it.
-    pub fn read(&mut self, byte: u8) -> Result<bool, NoMemory>
+    pub fn read(&mut self, alloc: Global, byte: u8) -> Result<bool, NoMemory>
         ensures taken { IfOk result (λ is_read. OnTrue is_read (self.new ≡ self.old ++ byte ∷ [])) }
         ensures refused { IfOk result (λ is_read. OnFalse is_read ((self.new ≡ self.old) × ¬ (BeginsLabelText (self.old ++ byte ∷ [])))) }
     {
         match byte {
             b'0'..=b'9' => Ok(self.read_digit(byte - b'0')),
-            b'.' => self.end_division(),
+            b'.' => self.end_division(alloc),
             _ => Ok(false),
         }
     }
@@ -77,21 +77,21 @@ impl LabelReader {
         true
     }
 
-    fn end_division(&mut self) -> Result<bool, NoMemory>
+    fn end_division(&mut self, alloc: Global) -> Result<bool, NoMemory>
         ensures taken { IfOk result (λ is_read. OnTrue is_read (self.new ≡ self.old ++ 46 ∷ [])) }
         ensures refused { IfOk result (λ is_read. OnFalse is_read ((self.new ≡ self.old) × ¬ (BeginsLabelText (self.old ++ 46 ∷ [])))) }
     {
         if !ends_division(self.divisions.len(), self.number) {
             return Ok(false);
         }
-        self.divisions.push(self.number)?;
+        self.divisions.push(alloc, self.number)?;
         self.number = 0;
         self.place += 1;
         Ok(true)
     }
 
     /// The label whose text was read, if it is whole.
-    pub fn finish(self) -> Result<Option<Label>, NoMemory>
+    pub fn finish(self, alloc: Global) -> Result<Option<Label>, NoMemory>
         ensures label { IfOk result (λ found. IfSome found (λ l. IsLabel l × (self ≡ label_text l))) }
         ensures none { IfOk result (λ found. IfNone found (¬ (IsLabelText self))) }
     {
@@ -103,8 +103,8 @@ impl LabelReader {
         if number == 0 {
             return Ok(None);
         }
-        divisions.push(number)?;
-        Ok(Label::of_divisions(List::from_vec(divisions)))
+        divisions.push(alloc, number)?;
+        Ok(Label::of(divisions))
     }
 }
 

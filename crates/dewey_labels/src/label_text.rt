@@ -1,5 +1,5 @@
 //! The text of a label, written and read.
-ghost use Rattle.std.specs.Prelude.{◌≡◌, ◌≢◌, ◌++◌, Some, None, IfOk, IfErr, OnOk, OnErr};
+ghost use Rattle.std.specs.Prelude.{◌≡◌, ◌≢◌, ◌++◌, Some, None, IfOk, IfErr, OnOk, OnErr, string_bytes};
 ghost use Rattle.dewey_labels.specs.Labels.{Label as LabelValue, IsLabel};
 ghost use Rattle.dewey_labels.specs.LabelText.{label_text, label_of, HasCause};
 
@@ -30,6 +30,13 @@ impl Label {
     pub fn text(&self, alloc: Global) -> Result<Text, NoMemory>
         ensures { IfOk result (λ t. t ≡ label_text self.now) }
     {
+        Ok(Text::from_string(self.string(alloc)?))
+    }
+
+    /// The same as a string.
+    pub fn string(&self, alloc: Global) -> Result<String, NoMemory>
+        ensures { IfOk result (λ s. string_bytes s ≡ label_text self.now) }
+    {
         let mut text = String::new(alloc);
         for (index, division) in self.divisions().iter().enumerate() {
             if index > 0 {
@@ -37,7 +44,7 @@ impl Label {
             }
             write!(text, "{division}")?;
         }
-        Ok(Text::from_string(text))
+        Ok(text)
     }
 
     /// Puts the label's text at the end of `out`.
@@ -45,8 +52,8 @@ impl Label {
         ensures ok { OnOk result (out.new ≡ out.old ++ label_text self.now) }
         ensures err { OnErr result (out.new ≡ out.old) }
     {
-        let text = self.text(alloc)?;
-        out.extend_from_slice(alloc, text.as_str().as_bytes())
+        let text = self.string(alloc)?;
+        out.extend_from_slice(alloc, text.as_bytes())
     }
 
     /// The label whose text this is.
@@ -64,15 +71,17 @@ impl Label {
         ensures label { IfOk result (λ l. IsLabel l × (text.now ≡ label_text l)) }
         ensures cause { IfErr result (HasCause text.now) }
     {
-        let mut reader = LabelReader::new(alloc);
+        let mut reader = LabelReader::new();
         for byte in text {
-            if !reader.read(*byte)? {
+            if !reader.read(alloc, *byte)? {
                 return Err(LabelTextError::NotALabel {
                     place: reader.place(),
                 });
             }
         }
         let place = reader.place();
-        reader.finish()?.ok_or(LabelTextError::NotALabel { place })
+        reader
+            .finish(alloc)?
+            .ok_or(LabelTextError::NotALabel { place })
     }
 }

@@ -3,7 +3,9 @@
 //! Which node has a label is left to the crates above, which also take their `Text` and `List` from here.
 #![tactic(auto)]
 
+mod bytes;
 mod copied;
+mod divisions;
 mod label;
 mod label_reader;
 mod label_text;
@@ -14,6 +16,7 @@ mod no_memory;
 mod text;
 
 pub use copied::Copied;
+pub use divisions::Divisions;
 pub use label::{GREATEST, Label, MOST_DIVISIONS};
 pub use label_text::LabelTextError;
 pub use laws::a_labels_text_is_read_again;

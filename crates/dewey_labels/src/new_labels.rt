@@ -8,7 +8,7 @@ ghost use Rattle.dewey_labels.specs.Sides.{rest as rest_behind};
 ghost use Rattle.dewey_labels.specs.NewLabels.{odd_above as least_odd_above, after, before, between, new_label};
 ghost use Rattle.dewey_labels.specs.inside.Codes.{IsCode};
 
-use crate::{Label, List, NoMemory};
+use crate::{Divisions, Label, NoMemory};
 use std::alloc::Global;
 
 /// The odd division with which the children of a node are begun: there is room on both sides of it; `first_division` of the definitions.
@@ -41,8 +41,8 @@ pub fn child_first(alloc: Global, parent: &Label) -> Result<Label, LabelError>
     ensures label { IfOk result IsLabel }
     ensures child { IfOk result (λ new. IsTrue (is_child parent.now new)) }
 {
-    let mut divisions = divisions_of(alloc, parent)?;
-    divisions.push(FIRST_DIVISION)?;
+    let mut divisions = parent.own_divisions(alloc)?;
+    divisions.push(alloc, FIRST_DIVISION)?;
     within_limits(divisions)
 }
 
@@ -56,8 +56,8 @@ pub fn child_after(alloc: Global, parent: &Label, left: &Label) -> Result<Label,
     ensures child { IfOk result (λ new. IsTrue (is_child parent.now new)) }
     ensures behind { IfOk result (λ new. slice_cmp nat_cmp left.now new ≡ Less) }
 {
-    let mut divisions = divisions_of(alloc, parent)?;
-    push_after(&mut divisions, code(parent, left))?;
+    let mut divisions = parent.own_divisions(alloc)?;
+    push_after(alloc, &mut divisions, code(parent, left))?;
     within_limits(divisions)
 }
 
@@ -71,8 +71,8 @@ pub fn child_before(alloc: Global, parent: &Label, right: &Label) -> Result<Labe
     ensures child { IfOk result (λ new. IsTrue (is_child parent.now new)) }
     ensures ahead { IfOk result (λ new. slice_cmp nat_cmp new right.now ≡ Less) }
 {
-    let mut divisions = divisions_of(alloc, parent)?;
-    push_before(&mut divisions, code(parent, right))?;
+    let mut divisions = parent.own_divisions(alloc)?;
+    push_before(alloc, &mut divisions, code(parent, right))?;
     within_limits(divisions)
 }
 
@@ -96,16 +96,14 @@ pub fn child_between(
     ensures behind { IfOk result (λ new. slice_cmp nat_cmp left.now new ≡ Less) }
     ensures ahead { IfOk result (λ new. slice_cmp nat_cmp new right.now ≡ Less) }
 {
-    let mut divisions = divisions_of(alloc, parent)?;
-    push_between(&mut divisions, code(parent, left), code(parent, right))?;
+    let mut divisions = parent.own_divisions(alloc)?;
+    push_between(
+        alloc,
+        &mut divisions,
+        code(parent, left),
+        code(parent, right),
+    )?;
     within_limits(divisions)
-}
-
-fn divisions_of(alloc: Global, label: &Label) -> Result<List<u32>, NoMemory>
-    ensures divisions { IfOk result (λ l. l ≡ label.now) }
-    ensures label { IsLabel label.now }
-{
-    Ok(List::from_vec(Vec::from_slice(alloc, label.divisions())?))
 }
 
 /// The code of a child: its divisions behind those of its parent.
@@ -118,38 +116,43 @@ fn code<'a>(parent: &Label, child: &'a Label) -> &'a [u32]
 }
 
 /// Puts the code behind `left` at the end.
-fn push_after(divisions: &mut List<u32>, left: &[u32]) -> Result<(), NoMemory>
+fn push_after(alloc: Global, divisions: &mut Divisions, left: &[u32]) -> Result<(), NoMemory>
     requires { IsCode left.now }
     ensures { OnOk result (divisions.new ≡ divisions.old ++ after left.now) }
 {
     match left {
         [] => unreachable!(),
-        [first, ..] => divisions.push(odd_above(*first)),
+        [first, ..] => divisions.push(alloc, odd_above(*first)),
     }
 }
 
 /// Puts the code before `right` at the end.
-fn push_before(divisions: &mut List<u32>, right: &[u32]) -> Result<(), NoMemory>
+fn push_before(alloc: Global, divisions: &mut Divisions, right: &[u32]) -> Result<(), NoMemory>
     requires { IsCode right.now }
     ensures { OnOk result (divisions.new ≡ divisions.old ++ before right.now) }
 {
     match right {
         [] => unreachable!(),
-        [first, ..] if first % 2 == 1 && *first >= 5 => divisions.push(first - 2),
+        [first, ..] if first % 2 == 1 && *first >= 5 => divisions.push(alloc, first - 2),
         [3, ..] => {
-            divisions.push(2)?;
-            divisions.push(FIRST_DIVISION)
+            divisions.push(alloc, 2)?;
+            divisions.push(alloc, FIRST_DIVISION)
         }
-        [first, ..] if *first >= 4 => divisions.push(first - 1),
+        [first, ..] if *first >= 4 => divisions.push(alloc, first - 1),
         [_, rest @ ..] => {
-            divisions.push(2)?;
-            push_before(divisions, rest)
+            divisions.push(alloc, 2)?;
+            push_before(alloc, divisions, rest)
         }
     }
 }
 
 /// Puts the code between `left` and `right` at the end.
-fn push_between(divisions: &mut List<u32>, left: &[u32], right: &[u32]) -> Result<(), NoMemory>
+fn push_between(
+    alloc: Global,
+    divisions: &mut Divisions,
+    left: &[u32],
+    right: &[u32],
+) -> Result<(), NoMemory>
     requires left_code { IsCode left.now }
     requires right_code { IsCode right.now }
     requires order { slice_cmp nat_cmp left.now right.now ≡ Less }
@@ -159,19 +162,19 @@ fn push_between(divisions: &mut List<u32>, left: &[u32], right: &[u32]) -> Resul
         unreachable!()
     };
     if a == b {
-        divisions.push(*a)?;
-        push_between(divisions, after_a, after_b)
+        divisions.push(alloc, *a)?;
+        push_between(alloc, divisions, after_a, after_b)
     } else if odd_above(*a) < *b {
-        divisions.push(odd_above(*a))
+        divisions.push(alloc, odd_above(*a))
     } else if a % 2 == 1 && *b == a + 2 {
-        divisions.push(a + 1)?;
-        divisions.push(FIRST_DIVISION)
+        divisions.push(alloc, a + 1)?;
+        divisions.push(alloc, FIRST_DIVISION)
     } else if a % 2 == 1 {
-        divisions.push(*b)?;
-        push_before(divisions, after_b)
+        divisions.push(alloc, *b)?;
+        push_before(alloc, divisions, after_b)
     } else {
-        divisions.push(*a)?;
-        push_after(divisions, after_a)
+        divisions.push(alloc, *a)?;
+        push_after(alloc, divisions, after_a)
     }
 }
 
@@ -189,9 +192,9 @@ fn odd_above(division: u32) -> u32
 
 /// The label with these divisions, unless they pass a limit.
 #[tactic(auto, using(crate::proofs::NewLabelCalls::found_within))]
-fn within_limits(divisions: List<u32>) -> Result<Label, LabelError>
+fn within_limits(divisions: Divisions) -> Result<Label, LabelError>
     requires { IsTrue (is_label divisions) }
     ensures { result ≡ (if is_within divisions then Ok divisions else Err LabelError.LabelLimit) }
 {
-    Label::of_divisions(divisions).ok_or(LabelError::LabelLimit)
+    Label::of(divisions).ok_or(LabelError::LabelLimit)
 }

@@ -5,15 +5,17 @@ ghost use Rattle.std.specs.Ordering.{nat_cmp};
 ghost use Rattle.std.specs.Cmp.{partial_equiv_from_equiv};
 ghost use Rattle.std.specs.Cmp.Lexicographic.{pointwise, slice_cmp, nat_list_eq_equiv, nat_list_cmp_total, texts_ties, texts_po};
 
+use crate::bytes::Bytes;
 use crate::{Copied, NoMemory};
 use std::alloc::Global;
 use std::cmp::Ordering;
+use std::fmt;
 use std::marker::Model;
 
 /// A text, seen as its bytes, which are UTF-8.
-#[derive(Debug, Drop)]
+#[derive(Drop)]
 pub struct Text {
-    chars: String,
+    bytes: Bytes,
 }
 
 impl Model for Text {
@@ -22,9 +24,9 @@ impl Model for Text {
 
     ghost Value = { p.List p.ℕ };
 
-    ghost view = { λ t. p.string_bytes t.chars };
+    ghost view = { λ t. t.bytes };
 
-    ghost invariant = { λ t. p.IsTrue (is_utf8 (p.string_bytes t.chars)) };
+    ghost invariant = { λ t. p.IsTrue (is_utf8 t.bytes) };
 }
 
 impl Text {
@@ -32,8 +34,8 @@ impl Text {
     pub fn of(alloc: Global, s: &str) -> Result<Text, NoMemory>
         ensures { IfOk result (λ t. t ≡ s.now) }
     {
-        let chars = String::from_str(alloc, s)?;
-        Ok(Text::from_string(chars))
+        let bytes = Bytes::of_slice(alloc, s.as_bytes())?;
+        Ok(Text { bytes })
     }
 
     /// The text of a string. It takes no memory.
@@ -42,35 +44,36 @@ impl Text {
     {
         // A `&str` is UTF-8: by it the proof knows that the string is.
         let _str = chars.as_str();
-        Text { chars }
-    }
-
-    /// The string of the text. It takes no memory.
-    pub fn into_string(self) -> String
-        ensures bytes { string_bytes result ≡ self }
-        ensures utf8 { IsTrue (is_utf8 self) }
-    {
-        let Text { chars } = self;
-        chars
+        let bytes = Bytes::of_vec(chars.into_bytes());
+        Text { bytes }
     }
 
     pub fn as_str(&self) -> &str
         ensures bytes { result.now ≡ self.now }
         ensures utf8 { IsTrue (is_utf8 self.now) }
     {
-        self.chars.as_str()
+        unsafe { str::from_utf8_unchecked(self.bytes.as_slice()) }
     }
 
     pub fn copy(&self, alloc: Global) -> Result<Text, NoMemory>
         ensures { IfOk result (λ t. t ≡ self.now) }
     {
-        Text::of(alloc, self.as_str())
+        let bytes = self.bytes.copy(alloc)?;
+        Ok(Text { bytes })
     }
 }
 
 impl Copied for Text {
     fn copy(&self, alloc: Global) -> Result<Text, NoMemory> {
         Text::copy(self, alloc)
+    }
+}
+
+impl fmt::Debug for Text {
+    fn fmt<W: fmt::Write>(&self, f: &mut fmt::Formatter<W>) -> fmt::Result {
+        f.debug_struct("Text")
+            .field("chars", &self.as_str())
+            .finish()
     }
 }
 

@@ -107,9 +107,9 @@ pub(crate) fn child_label(alloc: Global, parent: &Label, division: u32) -> Resul
     requires label { IsLabel (parent.now ++ division ∷ []) }
     ensures { IfOk result (λ label. label ≡ parent.now ++ division ∷ []) }
 {
-    let mut divisions = Vec::from_slice(alloc, parent.divisions())?;
-    divisions.push(division)?;
-    match Label::of_divisions(List::from_vec(divisions)) {
+    let mut divisions = parent.own_divisions(alloc)?;
+    divisions.push(alloc, division)?;
+    match Label::of(divisions) {
         Some(label) => Ok(label),
         None => unreachable!(),
     }

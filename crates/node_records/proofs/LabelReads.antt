@@ -19,6 +19,11 @@ regroup prefix taken d (Some ds) =
     let counts : taken + (d.1 + ds.1) ≡ taken + d.1 + ds.1 = omega arith in
     λ i. Some (lists i, counts i)
 
+-- nothing was read before
+pub begins : (prefix : List ℕ) (read : Option (List ℕ × ℕ)) → prefix ≡ [] → with_prefix prefix 0 read ≡ read
+begins prefix None e = refl
+begins prefix (Some ds) e = let counts : 0 + ds.1 ≡ ds.1 = omega arith in λ i. Some (e i ++ ds.0, counts i)
+
 -- a division was read
 pub goes_on : (prefix : List ℕ) (taken n m : ℕ) (rest : List ℕ) (d : ℕ × ℕ) → n ≡ suc m → 0 < length rest → (get_or rest 0 0 ≡ 0 → ⊥) → division_in rest ≡ Some d
     → with_prefix prefix taken (divisions_in n rest) ≡ with_prefix (prefix ++ d.0 ∷ []) (taken + d.1) (divisions_in m (drop d.1 rest))

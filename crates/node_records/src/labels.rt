@@ -5,7 +5,7 @@ ghost use Rattle.node_records.specs.Labels.{label_bytes, label_in, divisions_in}
 ghost use Rattle.dewey_labels.specs.Lists.{AppendsPrefix};
 
 use crate::divisions::{read_division, write_division};
-use dewey_labels::{Label, List, MOST_DIVISIONS, NoMemory};
+use dewey_labels::{Divisions, Label, List, MOST_DIVISIONS, NoMemory};
 use std::alloc::Global;
 
 /// The byte behind the divisions of a label; no division begins with it.
@@ -32,18 +32,18 @@ pub(crate) fn read_label(alloc: Global, bytes: &[u8]) -> Result<Option<(Label, u
     let Some((divisions, taken)) = read_divisions(alloc, bytes)? else {
         return Ok(None);
     };
-    match Label::of_divisions(divisions) {
+    match Label::of(divisions) {
         Some(label) => Ok(Some((label, taken))),
         None => Ok(None),
     }
 }
 
 /// The divisions up to the end of a label, and how many bytes they and the end take.
-fn read_divisions(alloc: Global, bytes: &[u8]) -> Result<Option<(List<u32>, usize)>, NoMemory>
+fn read_divisions(alloc: Global, bytes: &[u8]) -> Result<Option<(Divisions, usize)>, NoMemory>
     ensures exact { IfOk result (λ found. found ≡ divisions_in 256 bytes.now) }
     ensures within { IfOk result (λ found. IfSome found (λ ds. ds.1 ≤ length bytes.now)) }
 {
-    let mut divisions = List::new(alloc);
+    let mut divisions = Divisions::new();
     let mut taken = 0;
     for _ in 0..=MOST_DIVISIONS {
         let rest = &bytes[taken..];
@@ -56,7 +56,7 @@ fn read_divisions(alloc: Global, bytes: &[u8]) -> Result<Option<(List<u32>, usiz
         let Some((division, length)) = read_division(rest) else {
             return Ok(None);
         };
-        divisions.push(division)?;
+        divisions.push(alloc, division)?;
         taken += length;
     }
     Ok(None)

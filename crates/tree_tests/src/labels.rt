@@ -133,16 +133,25 @@ fn a_list_grows_at_its_end_and_is_cut_back(rt: HostRuntime) -> Result<(), Fail> 
     Ok(())
 }
 
-/// Whether a copy of the text made of a string reads so, and whether the text gives the string back.
+/// Whether the text made of a string reads so, and its copy.
 fn is_kept(alloc: Global, written: &str) -> Result<(bool, bool), Fail> {
     let text = Text::from_string(String::from_str(alloc, written)?);
-    let is_copied = text.copy(alloc)?.as_str() == written;
-    Ok((is_copied, text.into_string().as_str() == written))
+    let copy = text.copy(alloc)?;
+    Ok((text.as_str() == written, copy.as_str() == written))
 }
 
+/// Texts of none, few, 30 and 31 bytes: the last one doesn't stand in the text itself.
+const KEPT: [&str; 5] = [
+    "",
+    "a",
+    "Bücher",
+    "abcdefghijklmnopqrstuvwxyzabcd",
+    "abcdefghijklmnopqrstuvwxyzabcde",
+];
+
 #[test]
-fn a_text_is_made_of_a_string_and_gives_it_back(rt: HostRuntime) -> Result<(), Fail> {
-    for written in ["", "a", "Bücher"] {
+fn a_text_reads_as_the_string_that_it_was_made_of(rt: HostRuntime) -> Result<(), Fail> {
+    for written in KEPT {
         let found = is_kept(rt.alloc(), written)?;
         agree(&rt, &written, &found, &(true, true));
     }
@@ -150,11 +159,13 @@ fn a_text_is_made_of_a_string_and_gives_it_back(rt: HostRuntime) -> Result<(), F
 }
 
 /// Labels, their levels and the labels of their parents, nothing for the root.
-const LEVELS: [(&[u8], u32, &[u8]); 4] = [
+const LEVELS: [(&[u8], u32, &[u8]); 6] = [
     (b"1", 0, b""),
     (b"1.1001", 1, b"1"),
     (b"1.1001.1001.2.1001", 3, b"1.1001.1001"),
     (b"1.3.2.4294967290.4294967291", 2, b"1.3"),
+    (b"1.3.5.7.9.11.13.15", 7, b"1.3.5.7.9.11.13"),
+    (b"1.3.5.7.9.11.13.15.17", 8, b"1.3.5.7.9.11.13.15"),
 ];
 
 /// Whether a label, or nothing, is written so.

@@ -71,3 +71,6 @@ returns-in_err-finish-clause-unchanged g c = g.met.S.NodeRead.unchanged_onward _
 
 pub returns-clause-unchanged : goal.returns-clause-unchanged
 returns-clause-unchanged g c = g.met.S.NodeRead.unchanged_onward _ _ _ c.loop-walk.invariant.same c.in_ok-entry.ensures.unchanged
+
+pub returns-in_err-put_record-clause-unchanged : goal.returns-in_err-put_record-clause-unchanged
+returns-in_err-put_record-clause-unchanged g c = g.met.S.NodeRead.unchanged_onward _ _ _ c.loop-walk.invariant.same c.in_ok-entry.ensures.unchanged

@@ -2,8 +2,14 @@ use Rattle.std.proofs.Common.{◌≡◌, ◌∙◌, ◌-◌, ◌+◌, ◌∷◌,
 use Rattle.std.proofs.lemmas.Bool.{eqb-true, eqb-false}
 use Rattle.std.proofs.lemmas.List.{drop-drop}
 use Rattle.node_records.specs.Labels.{divisions_in}
-use Rattle.node_records.proofs.LabelReads.{with_prefix, goes_on, stops, closes, cut_short, too_many, rest_is}
+use Rattle.node_records.proofs.LabelReads.{with_prefix, begins, goes_on, stops, closes, cut_short, too_many, rest_is}
 use Rattle.node_records.proofs.labels.read_divisions.Goals as goal
+
+pub loop-init : goal.loop-init
+loop-init c = record {
+  within = omega arith;
+  so_far = begins c.new-divisions.result (divisions_in 256 c.args.bytes.now) c.new-divisions.ensures;
+}
 
 pub returns-then-is_empty-clause-exact : goal.returns-then-is_empty-clause-exact
 returns-then-is_empty-clause-exact c =

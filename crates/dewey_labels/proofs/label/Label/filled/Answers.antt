@@ -1,14 +1,15 @@
-use Rattle.std.proofs.Common.{rules, ◌≡◌, sym, ap, subst, ◌∙◌}
+use Rattle.std.proofs.Common.{rules, sym, ap, subst, ◌∙◌}
 use Rattle.dewey_labels.specs.Labels.{IsLabel}
 use Rattle.dewey_labels.specs.Sides.{fill}
 use Rattle.dewey_labels.proofs.Filled.{fill_is_label, filled_is}
 use Rattle.dewey_labels.proofs.label.Label.filled.Goals as goal
 
-divisions_are : (c : goal.In_ok-resize) → c.resize.new.self.items ≡ fill c.self.inside.divisions.items
-divisions_are c = filled_is c.extend_from_slice.new.self.items c.self.inside.divisions.items _ _ c.in_ok-resize.ensures.items (search rules) (search rules) c.self.invariant.1.0
+pub returns : goal.returns
+returns c =
+    let own = c.divisions.result.now in
+    let is_label : IsLabel own = subst IsLabel (sym c.divisions.ensures.divisions) c.divisions.ensures.label in
+    c.of_vec.ensures ∙ filled_is c.extend_from_slice.new.self.items own _ _ c.in_ok-resize.ensures.items (search rules) (search rules) is_label.1.0
+    ∙ ap fill c.divisions.ensures.divisions
 
 pub invariant_of-result : goal.invariant_of-result
-invariant_of-result c = subst IsLabel (sym (divisions_are c)) (fill_is_label c.self.inside.divisions.items c.self.invariant)
-
-pub returns : goal.returns
-returns c = divisions_are c ∙ ap fill c.self.view_is
+invariant_of-result c = subst IsLabel (sym (returns c)) (fill_is_label c.args.self.now c.divisions.ensures.label)

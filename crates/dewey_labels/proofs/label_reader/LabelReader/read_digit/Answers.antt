@@ -6,9 +6,9 @@ use Rattle.dewey_labels.proofs.label_reader.LabelReader.read_digit.Goals as goal
 
 pub returns-then-not-begins_division-clause-refused : goal.returns-then-not-begins_division-clause-refused
 returns-then-not-begins_division-clause-refused c =
-    let l = c.self.inside.divisions.items in
+    let l = c.self.inside.divisions in
     let n = c.self.inside.number in
-    let k : length l ≡ c.len.result = omega (arith, c.self.inside.divisions.ok.0) in
+    let k : length l ≡ c.len.result = sym c.len.ensures in
     let q : n * 10 + c.args.digit ≡ c.from.result * 10 + c.from-2.result = omega arith in
     let e : begins_division (length l) (n * 10 + c.args.digit) ≡ false =
     (λ i. begins_division (k i) (q i)) ∙ sym c.begins_division.ensures ∙ c.if-not-begins_division.true in
@@ -17,15 +17,15 @@ returns-then-not-begins_division-clause-refused c =
 pub overflow_add-self : goal.overflow_add-self
 overflow_add-self c = omega (arith, c.self.invariant.1, short _ _ c.self.invariant.0)
 
-begins : (c : goal.After-self-2-1) → begins_division (length c.self.inside.divisions.items) (c.self.inside.number * 10 + c.args.digit) ≡ true
+begins : (c : goal.After-self-2-1) → begins_division (length c.self.inside.divisions) (c.self.inside.number * 10 + c.args.digit) ≡ true
 begins c =
-    let k : length c.self.inside.divisions.items ≡ c.len.result = omega (arith, c.self.inside.divisions.ok.0) in
+    let k : length c.self.inside.divisions ≡ c.len.result = sym c.len.ensures in
     let q : c.self.inside.number * 10 + c.args.digit ≡ c.from.result * 10 + c.from-2.result = omega arith in
     (λ i. begins_division (k i) (q i)) ∙ sym c.begins_division.ensures ∙ c.if-not-begins_division.false
 
 pub invariant_of-self : goal.invariant_of-self
 invariant_of-self c =
-    let l = c.self.inside.divisions.items in
+    let l = c.self.inside.divisions in
     let n = c.self.inside.number in
     let q : n * 10 + c.args.digit ≡ c.from.result * 10 + c.from-2.result = omega arith in
     let t = taken_digit l n c.args.digit c.self.invariant.0 (omega arith) (begins c) in
@@ -34,6 +34,6 @@ invariant_of-self c =
 
 pub returns-clause-taken : goal.returns-clause-taken
 returns-clause-taken c =
-    let l = c.self.inside.divisions.items in
+    let l = c.self.inside.divisions in
     let q : c.from.result * 10 + c.from-2.result ≡ c.self.inside.number * 10 + c.args.digit = omega arith in
     ap (text_so_far l) q ∙ taken_digit l c.self.inside.number c.args.digit c.self.invariant.0 (omega arith) (begins c) ∙ ap (λ v. v ++ (48 + c.args.digit) ∷ []) c.self.view_is

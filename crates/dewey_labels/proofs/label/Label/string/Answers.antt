@@ -1,8 +1,8 @@
 use Rattle.std.proofs.Common.{◌≡◌, ap, ◌∙◌, ◌++◌, ◌∷◌, [], get_or, string_bytes, arith}
 use Rattle.std.specs.Fmt.{decimal}
 use Rattle.dewey_labels.proofs.LabelTexts.{more_text, first_text}
-use Rattle.dewey_labels.proofs.label.Label.text.Goals as goal
-use Rattle.dewey_labels.proofs.label.Label.text.Goals.{then-index-gt0+in_ok-push, else-index-gt0}
+use Rattle.dewey_labels.proofs.label.Label.string.Goals as goal
+use Rattle.dewey_labels.proofs.label.Label.string.Goals.{then-index-gt0+in_ok-push, else-index-gt0}
 
 pub loop-index-preserved : goal.loop-index-preserved
 loop-index-preserved c =
