@@ -3,3 +3,4 @@ pub mod Bytes
 pub mod Codes
 pub mod Divisions
 pub mod LabelReader
+pub mod MadeLabels

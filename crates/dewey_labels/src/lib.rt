@@ -22,7 +22,7 @@ pub use label_text::LabelTextError;
 pub use laws::a_labels_text_is_read_again;
 pub use list::List;
 pub use new_labels::{
-    FIRST_DIVISION, LabelError, child_after, child_before, child_between, child_first,
+    FIRST_DIVISION, LabelError, child_after, child_before, child_beside, child_between, child_first,
 };
 pub use no_memory::NoMemory;
 pub use text::Text;

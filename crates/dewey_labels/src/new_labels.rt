@@ -1,5 +1,5 @@
 //! The label of a new node, between those of its neighbours.
-ghost use Rattle.std.specs.Prelude.{◌≡◌, ◌≢◌, ◌↔◌, ◌≤◌, ◌++◌, if◌then◌else◌, Some, None, IsTrue, IfOk, OnOk};
+ghost use Rattle.std.specs.Prelude.{◌≡◌, ◌≢◌, ◌↔◌, ◌≤◌, ◌++◌, if◌then◌else◌, Some, None, IsTrue, IfOk, IfSome, OnOk};
 ghost use Rattle.std.specs.declared.cmp.Ordering.TheVariants.{Less};
 ghost use Rattle.std.specs.Ordering.{nat_cmp};
 ghost use Rattle.std.specs.Cmp.Lexicographic.{slice_cmp};
@@ -7,6 +7,7 @@ ghost use Rattle.dewey_labels.specs.Labels.{greatest, is_child, is_label, is_wit
 ghost use Rattle.dewey_labels.specs.Sides.{rest as rest_behind};
 ghost use Rattle.dewey_labels.specs.NewLabels.{odd_above as least_odd_above, after, before, between, new_label};
 ghost use Rattle.dewey_labels.specs.inside.Codes.{IsCode};
+ghost use Rattle.dewey_labels.specs.inside.MadeLabels.{IsMade};
 
 use crate::{Divisions, Label, NoMemory};
 use std::alloc::Global;
@@ -104,6 +105,41 @@ pub fn child_between(
         code(parent, right),
     )?;
     within_limits(divisions)
+}
+
+/// The label of a new child of `parent` between its neighbours, each of which may be missing; none where it would pass a limit.
+pub fn child_beside(
+    alloc: Global,
+    parent: &Label,
+    left: &Option<Label>,
+    right: &Option<Label>,
+) -> Result<Option<Label>, NoMemory>
+    requires left_child { IfSome left.now (λ l. IsTrue (is_child parent.now l)) }
+    requires right_child { IfSome right.now (λ r. IsTrue (is_child parent.now r)) }
+    requires order { IfSome left.now (λ l. IfSome right.now (λ r. slice_cmp nat_cmp l r ≡ Less)) }
+    ensures new { IfOk result (λ new. new ≡ new_label parent.now left.now right.now) }
+    ensures label { IfOk result (λ new. IfSome new IsLabel) }
+    ensures child { IfOk result (λ new. IfSome new (λ n. IsTrue (is_child parent.now n))) }
+    ensures behind { IfOk result (λ new. IfSome new (λ n. IfSome left.now (λ l. slice_cmp nat_cmp l n ≡ Less))) }
+    ensures ahead { IfOk result (λ new. IfSome new (λ n. IfSome right.now (λ r. slice_cmp nat_cmp n r ≡ Less))) }
+{
+    match (left, right) {
+        (None, None) => unless_limit(child_first(alloc, parent)),
+        (Some(left), None) => unless_limit(child_after(alloc, parent, left)),
+        (None, Some(right)) => unless_limit(child_before(alloc, parent, right)),
+        (Some(left), Some(right)) => unless_limit(child_between(alloc, parent, left, right)),
+    }
+}
+
+/// The label that was made, or none where it would pass a limit.
+fn unless_limit(made: Result<Label, LabelError>) -> Result<Option<Label>, NoMemory>
+    ensures { IfOk result (IsMade made) }
+{
+    match made {
+        Ok(label) => Ok(Some(label)),
+        Err(LabelError::LabelLimit) => Ok(None),
+        Err(LabelError::NoMemory) => Err(NoMemory),
+    }
 }
 
 /// The code of a child: its divisions behind those of its parent.

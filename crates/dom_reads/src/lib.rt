@@ -21,7 +21,7 @@ pub use attributes::{all_attributes, attr, attrs, has_attr};
 pub use below::{first_below, last_below};
 pub use documents::{doc, docs};
 pub use fragment_builder::fragment;
-pub use kinds::{is_document, is_element, is_text};
+pub use kinds::{is_document, is_element, is_text, is_text_in_document};
 pub use navigation::{children, first, last, next, node, parent, prev};
 pub use reading::{dom_read, is_reading};
 pub use refusals::{index_size, not_found, not_supported};

@@ -92,12 +92,3 @@ child_within p c f nx h = let s = split f h in record { label = s.0; tree = s.1;
 
     split : (f : Fragment) → Parts (before_row f)
     split = by_put Parts one
-
--- the same told by the number of divisions
-pub child_fits : (n c : ℕ) (f : Fragment) (nx : Fragments)
-    → fit_below n c (before_row f nx) ≡ ((nat_lt n most_divisions && nat_le c greatest) && (fit_at (n + 1) (plain f) && fit_below n (c + 2) nx))
-child_fits n c f nx = by_put (λ g. fit_below n c (g nx) ≡ ((nat_lt n most_divisions && nat_le c greatest) && (fit_at (n + 1) (g no_more) && fit_below n (c + 2) nx))) one f
-  where
-    one : (x : Fragment-F (Fragments → Fragments)) → fit_below n c (put_before x nx) ≡ ((nat_lt n most_divisions && nat_le c greatest) && (fit_at (n + 1) (put_before x no_more) && fit_below n (c + 2) nx))
-    one (Fragment-F.Element m ats ch) = refl
-    one (Fragment-F.Text t) = refl

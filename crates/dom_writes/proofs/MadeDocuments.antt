@@ -36,6 +36,7 @@ use Rattle.tree_model.specs.Tree.{none, Tree, beside, entries_of, map_of}
 use Rattle.tree_model.specs.ValidTrees.{IsValidTree, KeysRise, LimitsKept}
 use Rattle.tree_model.specs.GraftLimits.{fit_at}
 use Rattle.tree_model.proofs.Creates.{create_refused}
+use Rattle.tree_model.proofs.DocumentLimits.{single}
 use Rattle.tree_model.proofs.Grafts.{and_true, fits-graft_below, keys-graft, limits-graft}
 use Rattle.tree_model.proofs.Lists.{all_on}
 use Rattle.tree_model.proofs.Seeks.{later_above}
@@ -48,7 +49,7 @@ use Rattle.node_seq.specs.ChangeLists.{IsChangeList}
 use Rattle.dom_writes.specs.inside.NewDocuments.{SuitsOrRefused, changes, entries, is_deep, within_limits}
 use Rattle.dom_writes.specs.inside.NewPlaces.{answer}
 use Rattle.dom_writes.proofs.GraftChanges.{forest_valid, puts_are_changes}
-use Rattle.dom_writes.proofs.GraftSteps.{child_fits, child_is_label, child_within}
+use Rattle.dom_writes.proofs.GraftSteps.{child_is_label, child_within}
 use Rattle.dom_writes.proofs.PlacedCalls.{none_changed}
 
 -- ---- a label's text may stand as a value
@@ -80,27 +81,6 @@ text_is_data l w =
     λ i. fits i && is_utf8-from_IsUtf8 (label_text l) (IsUtf8-from_ascii (label_text l) (text_ascii l w.1)) i
 
 -- ---- the document's tree
-
--- its element is a first child
-single : (l : Label) (c : ℕ) (f : Fragment) → graft (l ++ (c ∷ [])) (plain f) none ≡ graft_below l c (plain f)
-single l c = by_put (λ g. graft (l ++ (c ∷ [])) (g no_more) none ≡ graft_below l c (g no_more)) one
-  where
-    one : (x : Fragment-F (Fragments → Fragments)) → graft (l ++ (c ∷ [])) (put_before x no_more) none ≡ graft_below l c (put_before x no_more)
-    one (Fragment-F.Element n ats ch) = refl
-    one (Fragment-F.Text t) = refl
-
--- whether its labels keep the limits, told by the number of divisions
-pub document_within : (l : Label) (f : Fragment) → is_within l ≡ true → (nat_lt (length l) most_divisions && fit_at (length l + 1) (plain f)) ≡ all_within (document_at l (plain f))
-document_within l f h =
-    (λ i. sym (and_true (nat_lt (length l) most_divisions)) i && sym (and_true (fit_at (length l + 1) (plain f))) i)
-    ∙ sym (child_fits (length l) first_division f no_more)
-    ∙ sym (fits-graft_below l first_division (plain f) h)
-    ∙ ap all_within (sym (single l first_division f))
-    ∙ sym (and_true (all_within (graft (l ++ (first_division ∷ [])) (plain f) none)))
-    ∙ ap (λ b. b && (all_within (graft (l ++ (first_division ∷ [])) (plain f) none) && true)) (sym h)
-
-pub empty_within : (l : Label) → is_within l ≡ true → true ≡ all_within (document_at l no_more)
-empty_within l h = ap (λ b. b && true) (sym h)
 
 -- the element's tree keeps them, and its label is one
 pub tree_within : (l : Label) (f : Fragments) → all_within (document_at l f) ≡ true → all_within (graft (l ++ (first_division ∷ [])) f none) ≡ true

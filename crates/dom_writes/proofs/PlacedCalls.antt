@@ -32,7 +32,7 @@ use Rattle.tree_changes.proofs.PlacingLaws.{append_differences, insert_differenc
 use Rattle.node_seq.specs.ChangeLists.{IsChangeList}
 use Rattle.dom_reads.proofs.ReplyLaws.{on_found, there}
 use Rattle.dom_reads.proofs.StepLaws.{root_not_found, row_of}
-use Rattle.dom_writes.specs.inside.NewPlaces.{AreNeighbours, SuitsOrRefused, answer, changes, takes_none, within_limits}
+use Rattle.dom_writes.specs.inside.NewPlaces.{SuitsOrRefused, answer, changes, takes_none, within_limits}
 use Rattle.dom_writes.proofs.GraftChanges.{graft_changes}
 
 -- ---- the found node
@@ -174,14 +174,9 @@ child_by_label p c above label below e h =
 pub child_found : (p c : Label) (t : Tree) → has_child p c t ≡ true → found (at c t.documents) ≡ true
 child_found p c t h = second_of_both (same_label (parent c) p) (found (at c t.documents)) h
 
--- a child and its left neighbour, as they were read
-pub before_child : (p c k : Label) (left : Option Label) → is_label p ≡ true → k ≡ c → IsTrue (is_child p c) → IfSome left (λ m. IsTrue (is_child (parent c) m))
-    → IfSome left (λ m. slice_cmp nat_cmp m c ≡ Less) → AreNeighbours p left (Some k)
-before_child p c k left label e child sibling ahead = record {
-  left_child = subst (λ z. IfSome left (λ m. IsTrue (is_child z m))) (parent_of_child p c label child) sibling;
-  right_child = subst (λ z. IsTrue (is_child p z)) (sym e) child;
-  order = subst (λ z. IfSome left (λ m. slice_cmp nat_cmp m z ≡ Less)) (sym e) ahead;
-}
+-- a sibling of a child is a child, too
+pub sibling_is_child : (p c : Label) (o : Option Label) → is_label p ≡ true → is_child p c ≡ true → IfSome o (λ l. IsTrue (is_child (parent c) l)) → IfSome o (λ l. IsTrue (is_child p l))
+sibling_is_child p c o label child h = subst (λ q. IfSome o (λ l. IsTrue (is_child q l))) (parent_of_child p c label child) h
 
 -- ---- `insert`
 

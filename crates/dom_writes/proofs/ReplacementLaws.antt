@@ -38,7 +38,7 @@ use Rattle.tree_changes.proofs.PlacingLaws.{on_replace, replace_differences}
 use Rattle.node_seq.specs.Reads.{IsValidEntry}
 use Rattle.dom_reads.specs.SubtreeWalks.{subtree_of}
 use Rattle.dom_reads.proofs.ReplyLaws.{on_found}
-use Rattle.dom_writes.specs.inside.NewPlaces.{AreNeighbours, Suits, within_limits}
+use Rattle.dom_writes.specs.inside.NewPlaces.{Suits, within_limits}
 use Rattle.dom_writes.specs.inside.Outcomes.{placed_instead, reply_and_changes}
 use Rattle.dom_writes.proofs.GraftChanges.{forest_valid}
 use Rattle.dom_writes.proofs.PlacedCalls.{child_found}
@@ -46,19 +46,11 @@ use Rattle.dom_writes.proofs.RemovalLaws.{HasParent, gone_is, seen_in, subtree_i
 
 -- ---- the neighbours of a child
 
-pub neighbours_of : (p c : Label) (left right : Option Label) → IsLabel p → is_child p c ≡ true → IfSome left (λ l. IsTrue (is_child (parent c) l))
-    → IfSome left (λ l. slice_cmp nat_cmp l c ≡ Less) → IfSome right (λ r. IsTrue (is_child (parent c) r)) → IfSome right (λ r. slice_cmp nat_cmp c r ≡ Less)
-    → AreNeighbours p left right
-neighbours_of p c left right label child lc ll rc rl = record { left_child = below left lc; right_child = below right rc; order = between left right ll rl }
-  where
-    below : (o : Option Label) → IfSome o (λ l. IsTrue (is_child (parent c) l)) → IfSome o (λ l. IsTrue (is_child p l))
-    below None h = tt
-    below (Some l) h = subst (λ q. is_child q l ≡ true) (parent_of_child p c label.0 child) h
-
-    between : (o n : Option Label) → IfSome o (λ l. slice_cmp nat_cmp l c ≡ Less) → IfSome n (λ r. slice_cmp nat_cmp c r ≡ Less) → IfSome o (λ l. IfSome n (λ r. slice_cmp nat_cmp l r ≡ Less))
-    between None n h g = tt
-    between (Some l) None h g = tt
-    between (Some l) (Some r) h g = nat_list_cmp_total.trans l c r h g
+pub neighbours_rise : (c : Label) (left right : Option Label) → IfSome left (λ l. slice_cmp nat_cmp l c ≡ Less) → IfSome right (λ r. slice_cmp nat_cmp c r ≡ Less)
+    → IfSome left (λ l. IfSome right (λ r. slice_cmp nat_cmp l r ≡ Less))
+neighbours_rise c None right h g = tt
+neighbours_rise c (Some l) None h g = tt
+neighbours_rise c (Some l) (Some r) h g = nat_list_cmp_total.trans l c r h g
 
 -- ---- test by test
 

@@ -51,9 +51,9 @@ same_level l n h a b =
     level_of_child (parent l) n p b ∙ sym (level_of_child (parent l) l p a)
 
 pub same_levels : (p l : Label) (o : Option Label) → p ≡ parent l → IsLabel l → is_child (parent l) l ≡ true
-    → IfSome o (λ n. IsLabel n × (is_child p n ≡ true)) → IfSome o (λ n. IsLabel n × (level n ≡ level l))
-same_levels p l None e h a b = tt
-same_levels p l (Some n) e h a b = (b.0, same_level l n h a (subst (λ q. is_child q n ≡ true) e b.1))
+    → IfSome o IsLabel → IfSome o (λ n. is_child p n ≡ true) → IfSome o (λ n. IsLabel n × (level n ≡ level l))
+same_levels p l None e h a i b = tt
+same_levels p l (Some n) e h a i b = (i, same_level l n h a (subst (λ q. is_child q n ≡ true) e b))
 
 -- a key at the level of another one
 pub beside_valid : (l n : Label) → IsValidKey (node_key l) → IsLabel n → level n ≡ level l → IsValidKey (node_key n)

@@ -4,7 +4,7 @@ ghost use Rattle.dewey_labels.specs.Labels.{is_child, root};
 ghost use Rattle.tree_model.specs.Changes.{differences};
 ghost use Rattle.tree_model.specs.Documents as documents;
 ghost use Rattle.tree_model.specs.Documents.{document_at};
-ghost use Rattle.tree_model.specs.Fragments.{IsValid, is_text_fragment, plain_or_none};
+ghost use Rattle.tree_model.specs.Fragments.{IsValid, plain_or_none};
 ghost use Rattle.tree_model.specs.Graft.{all_within};
 ghost use Rattle.tree_model.specs.Tree.{entries_of, map_of};
 ghost use Rattle.node_seq.specs.ChangeLists.{IsChangeList};
@@ -14,15 +14,17 @@ ghost use Rattle.dom_writes.specs.inside.NewDocuments as new_documents;
 ghost use Rattle.dom_writes.specs.inside.NewPlaces.{answer};
 
 use crate::grafts::{child_label, push_graft, puts};
-use crate::places::label_between;
 use crate::refusals::{
     document_exists, hierarchy_request, invalid_character, label_limit, too_deep,
 };
-use dewey_labels::{FIRST_DIVISION, Label, List, MOST_DIVISIONS, NoMemory, Text};
+use dewey_labels::{FIRST_DIVISION, Label, List, NoMemory, Text, child_beside};
 use dom_reads::{attribute_at, last_child};
 use node_seq::{NodeRead, SeqError};
 use std::alloc::Global;
-use tree_model::{Changes, DEEPEST_LEVEL, Fragment, Key, Record, Reply, is_name};
+use tree_model::{
+    Changes, Fragment, Key, Record, Reply, document_fits_at, is_name, is_text_document,
+    is_too_deep_document,
+};
 
 /// A document with a name behind the last one, empty or of one element. Two reads at most.
 pub fn create<S: NodeRead>(
@@ -65,39 +67,19 @@ fn document_place<S: NodeRead>(
     if !is_name(name) {
         return Ok(Err(invalid_character()));
     }
-    if is_text(fragment) {
+    if is_text_document(fragment) {
         return Ok(Err(hierarchy_request()));
     }
     let root = Label::root(alloc)?;
     if attribute_at(alloc, &root, name, seq)?.is_some() {
         return Ok(Err(document_exists()));
     }
-    if is_deep(fragment) {
+    if is_too_deep_document(fragment) {
         return Ok(Err(too_deep()));
     }
     let last = last_child(alloc, &root, seq)?;
-    let new = label_between(alloc, &root, last, None)?;
+    let new = child_beside(alloc, &root, &last, &None)?;
     Ok(within_limits(new, fragment))
-}
-
-/// Whether there is a fragment, and it is a text.
-fn is_text(fragment: Option<&Fragment>) -> bool
-    ensures { result ≡ is_text_fragment (plain_or_none (option_map (λ f. f.now) fragment.entry)) }
-{
-    match fragment {
-        Some(fragment) => fragment.is_text(),
-        None => false,
-    }
-}
-
-/// Whether below a document the fragment's deepest node would lie too deep.
-fn is_deep(fragment: Option<&Fragment>) -> bool
-    ensures { result ≡ new_documents.is_deep (plain_or_none (option_map (λ f. f.now) fragment.entry)) }
-{
-    match fragment {
-        Some(fragment) => fragment.is_deeper(DEEPEST_LEVEL - 1),
-        None => false,
-    }
 }
 
 /// The new label, unless one of the document's labels passes a limit.
@@ -105,19 +87,8 @@ fn within_limits(new: Option<Label>, fragment: Option<&Fragment>) -> Result<Labe
     ensures { result ≡ new_documents.within_limits (plain_or_none (option_map (λ f. f.now) fragment.entry)) new }
 {
     match new {
-        Some(label) if fits_below(&label, fragment) => Ok(label),
+        Some(label) if document_fits_at(&label, fragment) => Ok(label),
         _ => Err(label_limit()),
-    }
-}
-
-/// Whether the labels of a document with this label keep the limits, told without making any.
-fn fits_below(at: &Label, fragment: Option<&Fragment>) -> bool
-    ensures { result ≡ all_within (document_at at.now (plain_or_none (option_map (λ f. f.now) fragment.entry))) }
-{
-    let divisions = at.divisions().len();
-    match fragment {
-        Some(fragment) => divisions < MOST_DIVISIONS && fragment.fits_behind(divisions + 1),
-        None => true,
     }
 }
 

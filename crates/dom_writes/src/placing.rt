@@ -11,9 +11,9 @@ ghost use Rattle.outside_traits.specs.Faults.{HasCause};
 ghost use Rattle.dom_writes.specs.inside.NewPlaces.{SuitsOrRefused, answer, changes};
 
 use crate::grafts::graft_changes;
-use crate::places::{has_child, label_between, takes_none, within_limits};
+use crate::places::{has_child, takes_none, within_limits};
 use crate::refusals::{hierarchy_request, too_deep};
-use dewey_labels::{Label, NoMemory};
+use dewey_labels::{Label, NoMemory, child_beside};
 use dom_reads::{is_document, is_text, last_child, not_found, previous_sibling, record_at};
 use node_seq::{NodeRead, SeqError};
 use std::alloc::Global;
@@ -67,7 +67,7 @@ fn place_at_end<S: NodeRead>(
     if fragment.is_too_deep(at) {
         return Ok(Err(too_deep()));
     }
-    let new = label_between(alloc, at, last, None)?;
+    let new = child_beside(alloc, at, &last, &None)?;
     Ok(within_limits(new, fragment))
 }
 
@@ -156,6 +156,7 @@ fn place_before<S: NodeRead>(
         return Ok(Err(too_deep()));
     }
     let left = previous_sibling(alloc, child, seq)?;
-    let new = label_between(alloc, at, left, Some(child.copy(alloc)?))?;
+    let right = Some(child.copy(alloc)?);
+    let new = child_beside(alloc, at, &left, &right)?;
     Ok(within_limits(new, fragment))
 }

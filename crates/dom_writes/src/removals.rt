@@ -1,9 +1,8 @@
 //! The calls that take a subtree out (DOM Level 3 Core, interface Node: `removeChild` and `replaceChild`).
-ghost use Rattle.std.specs.Prelude.{◌≡◌, ◌&&◌, [], IfOk, OnErr, Some, ◌≤◌, ◌+◌};
+ghost use Rattle.std.specs.Prelude.{◌≡◌, [], IfOk, OnErr, ◌≤◌, ◌+◌};
 ghost use Rattle.tree_model.specs.Changes.{differences};
-ghost use Rattle.tree_model.specs.Fragments.{IsValid, is_text_fragment, plain};
+ghost use Rattle.tree_model.specs.Fragments.{IsValid, plain};
 ghost use Rattle.tree_model.specs.Placing as placing;
-ghost use Rattle.tree_model.specs.StoredTree.{is_document_record};
 ghost use Rattle.tree_model.specs.Tree.{map_of};
 ghost use Rattle.node_seq.specs.ChangeLists.{IsChangeList};
 ghost use Rattle.node_seq.specs.Trees.{OnTree};
@@ -15,12 +14,12 @@ ghost use Rattle.dom_writes.specs.inside.Outcomes.{parent_of, placed_instead, re
 
 use crate::grafts::graft_entries;
 use crate::merges::{differences_between, push_drops};
-use crate::places::{has_child, label_between, within_limits};
+use crate::places::{has_child, within_limits};
 use crate::refusals::{hierarchy_request, too_deep};
-use dewey_labels::{Label, List};
+use dewey_labels::{Label, List, child_beside};
 use dom_reads::{
-    fragment as fragment_of, is_document, next_sibling, not_found, previous_sibling, record_at,
-    subtree,
+    fragment as fragment_of, is_text_in_document, next_sibling, not_found, previous_sibling,
+    record_at, subtree,
 };
 use node_seq::{NodeRead, SeqError};
 use std::alloc::Global;
@@ -157,7 +156,7 @@ fn place_instead<S: NodeRead>(
     if !has_child(alloc, at, old, seq)? {
         return Ok(Err(not_found()));
     }
-    if takes_no_text(&parent, fragment) {
+    if is_text_in_document(&parent, fragment) {
         return Ok(Err(hierarchy_request()));
     }
     if fragment.is_too_deep(at) {
@@ -165,15 +164,8 @@ fn place_instead<S: NodeRead>(
     }
     let left = previous_sibling(alloc, old, seq)?;
     let right = next_sibling(alloc, old, seq)?;
-    let new = label_between(alloc, at, left, right)?;
+    let new = child_beside(alloc, at, &left, &right)?;
     Ok(within_limits(new, fragment))
-}
-
-/// Whether the fragment is a text and its parent a document, which takes an element alone.
-fn takes_no_text(parent: &Record, fragment: &Fragment) -> bool
-    ensures { result ≡ (is_document_record (Some parent.now) && is_text_fragment (plain fragment.now)) }
-{
-    is_document(parent) && fragment.is_text()
 }
 
 /// The record of the node `at`, if that is the parent of the label `child`. One read at most.

@@ -3,7 +3,7 @@ ghost use Rattle.std.specs.Prelude.{◌≡◌, [], ◌∷◌, ◌++◌, IfOk, If
 ghost use Rattle.std.specs.Ordering.{nat_cmp};
 ghost use Rattle.std.specs.Cmp.Lexicographic.{slice_cmp};
 ghost use Rattle.std.specs.declared.cmp.Ordering.TheVariants.{Less};
-ghost use Rattle.dewey_labels.specs.Labels.{IsLabel, is_child, level, parent as parent_of};
+ghost use Rattle.dewey_labels.specs.Labels.{IsLabel, level, parent as parent_of};
 ghost use Rattle.dewey_labels.specs.NewLabels.{new_label};
 ghost use Rattle.tree_changes.specs.KeyChanges.{change_at};
 ghost use Rattle.tree_model.specs.Changes.{differences, put_change};
@@ -18,7 +18,7 @@ ghost use Rattle.outside_traits.specs.Faults.{HasCause};
 
 use crate::refusals::label_limit;
 use crate::written::{add_change, is_too_long, node_at};
-use dewey_labels::{Label, LabelError, List, NoMemory, Text, child_after, child_between};
+use dewey_labels::{Label, List, NoMemory, Text, child_beside};
 use dom_reads::{cut, index_size, next_sibling, not_found, not_supported};
 use node_seq::{NodeRead, SeqError};
 use std::alloc::Global;
@@ -83,32 +83,8 @@ fn label_behind<S: NodeRead>(
         return Ok(None);
     };
     let next = next_sibling(alloc, at, seq)?;
-    Ok(new_label(alloc, &parent, at, next)?)
-}
-
-/// The label of a new child behind another one, and before the next, if there is one.
-fn new_label(
-    alloc: Global,
-    parent: &Label,
-    left: &Label,
-    right: Option<Label>,
-) -> Result<Option<Label>, NoMemory>
-    requires left { IsTrue (is_child parent.now left.now) }
-    requires right { IfSome right (λ r. IsTrue (is_child parent.now r)) }
-    requires order { IfSome right (λ r. slice_cmp nat_cmp left.now r ≡ Less) }
-    ensures label { IfOk result (λ new. new ≡ new_label parent.now (Some left.now) right) }
-    ensures child { IfOk result (λ new. IfSome new (λ n. IsLabel n × IsTrue (is_child parent.now n))) }
-    ensures behind { IfOk result (λ new. IfSome new (λ n. slice_cmp nat_cmp left.now n ≡ Less)) }
-{
-    let new = match right {
-        Some(right) => child_between(alloc, parent, left, &right),
-        None => child_after(alloc, parent, left),
-    };
-    match new {
-        Ok(new) => Ok(Some(new)),
-        Err(LabelError::LabelLimit) => Ok(None),
-        Err(LabelError::NoMemory) => Err(NoMemory),
-    }
+    let left = Some(at.copy(alloc)?);
+    Ok(child_beside(alloc, &parent, &left, &next)?)
 }
 
 /// Gives a text its left part, and puts a new one with the right part.

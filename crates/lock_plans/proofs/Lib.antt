@@ -1,6 +1,5 @@
 pub mod AppendOutcome
 pub mod Causes
-pub mod DocumentLimits
 pub mod DocumentOutcomes
 pub mod GapLaws
 pub mod InsertOutcome

@@ -1,11 +1,8 @@
 //! The requests of the calls on the catalogue.
-ghost use Rattle.std.specs.Prelude.{◌≡◌, ◌++◌, ◌+◌, ◌∷◌, [], nat_lt, IfOk, IsTrue};
+ghost use Rattle.std.specs.Prelude.{◌≡◌, ◌++◌, ◌∷◌, [], IfOk};
 ghost use Rattle.dewey_labels.specs.Labels.{root};
 ghost use Rattle.tree_model.specs.declared.dom_call.DomCall.TheVariants as call;
-ghost use Rattle.tree_model.specs.Documents.{document_at};
-ghost use Rattle.tree_model.specs.Fragments.{depth, is_text_fragment, plain_or_none};
-ghost use Rattle.tree_model.specs.Graft.{all_within};
-ghost use Rattle.tree_model.specs.Limits.{deepest_level};
+ghost use Rattle.tree_model.specs.Fragments.{plain_or_none};
 ghost use Rattle.tree_model.specs.Outcomes.{Outcome};
 ghost use Rattle.tree_model.specs.Tree.{Tree, beside};
 ghost use Rattle.node_seq.specs.Trees.{OnTree};
@@ -14,14 +11,15 @@ ghost use Rattle.lock_plans.specs.DomPlans.{requests};
 ghost use Rattle.lock_plans.specs.inside.PlacedReplies.{placed_label};
 ghost use Rattle.lock_plans.specs.inside.PlanSteps.{asked_by, create_end};
 
-use crate::gaps::new_label;
 use crate::placing::take_out_child;
 use crate::plan::Plan;
-use dewey_labels::{Label, NoMemory, Text};
+use dewey_labels::{Label, NoMemory, Text, child_beside};
 use dom_reads::{doc as document_call, last_child};
 use node_seq::{NodeRead, SeqError};
 use std::alloc::Global;
-use tree_model::{DEEPEST_LEVEL, Fragment, Reply, is_name};
+use tree_model::{
+    Fragment, Reply, document_fits_at, is_name, is_text_document, is_too_deep_document,
+};
 
 /// The requests of `docs`. It reads nothing.
 pub fn docs(alloc: Global) -> Result<Plan, NoMemory>
@@ -98,7 +96,7 @@ pub fn create<S: NodeRead>(
     if !is_name(name) {
         return Ok(plan);
     }
-    if is_text_alone(fragment) {
+    if is_text_document(fragment.as_ref()) {
         return Ok(plan);
     }
     let root = Label::root(alloc)?;
@@ -106,7 +104,7 @@ pub fn create<S: NodeRead>(
     if document_named(alloc, name, seq)?.is_some() {
         return Ok(plan);
     }
-    if is_too_deep_alone(fragment) {
+    if is_too_deep_document(fragment.as_ref()) {
         return Ok(plan);
     }
     plan.take_attribute(alloc, &root, name)?;
@@ -127,50 +125,12 @@ fn place_document<S: NodeRead>(
     let root = Label::root(alloc)?;
     let last = last_child(alloc, &root, seq)?;
     plan.take_end(alloc, &root, &last)?;
-    let Some(new) = new_label(alloc, &root, &last, &None)? else {
+    let Some(new) = child_beside(alloc, &root, &last, &None)? else {
         return Ok(plan);
     };
-    if !document_keeps_limits(alloc, &new, fragment)? {
+    if !document_fits_at(&new, fragment.as_ref()) {
         return Ok(plan);
     }
     plan.take_tree(alloc, &new)?;
     Ok(plan)
-}
-
-/// Whether a document at a label has no label that passes a limit.
-fn document_keeps_limits(
-    alloc: Global,
-    at: &Label,
-    fragment: &Option<Fragment>,
-) -> Result<bool, NoMemory>
-    ensures { IfOk result (λ keeps. keeps ≡ all_within (document_at at.now (plain_or_none fragment.now))) }
-{
-    let _divisions = at.divisions();
-    let Some(fragment) = fragment else {
-        return Ok(true);
-    };
-    let Some(element) = new_label(alloc, at, &None, &None)? else {
-        return Ok(false);
-    };
-    Ok(fragment.fits_at(&element))
-}
-
-/// Whether a document would be a text.
-fn is_text_alone(fragment: &Option<Fragment>) -> bool
-    ensures { result ≡ is_text_fragment (plain_or_none fragment.now) }
-{
-    match fragment {
-        Some(fragment) => fragment.is_text(),
-        None => false,
-    }
-}
-
-/// Whether a document would have a node that lies too deep.
-fn is_too_deep_alone(fragment: &Option<Fragment>) -> bool
-    ensures { result ≡ nat_lt deepest_level (1 + depth (plain_or_none fragment.now)) }
-{
-    match fragment {
-        Some(fragment) => fragment.is_deeper(DEEPEST_LEVEL - 1),
-        None => false,
-    }
 }

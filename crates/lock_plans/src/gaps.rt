@@ -1,4 +1,4 @@
-//! New labels in gaps between siblings, and the trees that are placed there.
+//! Trees that are placed in gaps between siblings.
 ghost use Rattle.std.specs.Prelude.{◌≡◌, ◌++◌, [], ◌∷◌, None, IsTrue, IfOk, IfSome};
 ghost use Rattle.std.specs.declared.cmp.Ordering.TheVariants.{Less};
 ghost use Rattle.std.specs.Ordering.{nat_cmp};
@@ -9,45 +9,12 @@ ghost use Rattle.tree_model.specs.Fragments.{plain};
 ghost use Rattle.tree_model.specs.Outcomes.{Outcome};
 ghost use Rattle.tree_model.specs.Tree.{Tree};
 ghost use Rattle.lock_plans.specs.Plans.{grafted, place};
-ghost use Rattle.lock_plans.specs.inside.PlanSteps.{asked_by, IsMade};
+ghost use Rattle.lock_plans.specs.inside.PlanSteps.{asked_by};
 
 use crate::plan::Plan;
-use dewey_labels::{
-    Label, LabelError, NoMemory, child_after, child_before, child_between, child_first,
-};
+use dewey_labels::{Label, NoMemory, child_beside};
 use std::alloc::Global;
 use tree_model::Fragment;
-
-/// The label of a new child of `parent` between its neighbours, each of which may be missing; none where it would pass a limit.
-pub fn new_label(
-    alloc: Global,
-    parent: &Label,
-    left: &Option<Label>,
-    right: &Option<Label>,
-) -> Result<Option<Label>, NoMemory>
-    requires left_child { IfSome left.now (λ l. IsTrue (is_child parent.now l)) }
-    requires right_child { IfSome right.now (λ r. IsTrue (is_child parent.now r)) }
-    requires order { IfSome left.now (λ l. IfSome right.now (λ r. slice_cmp nat_cmp l r ≡ Less)) }
-    ensures { IfOk result (λ new. new ≡ new_label parent.now left.now right.now) }
-{
-    match (left, right) {
-        (None, None) => unless_limit(child_first(alloc, parent)),
-        (Some(left), None) => unless_limit(child_after(alloc, parent, left)),
-        (None, Some(right)) => unless_limit(child_before(alloc, parent, right)),
-        (Some(left), Some(right)) => unless_limit(child_between(alloc, parent, left, right)),
-    }
-}
-
-/// The label that was made, or none where it would pass a limit.
-fn unless_limit(made: Result<Label, LabelError>) -> Result<Option<Label>, NoMemory>
-    ensures { IfOk result (IsMade made) }
-{
-    match made {
-        Ok(label) => Ok(Some(label)),
-        Err(LabelError::LabelLimit) => Ok(None),
-        Err(LabelError::NoMemory) => Err(NoMemory),
-    }
-}
 
 /// Asks to have a fragment stand in a gap, unless one of its labels would pass a limit.
 pub fn place_fragment(
@@ -64,7 +31,7 @@ pub fn place_fragment(
     ensures { IfOk result (λ _. (t : Tree) (end : Outcome) → plan.new
         ≡ plan.old ++ asked_by (place (grafted (plain fragment.now)) (new_label parent.now left.now right.now) t ∷ []) end) }
 {
-    let Some(new) = new_label(alloc, parent, left, right)? else {
+    let Some(new) = child_beside(alloc, parent, left, right)? else {
         return Ok(());
     };
     if !fragment.fits_at(&new) {

@@ -1,10 +1,9 @@
 //! The requests of the calls that put a subtree into the tree and take one out.
-ghost use Rattle.std.specs.Prelude.{◌≡◌, ◌&&◌, ◌++◌, IsTrue, None, Some};
+ghost use Rattle.std.specs.Prelude.{◌≡◌, ◌++◌, IsTrue, None};
 ghost use Rattle.dewey_labels.specs.Labels.{is_child, parent as parent_of};
 ghost use Rattle.tree_model.specs.declared.dom_call.DomCall.TheVariants as call;
-ghost use Rattle.tree_model.specs.Fragments.{is_text_fragment, plain};
+ghost use Rattle.tree_model.specs.Fragments.{plain};
 ghost use Rattle.tree_model.specs.Outcomes.{Outcome};
-ghost use Rattle.tree_model.specs.StoredTree.{is_document_record};
 ghost use Rattle.tree_model.specs.Tree.{at as node_at, found as is_found};
 ghost use Rattle.node_seq.specs.Trees.{OnTree};
 ghost use Rattle.outside_traits.specs.Faults.{HasCause};
@@ -14,7 +13,10 @@ ghost use Rattle.lock_plans.specs.inside.PlanSteps.{append_end, asked_by, insert
 use crate::gaps::place_fragment;
 use crate::plan::Plan;
 use dewey_labels::Label;
-use dom_reads::{first_child, is_document, is_text, last_child, next_sibling, previous_sibling};
+use dom_reads::{
+    first_child, is_document, is_text, is_text_in_document, last_child, next_sibling,
+    previous_sibling,
+};
 use lock_resources::Side;
 use node_seq::{NodeRead, SeqError};
 use std::alloc::Global;
@@ -151,13 +153,6 @@ pub fn replace<S: NodeRead>(
         return Ok(plan);
     }
     replace_child(alloc, at, old, fragment, seq, plan)
-}
-
-/// Whether a text would stand in a document.
-fn is_text_in_document(node: &Record, fragment: &Fragment) -> bool
-    ensures { result ≡ (is_document_record (Some node.now) && is_text_fragment (plain fragment.now)) }
-{
-    is_document(node) && fragment.is_text()
 }
 
 /// The last requests of `replace`, in place of a child that is there.

@@ -12,9 +12,8 @@ ghost use Rattle.outside_traits.specs.Faults.{HasCause};
 ghost use Rattle.lock_plans.specs.DomPlans.{requests};
 ghost use Rattle.lock_plans.specs.inside.PlanSteps.{asked_by, split_end};
 
-use crate::gaps::new_label;
 use crate::plan::Plan;
-use dewey_labels::{Label, Text};
+use dewey_labels::{Label, Text, child_beside};
 use dom_reads::{cut, is_document, is_text, next_sibling};
 use lock_resources::Side;
 use node_seq::{NodeRead, SeqError};
@@ -152,7 +151,7 @@ fn split<S: NodeRead>(
     let next = next_sibling(alloc, at, seq)?;
     plan.take_right(alloc, &parent, &next)?;
     let left = Some(at.copy(alloc)?);
-    let Some(new) = new_label(alloc, &parent, &left, &next)? else {
+    let Some(new) = child_beside(alloc, &parent, &left, &next)? else {
         return Ok(plan);
     };
     let _within = new.divisions();

@@ -4,6 +4,7 @@ pub mod ChangeLists
 pub mod ChildWalks
 pub mod Creates
 pub mod Differences
+pub mod DocumentLimits
 pub mod EditedTrees
 pub mod Edits
 pub mod Ends

@@ -12,6 +12,7 @@ mod laws;
 mod laying;
 mod limits;
 mod names;
+mod new_documents;
 mod record;
 mod refusal;
 mod reply;
@@ -28,6 +29,7 @@ pub use laws::{
 pub use laying::lay;
 pub use limits::{DEEPEST_LEVEL, MOST_NAME_BYTES, MOST_TEXT_BYTES};
 pub use names::is_name;
+pub use new_documents::{document_fits_at, is_text_document, is_too_deep_document};
 pub use record::Record;
 pub use refusal::Refusal;
 pub use reply::{Hit, Reply};

@@ -17,14 +17,6 @@ use Rattle.tree_model.specs.Placing.{is_too_deep}
 use Rattle.tree_model.specs.StoredTree.{is_document_record}
 use Rattle.tree_model.specs.Tree.{entries_of, none}
 
--- ---- neighbours
-
--- two neighbours below p, each of which may be missing
-pub record AreNeighbours (p : Label) (left right : Option Label) : Type 0 where
-  pub left_child : IfSome left (λ l. IsTrue (is_child p l))
-  pub right_child : IfSome right (λ r. IsTrue (is_child p r))
-  pub order : IfSome left (λ l. IfSome right (λ r. slice_cmp nat_cmp l r ≡ Less))
-
 -- ---- the parent's kind
 
 -- a document takes no text, and no second child

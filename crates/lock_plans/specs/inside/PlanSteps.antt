@@ -1,9 +1,7 @@
 -- What the steps at edges, children and new labels add to a plan.
-use Rattle.std.specs.Prelude.{◌≡◌, ℕ, Bool, true, false, if◌then◌else◌, List, [], ◌∷◌, ◌++◌, Option, Some, None, Result, Ok, Err}
+use Rattle.std.specs.Prelude.{ℕ, Bool, true, false, if◌then◌else◌, List, [], ◌∷◌, ◌++◌, Option, Some, None}
 use Rattle.dewey_labels.specs.Labels.{Label, parent, root}
 use Rattle.dewey_labels.specs.NewLabels.{new_label}
-use Rattle.dewey_labels.specs.declared.new_labels.LabelError.{LabelError}
-use Rattle.dewey_labels.specs.declared.new_labels.LabelError.TheVariants.{LabelLimit}
 use Rattle.lock_modes.specs.declared.ask.Ask.TheVariants as ask
 use Rattle.lock_modes.specs.declared.mode.Mode.TheVariants.{NR, SX}
 use Rattle.lock_modes.specs.declared.edge_mode.EdgeMode.TheVariants.{EX}
@@ -63,11 +61,6 @@ sees_child p c = if same_label (parent c) p then with_intentions (Node c) (ask.N
 -- the requests of the last steps of a call with an outcome
 abbrev pub asked_by : List Step → Outcome → List Request
 asked_by steps end = (in_turn steps (ends end)).requests
-
--- what was made of a new label, where memory didn't run out
-abbrev pub IsMade : Result Label LabelError → Option Label → Type 0
-IsMade made None = made ≡ Err LabelLimit
-IsMade made (Some new) = made ≡ Ok new
 
 -- the last steps of `split_text`
 abbrev pub split_end : Label → Tree → List Step

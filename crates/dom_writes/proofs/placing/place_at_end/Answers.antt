@@ -44,7 +44,7 @@ returns-clause-place g c = λ t stands.
     ap answer c.within_limits.ensures
     ∙ append_placed p (plain c.args.fragment.now) t stands.valid c.in-Some.parent e c.in_ok-last.last (sym c.is_text.ensures ∙ c.if-is_text.false)
     (c.in_ok-last.ensures.found t (later _ _ t read stands)) (sym c.takes_none.ensures ∙ c.if-takes_none.false) c.in_ok-new.new (sym c.is_too_deep.ensures ∙ c.if-is_too_deep.false)
-    c.in_ok-new.ensures.label
+    c.in_ok-new.ensures.new
 
 pub returns-clause-suits : goal.returns-clause-suits
 returns-clause-suits g c =

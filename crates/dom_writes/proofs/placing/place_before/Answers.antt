@@ -1,19 +1,24 @@
-use Rattle.std.proofs.Common.{◌≡◌, Some, true, sym, ap, subst, ◌∙◌}
+use Rattle.std.proofs.Common.{◌≡◌, Less, nat_cmp, IfSome, Some, true, sym, ap, subst, ◌∙◌}
+use Rattle.std.specs.Cmp.Lexicographic.{slice_cmp}
+use Rattle.dewey_labels.specs.Labels.{is_child}
 use Rattle.dewey_labels.specs.NewLabels.{new_label}
 use Rattle.tree_model.specs.Fragments.{plain}
 use Rattle.tree_model.specs.Placing.{has_child, insert_into}
 use Rattle.tree_model.specs.Tree.{at, record_of}
 use Rattle.dom_reads.proofs.ReplyLaws.{later}
 use Rattle.dom_writes.specs.inside.NewPlaces.{SuitsOrRefused, answer}
-use Rattle.dom_writes.proofs.PlacedCalls.{before_child, child_found, insert_deep, insert_full, insert_no_child, insert_placed, insert_text, unseen_reply, within_suits}
+use Rattle.dom_writes.proofs.PlacedCalls.{child_found, insert_deep, insert_full, insert_no_child, insert_placed, insert_text, sibling_is_child, unseen_reply, within_suits}
 use Rattle.dom_writes.proofs.placing.place_before.Goals as goal
 
-pub label_between-requires : goal.label_between-requires
-label_between-requires g c =
-    let child = c.in_ok-has_child.ensures.child c.if-not-branch.false in
-    record {
-      neighbours = before_child c.args.at.now c.args.child.now c.in_ok-copy.field-0 c.in_ok-left.left c.divisions-divisions.ensures.label.0 c.in_ok-copy.ensures child c.in_ok-left.ensures.sibling c.in_ok-left.ensures.ahead;
-    }
+pub child_beside-requires-clause-left_child : goal.child_beside-requires-clause-left_child
+child_beside-requires-clause-left_child g c =
+    sibling_is_child c.args.at.now c.args.child.now c.in_ok-left.left c.divisions-divisions.ensures.label.0 (c.in_ok-has_child.ensures.child c.if-not-branch.false) c.in_ok-left.ensures.sibling
+
+pub child_beside-requires-clause-right_child : goal.child_beside-requires-clause-right_child
+child_beside-requires-clause-right_child g c = subst (λ k. is_child c.args.at.now k ≡ true) (sym c.in_ok-copy.ensures) (c.in_ok-has_child.ensures.child c.if-not-branch.false)
+
+pub child_beside-requires-clause-order : goal.child_beside-requires-clause-order
+child_beside-requires-clause-order g c = subst (λ k. IfSome c.in_ok-left.left (λ l. slice_cmp nat_cmp l k ≡ Less)) (sym c.in_ok-copy.ensures) c.in_ok-left.ensures.ahead
 
 pub returns-in_default-clause-place : goal.returns-in_default-clause-place
 returns-in_default-clause-place g c = λ t stands.
@@ -67,7 +72,7 @@ returns-clause-place g c = λ t stands.
     ∙ insert_placed p k (plain c.args.fragment.now) t stands.valid c.in-Some.parent e c.in_ok-left.left c.in_ok-new.new
     (sym c.is_text.ensures ∙ c.if-is_text.false) there (sym c.is_document.ensures ∙ c.if-is_document.false) (sym c.is_too_deep.ensures ∙ c.if-is_too_deep.false)
     (c.in_ok-left.ensures.found t (later _ _ t then_read stands) (child_found p k t there))
-    (c.in_ok-new.ensures.label ∙ ap (λ m. new_label p c.in_ok-left.left (Some m)) c.in_ok-copy.ensures)
+    (c.in_ok-new.ensures.new ∙ ap (λ m. new_label p c.in_ok-left.left (Some m)) c.in_ok-copy.ensures)
 
 pub returns-clause-suits : goal.returns-clause-suits
 returns-clause-suits g c =

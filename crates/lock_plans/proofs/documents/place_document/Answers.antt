@@ -7,6 +7,7 @@ use Rattle.lock_resources.specs.declared.resource.Side.TheVariants.{Last}
 use Rattle.tree_model.specs.declared.fragment.Fragment.{Fragment}
 use Rattle.tree_model.specs.Documents.{document_at}
 use Rattle.tree_model.specs.Fragments.{plain_or_none}
+use Rattle.tree_model.specs.Graft.{all_within}
 use Rattle.tree_model.specs.Places.{last_in}
 use Rattle.tree_model.specs.Tree.{Forest, last_label}
 use Rattle.lock_plans.specs.Plans.{ends, place, take_left}
@@ -56,7 +57,7 @@ returns-in_default g c = record {
       let last = c.in_ok-last.last in
       let last_is : last ≡ last_label t.documents = c.in_ok-last.ensures.found t stands ∙ ap (λ k. last_in k t) is in
       let tree = document_of c.args.fragment.now in
-      let new : new_label l last None ≡ None = sym c.in_ok-new.ensures ∙ c.in_default.is in
+      let new : new_label l last None ≡ None = sym c.in_ok-new.ensures.new ∙ c.in_default.is in
       let x = (place tree (new_label l last None) t (ends end)).requests in
       let rest : c.take_end.new.self ≡ c.take_end.new.self ++ x = nothing_more x (no_label tree (new_label l last None) t end new) refl in
       two_then c.args.plan (edge_asks l Last EX) (takes_left l last) x (take_left l last (place tree (new_label l last None) t (ends end))).requests c.in_ok-take_end.ensures rest (left_taken l last (place tree (new_label l last None) t (ends end)))
@@ -65,24 +66,17 @@ returns-in_default g c = record {
   cause = answer_cause _ c.in_ok-last.ensures.cause.exact;
 }
 
-pub returns-in_err-document_keeps_limits : goal.returns-in_err-document_keeps_limits
-returns-in_err-document_keeps_limits g c = record {
-  value = IfOk-from_err _ _ c.from_residual-in_err-document_keeps_limits.ensures.0;
-  unchanged = c.last_child.ensures.unchanged;
-  cause = memory_cause _ c.in_ok-last.ensures.cause.exact c.from_residual-in_err-document_keeps_limits.ensures.1;
-}
-
-pub returns-then-not-branch : goal.returns-then-not-branch
-returns-then-not-branch g c = record {
+pub returns-then-not-document_fits_at : goal.returns-then-not-document_fits_at
+returns-then-not-document_fits_at g c = record {
   value = λ t stands end.
       let l = c.in_ok-root.root in
       let is = c.in_ok-root.ensures in
       let last = c.in_ok-last.last in
       let last_is : last ≡ last_label t.documents = c.in_ok-last.ensures.found t stands ∙ ap (λ k. last_in k t) is in
       let tree = document_of c.args.fragment.now in
-      let new : new_label l last None ≡ Some c.in-Some.new = sym c.in_ok-new.ensures ∙ c.in-Some.is in
+      let new : new_label l last None ≡ Some c.in-Some.new = sym c.in_ok-new.ensures.new ∙ c.in-Some.is in
       let x = (place tree (new_label l last None) t (ends end)).requests in
-      let rest : c.take_end.new.self ≡ c.take_end.new.self ++ x = nothing_more x (not_placed tree (new_label l last None) c.in-Some.new t end new (sym c.in_ok-document_keeps_limits.ensures ∙ c.if-not-branch.true)) refl in
+      let rest : c.take_end.new.self ≡ c.take_end.new.self ++ x = nothing_more x (not_placed tree (new_label l last None) c.in-Some.new t end new (sym (c.document_fits_at.ensures ∙ ap (λ o. all_within (document_at c.in-Some.new (plain_or_none o))) c.as_ref.ensures.value) ∙ c.if-not-document_fits_at.true)) refl in
       two_then c.args.plan (edge_asks l Last EX) (takes_left l last) x (take_left l last (place tree (new_label l last None) t (ends end))).requests c.in_ok-take_end.ensures rest (left_taken l last (place tree (new_label l last None) t (ends end)))
       ∙ (λ i. c.args.plan ++ (edge_asks (is i) Last EX ++ (take_left (is i) (last_is i) (place tree (new_label (is i) (last_is i) None) t (ends end))).requests));
   unchanged = c.last_child.ensures.unchanged;
@@ -104,9 +98,9 @@ returns g c = record {
       let last = c.in_ok-last.last in
       let last_is : last ≡ last_label t.documents = c.in_ok-last.ensures.found t stands ∙ ap (λ k. last_in k t) is in
       let tree = document_of c.args.fragment.now in
-      let new : new_label l last None ≡ Some c.in-Some.new = sym c.in_ok-new.ensures ∙ c.in-Some.is in
+      let new : new_label l last None ≡ Some c.in-Some.new = sym c.in_ok-new.ensures.new ∙ c.in-Some.is in
       let x = (place tree (new_label l last None) t (ends end)).requests in
-      let rest : c.take_tree.new.self ≡ c.take_end.new.self ++ x = c.in_ok-take_tree.ensures ∙ ap (λ v. c.take_end.new.self ++ v) (sym (placed tree (new_label l last None) c.in-Some.new t end new (sym c.in_ok-document_keeps_limits.ensures ∙ c.if-not-branch.false))) in
+      let rest : c.take_tree.new.self ≡ c.take_end.new.self ++ x = c.in_ok-take_tree.ensures ∙ ap (λ v. c.take_end.new.self ++ v) (sym (placed tree (new_label l last None) c.in-Some.new t end new (sym (c.document_fits_at.ensures ∙ ap (λ o. all_within (document_at c.in-Some.new (plain_or_none o))) c.as_ref.ensures.value) ∙ c.if-not-document_fits_at.false))) in
       two_then c.args.plan (edge_asks l Last EX) (takes_left l last) x (take_left l last (place tree (new_label l last None) t (ends end))).requests c.in_ok-take_end.ensures rest (left_taken l last (place tree (new_label l last None) t (ends end)))
       ∙ (λ i. c.args.plan ++ (edge_asks (is i) Last EX ++ (take_left (is i) (last_is i) (place tree (new_label (is i) (last_is i) None) t (ends end))).requests));
   unchanged = c.last_child.ensures.unchanged;

@@ -81,16 +81,16 @@ returns-in_err-new g c = record {
   cause = memory_cause _ c.in_ok-next.ensures.cause.exact c.from_residual-in_err-new.ensures.1;
 }
 
-pub new_label-requires-clause-left_child : goal.new_label-requires-clause-left_child
-new_label-requires-clause-left_child g c =
+pub child_beside-requires-clause-left_child : goal.child_beside-requires-clause-left_child
+child_beside-requires-clause-left_child g c =
     let l = c.args.at.now in
     let p = c.in-Some.parent in
     let is : p ≡ parent l = subst (λ o. IfSome o (λ v. v ≡ parent l)) c.in-Some.is c.in_ok-parent.ensures.parent in
     let child = child_of_parent l c.divisions-divisions.ensures.label.0 (below_root l c.in_ok-parent.field-0 p c.in_ok-parent.ensures.root.1 c.in-Some.is) in
     subst (λ k. is_child p k ≡ true) (sym c.in_ok-copy.ensures) (subst (λ q. is_child q l ≡ true) (sym is) child)
 
-pub new_label-requires-clause-right_child : goal.new_label-requires-clause-right_child
-new_label-requires-clause-right_child g c =
+pub child_beside-requires-clause-right_child : goal.child_beside-requires-clause-right_child
+child_beside-requires-clause-right_child g c =
     let l = c.args.at.now in
     let is : c.in-Some.parent ≡ parent l = subst (λ o. IfSome o (λ v. v ≡ parent l)) c.in-Some.is c.in_ok-parent.ensures.parent in
     subst (λ p. IfSome c.in_ok-next.next (λ n. IsTrue (is_child p n))) (sym is) c.in_ok-next.ensures.sibling
@@ -105,7 +105,7 @@ returns-in_default-2 g c = record {
       let copy_is = c.in_ok-copy.ensures in
       let next = c.in_ok-next.next in
       let next_is : next ≡ next_of (at l t.documents) = c.in_ok-next.ensures.found t stands there in
-      let new : new_label p (Some copy) next ≡ None = sym c.in_ok-new.ensures ∙ c.in_default-2.is in
+      let new : new_label p (Some copy) next ≡ None = sym c.in_ok-new.ensures.new ∙ c.in_default-2.is in
       let x = (place text_at (new_label p (Some copy) next) t (ends end)).requests in
       let w = c.args.plan ++ node_asks l SX in
       let taken = joined w (edge_asks l Next EX) (takes_right p next) (grown _ (grown _ c.in_ok-take_tree.ensures c.in_ok-take_edge.ensures) c.in_ok-take_right.ensures) in
@@ -133,7 +133,7 @@ returns g c = record {
       let copy_is = c.in_ok-copy.ensures in
       let next = c.in_ok-next.next in
       let next_is : next ≡ next_of (at l t.documents) = c.in_ok-next.ensures.found t stands there in
-      let new : new_label p (Some copy) next ≡ Some c.in-Some-2.new = sym c.in_ok-new.ensures ∙ c.in-Some-2.is in
+      let new : new_label p (Some copy) next ≡ Some c.in-Some-2.new = sym c.in_ok-new.ensures.new ∙ c.in-Some-2.is in
       let x = (place text_at (new_label p (Some copy) next) t (ends end)).requests in
       let w = c.args.plan ++ node_asks l SX in
       let taken = joined w (edge_asks l Next EX) (takes_right p next) (grown _ (grown _ c.in_ok-take_tree.ensures c.in_ok-take_edge.ensures) c.in_ok-take_right.ensures) in

@@ -7,8 +7,8 @@ use Rattle.tree_model.specs.Documents.{document_at}
 use Rattle.tree_model.specs.Fragments.{plain, plain_or_none}
 use Rattle.tree_model.specs.Graft.{all_within}
 use Rattle.tree_model.specs.GraftLimits.{fit_at}
-use Rattle.dom_writes.proofs.MadeDocuments.{document_within, empty_within}
-use Rattle.dom_writes.proofs.documents.fits_below.Goals as goal
+use Rattle.tree_model.proofs.DocumentLimits.{document_within, empty_within}
+use Rattle.tree_model.proofs.new_documents.document_fits_at.Goals as goal
 
 is_less : (n : ℕ) → n < most_divisions → nat_lt n most_divisions ≡ true
 is_less n h = grind (arith, nat_tests)
