@@ -17,6 +17,7 @@ use Rattle.tree_model.specs.declared.record.Record.{Record}
 use Rattle.tree_model.specs.declared.record.Record.TheVariants.{Document, Element, Text, Attr}
 use Rattle.tree_model.specs.Keys.{key_cmp, key_at, node_key}
 use Rattle.tree_model.specs.Names.{Name}
+use Rattle.tree_model.specs.NodeKinds.{is_text_record}
 use Rattle.tree_model.specs.Entries.{Entries, Below, get, put, changed}
 use Rattle.tree_model.specs.Tree.{Attributes, Forest, none, node, entries_of, Tree, map_of, at, found, record_of, labels, head_label}
 use Rattle.tree_model.specs.inside.FoundNodes.{up, low}
@@ -83,17 +84,13 @@ record_puts l r t w y =
     (λ r0 ats ch nx e. sym (put_past (node_key l, r) (prefix_of l t) _ (prefix_below l [] t w y) ∙ ap (λ v. prefix_of l t ++ v) (put_here (node_key l, r) (node_key l, r0) _ (key_itself (node_key l)))))
     ∙ ap (put (node_key l, r)) (sym (whole_map l t))
 
--- ---- a text, or not
-
-abbrev pub is_text : Option Record → Bool
-is_text (Some (Text d)) = true
-is_text o = false
+-- ---- a text without its characters
 
 abbrev pub emptied : Label → Tree → Tree
 emptied l t = edited l (with_record (Text [])) t
 
 -- what is done to the node that was found
-outcome_of : (l : Label) (t : Tree) (f : Forest) → see_in t (in_text t (set_data_in l [] t)) f ≡ (cleared_reply (record_of f), cond (is_text (record_of f)) (emptied l t) t)
+outcome_of : (l : Label) (t : Tree) (f : Forest) → see_in t (in_text t (set_data_in l [] t)) f ≡ (cleared_reply (record_of f), cond (is_text_record (record_of f)) (emptied l t) t)
 outcome_of l t none = refl
 outcome_of l t (node m Document ats ch nx) = refl
 outcome_of l t (node m (Element n) ats ch nx) = refl
@@ -103,10 +100,10 @@ outcome_of l t (node m (Attr v) ats ch nx) = refl
 pub reply_is : (l : Label) (t : Tree) → IsValidTree t → (set_data l [] t).0 ≡ cleared_reply (get (node_key l) (map_of t))
 reply_is l t w = ap (λ (o : Outcome). o.0) (outcome_of l t (at l t.documents)) ∙ ap cleared_reply (sym (get_node l t w))
 
-pub after_is : (l : Label) (t : Tree) → IsValidTree t → (b : Bool) → is_text (get (node_key l) (map_of t)) ≡ b → (set_data l [] t).1 ≡ cond b (emptied l t) t
-after_is l t w b e = ap (λ (o : Outcome). o.1) (outcome_of l t (at l t.documents)) ∙ ap (λ (o : Option Record). cond (is_text o) (emptied l t) t) (sym (get_node l t w)) ∙ ap (λ z. cond z (emptied l t) t) e
+pub after_is : (l : Label) (t : Tree) → IsValidTree t → (b : Bool) → is_text_record (get (node_key l) (map_of t)) ≡ b → (set_data l [] t).1 ≡ cond b (emptied l t) t
+after_is l t w b e = ap (λ (o : Outcome). o.1) (outcome_of l t (at l t.documents)) ∙ ap (λ (o : Option Record). cond (is_text_record o) (emptied l t) t) (sym (get_node l t w)) ∙ ap (λ z. cond z (emptied l t) t) e
 
-text_found : (f : Forest) → is_text (record_of f) ≡ true → found f ≡ true
+text_found : (f : Forest) → is_text_record (record_of f) ≡ true → found f ≡ true
 text_found none h = absurd (true≢false (sym h))
 text_found (node m r ats ch nx) h = refl
 
@@ -142,13 +139,13 @@ emptied_text l old ats ch nx t w e = edited_keeps l (with_record (Text [])) t w 
     same_labels none = refl
     same_labels (node m r ats ch nx) = refl
 
-pub emptied_valid : (l : Label) (t : Tree) → IsValidTree t → is_text (get (node_key l) (map_of t)) ≡ true → IsValidTree (emptied l t)
-emptied_valid l t w h = with_label (λ f. is_text (record_of f) ≡ true → IsValidTree (emptied l t)) l t (text_found (at l t.documents) here) each here
+pub emptied_valid : (l : Label) (t : Tree) → IsValidTree t → is_text_record (get (node_key l) (map_of t)) ≡ true → IsValidTree (emptied l t)
+emptied_valid l t w h = with_label (λ f. is_text_record (record_of f) ≡ true → IsValidTree (emptied l t)) l t (text_found (at l t.documents) here) each here
   where
-    here : is_text (record_of (at l t.documents)) ≡ true
-    here = ap is_text (sym (get_node l t w)) ∙ h
+    here : is_text_record (record_of (at l t.documents)) ≡ true
+    here = ap is_text_record (sym (get_node l t w)) ∙ h
 
-    each : (r : Record) (ats : Attributes) (ch nx : Forest) → at l t.documents ≡ node l r ats ch nx → is_text (Some r) ≡ true → IsValidTree (emptied l t)
+    each : (r : Record) (ats : Attributes) (ch nx : Forest) → at l t.documents ≡ node l r ats ch nx → is_text_record (Some r) ≡ true → IsValidTree (emptied l t)
     each Document ats ch nx e k = absurd (true≢false (sym k))
     each (Element n) ats ch nx e k = absurd (true≢false (sym k))
     each (Text old) ats ch nx e k = emptied_text l old ats ch nx t w e
@@ -156,12 +153,12 @@ emptied_valid l t w h = with_label (λ f. is_text (record_of f) ≡ true → IsV
 
 -- ---- the cells of what is emptied
 
-module _ (l : Label) (t : Tree) (w : IsValidTree t) (h : is_text (get (node_key l) (map_of t)) ≡ true) where
+module _ (l : Label) (t : Tree) (w : IsValidTree t) (h : is_text_record (get (node_key l) (map_of t)) ≡ true) where
   abbrev puts_empty : Change
   puts_empty = record { key = node_key l; now = Some (Text []) }
 
   there : found (at l t.documents) ≡ true
-  there = text_found (at l t.documents) (ap is_text (sym (get_node l t w)) ∙ h)
+  there = text_found (at l t.documents) (ap is_text_record (sym (get_node l t w)) ∙ h)
 
   map_is : map_of (emptied l t) ≡ changed (puts_empty ∷ []) (map_of t)
   map_is = record_puts l (Text []) t w there
@@ -203,43 +200,43 @@ same_record : (l : Label) (t u : Tree) → Agree (gs l) t u → get (node_key l)
 same_record l t u agree = record_same _ _ (agree (node_cell l) (node_is_read l (ask.Node SX) (or_first _ _ (and_both _ true (ap is_eq (list_itself l)) refl))))
 
 same_after : (l : Label) (t u : Tree) → IsValidTree t → IsValidTree u → Agree (gs l) t u → (x : Cell) → writes (gs l) x ≡ true → value_at (set_data l [] t).1 x ≡ value_at (set_data l [] u).1 x
-same_after l t u w v agree x on = by (is_text (get (node_key l) (map_of t))) refl
+same_after l t u w v agree x on = by (is_text_record (get (node_key l) (map_of t))) refl
   where
     near : value_at t x ≡ value_at u x
     near = agree x (written_is_read (gs l) x on)
 
-    emptied_same : (h : is_text (get (node_key l) (map_of t)) ≡ true) (k : is_text (get (node_key l) (map_of u)) ≡ true) (x : Cell) → value_at t x ≡ value_at u x → value_at (emptied l t) x ≡ value_at (emptied l u) x
+    emptied_same : (h : is_text_record (get (node_key l) (map_of t)) ≡ true) (k : is_text_record (get (node_key l) (map_of u)) ≡ true) (x : Cell) → value_at t x ≡ value_at u x → value_at (emptied l t) x ≡ value_at (emptied l u) x
     emptied_same h k (node_cell m) e = ap record_is (key_is_after l t w h (node_key m) ∙ ap (cond (is_eq (key_cmp (node_key m) (node_key l))) (Some (Text []))) (record_same _ _ e) ∙ sym (key_is_after l u v k (node_key m)))
     emptied_same h k (attr_cell m n) e = ap record_is (key_is_after l t w h (key_at m n) ∙ ap (cond (is_eq (key_cmp (key_at m n) (node_key l))) (Some (Text []))) (record_same _ _ e) ∙ sym (key_is_after l u v k (key_at m n)))
     emptied_same h k (edge_cell m s) e = edges_are l t w h m s ∙ e ∙ sym (edges_are l u v k m s)
 
-    by : (b : Bool) → is_text (get (node_key l) (map_of t)) ≡ b → value_at (set_data l [] t).1 x ≡ value_at (set_data l [] u).1 x
+    by : (b : Bool) → is_text_record (get (node_key l) (map_of t)) ≡ b → value_at (set_data l [] t).1 x ≡ value_at (set_data l [] u).1 x
     by true h =
-        let k = ap is_text (sym (same_record l t u agree)) ∙ h in
+        let k = ap is_text_record (sym (same_record l t u agree)) ∙ h in
         ap (λ z. value_at z x) (after_is l t w true h) ∙ emptied_same h k x near ∙ sym (ap (λ z. value_at z x) (after_is l u v true k))
     by false h =
-        let k = ap is_text (sym (same_record l t u agree)) ∙ h in
+        let k = ap is_text_record (sym (same_record l t u agree)) ∙ h in
         ap (λ z. value_at z x) (after_is l t w false h) ∙ near ∙ sym (ap (λ z. value_at z x) (after_is l u v false k))
 
 rest_is : (l : Label) (t : Tree) → IsValidTree t → (x : Cell) → writes (gs l) x ≡ false → value_at (set_data l [] t).1 x ≡ value_at t x
-rest_is l t w x off = by (is_text (get (node_key l) (map_of t))) refl
+rest_is l t w x off = by (is_text_record (get (node_key l) (map_of t))) refl
   where
     elsewhere : (x : Cell) (m : Label) → label_of x ≡ m → writes (gs l) x ≡ false → m ≡ l → ⊥
     elsewhere x m is out same = true≢false (sym (node_is_written l x (subst (λ z. is_in (side l z) ≡ true) (sym (is ∙ same)) (in_itself l))) ∙ out)
 
-    emptied_is : (h : is_text (get (node_key l) (map_of t)) ≡ true) (x : Cell) → writes (gs l) x ≡ false → value_at (emptied l t) x ≡ value_at t x
+    emptied_is : (h : is_text_record (get (node_key l) (map_of t)) ≡ true) (x : Cell) → writes (gs l) x ≡ false → value_at (emptied l t) x ≡ value_at t x
     emptied_is h (node_cell m) out = ap record_is (other_key l t w h (node_key m) (λ e. elsewhere (node_cell m) m refl out (ap (λ k. k.label) e)))
     emptied_is h (attr_cell m n) out = ap record_is (other_key l t w h (key_at m n) (λ e. elsewhere (attr_cell m n) m refl out (ap (λ k. k.label) e)))
     emptied_is h (edge_cell m s) out = edges_are l t w h m s
 
-    by : (b : Bool) → is_text (get (node_key l) (map_of t)) ≡ b → value_at (set_data l [] t).1 x ≡ value_at t x
+    by : (b : Bool) → is_text_record (get (node_key l) (map_of t)) ≡ b → value_at (set_data l [] t).1 x ≡ value_at t x
     by true h = ap (λ z. value_at z x) (after_is l t w true h) ∙ emptied_is h x off
     by false h = ap (λ z. value_at z x) (after_is l t w false h)
 
 valid_after : (l : Label) (t : Tree) → IsValidTree t → IsValidTree (set_data l [] t).1
-valid_after l t w = by (is_text (get (node_key l) (map_of t))) refl
+valid_after l t w = by (is_text_record (get (node_key l) (map_of t))) refl
   where
-    by : (b : Bool) → is_text (get (node_key l) (map_of t)) ≡ b → IsValidTree (set_data l [] t).1
+    by : (b : Bool) → is_text_record (get (node_key l) (map_of t)) ≡ b → IsValidTree (set_data l [] t).1
     by true h = subst IsValidTree (sym (after_is l t w true h)) (emptied_valid l t w h)
     by false h = subst IsValidTree (sym (after_is l t w false h)) w
 

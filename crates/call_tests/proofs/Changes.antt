@@ -15,13 +15,14 @@ use Rattle.tree_model.specs.Changes.{Rising, now_at, same_record, difference, di
 use Rattle.tree_model.specs.Tree.{Tree, map_of}
 use Rattle.tree_model.specs.ValidTrees.{IsValidTree}
 use Rattle.tree_model.specs.Texts.{set_data}
+use Rattle.tree_model.specs.NodeKinds.{is_text_record}
 use Rattle.tree_model.proofs.Differences.{at_differences, rising_differences}
 use Rattle.tree_model.proofs.ChangeLists.{same_changes}
 use Rattle.tree_model.proofs.WholeTree.{map_sorted}
 use Rattle.tree_model.proofs.Keys.{key_itself}
 use Rattle.tree_model.proofs.ValidKeys.{HasValidKey, keys_valid}
 use Rattle.tree_cells.proofs.SameTrees.{key_is}
-use Rattle.call_rows.proofs.ClearLaws.{is_text, emptied, after_is, emptied_valid, key_is_after}
+use Rattle.call_rows.proofs.ClearLaws.{emptied, after_is, emptied_valid, key_is_after}
 use Rattle.call_rows.specs.Toys.{emptied_at, cleared_changes}
 
 -- ---- requests
@@ -53,7 +54,7 @@ nothing_changed t w = sym (same_changes (differences (map_of t) (map_of t)) [] (
 
 module _ (l : Label) (t : Tree) (w : IsValidTree t) where
   -- nothing where no text stands
-  unless_text : is_text (get (node_key l) (map_of t)) ≡ false → [] ≡ differences (map_of t) (map_of (set_data l [] t).1)
+  unless_text : is_text_record (get (node_key l) (map_of t)) ≡ false → [] ≡ differences (map_of t) (map_of (set_data l [] t).1)
   unless_text h = nothing_changed t w ∙ ap (λ u. differences (map_of t) (map_of u)) (sym (after_is l t w false h))
 
   -- a text's data, by each key
@@ -61,7 +62,7 @@ module _ (l : Label) (t : Tree) (w : IsValidTree t) where
       → ((k : Key) → difference (get k (map_of t)) (cond (is_eq (key_cmp k (node_key l))) (Some (Text [])) (get k (map_of t))) ≡ now_at k cs)
       → cs ≡ differences (map_of t) (map_of (set_data l [] t).1)
   of_text d is cs rise each =
-      let h : is_text (get (node_key l) (map_of t)) ≡ true = ap is_text is in
+      let h : is_text_record (get (node_key l) (map_of t)) ≡ true = ap is_text_record is in
       let v = emptied_valid l t w h in
       sym (same_changes (differences (map_of t) (map_of (emptied l t))) cs (rising_differences (map_of t) (map_of (emptied l t)) (map_sorted t w) (map_sorted (emptied l t) v)) rise
       (λ k. at_differences k (map_of t) (map_of (emptied l t)) (map_sorted (emptied l t) v) ∙ ap (difference (get k (map_of t))) (key_is_after l t w h k) ∙ each k))
@@ -81,13 +82,13 @@ module _ (l : Label) (t : Tree) (w : IsValidTree t) where
       by false h = ap (λ b. difference (get k (map_of t)) (cond b (Some (Text [])) (get k (map_of t)))) h ∙ difference_itself (get k (map_of t)) ∙ other k h
 
   pub changes_are : (o : Option Record) → get (node_key l) (map_of t) ≡ o → cleared_changes (node_key l) o ≡ differences (map_of t) (map_of (set_data l [] t).1)
-  changes_are None is = unless_text (ap is_text is)
-  changes_are (Some Document) is = unless_text (ap is_text is)
-  changes_are (Some (Element n)) is = unless_text (ap is_text is)
+  changes_are None is = unless_text (ap is_text_record is)
+  changes_are (Some Document) is = unless_text (ap is_text_record is)
+  changes_are (Some (Element n)) is = unless_text (ap is_text_record is)
   changes_are (Some (Text [])) is = of_text [] is [] tt (by_key [] is [] refl (λ k h. refl))
   changes_are (Some (Text (c ∷ d))) is = of_text (c ∷ d) is (emptied_at (node_key l) ∷ []) (tt, tt)
       (by_key (c ∷ d) is (emptied_at (node_key l) ∷ []) (sym (ap (λ o. cond (is_eq o) (Some (Some (Text []))) None) (key_itself (node_key l)))) (λ k h. sym (ap (λ b. cond b (Some (Some (Text []))) None) h)))
-  changes_are (Some (Attr v)) is = unless_text (ap is_text is)
+  changes_are (Some (Attr v)) is = unless_text (ap is_text_record is)
 
 -- ---- keys that no tree has
 
