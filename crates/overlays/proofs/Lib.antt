@@ -1,10 +1,9 @@
 pub mod CountLaws
 pub mod DeletionLaws
 pub mod Directions
-pub mod Ends
 pub mod FewLaws
+pub mod Fronts
 pub mod Laying
-pub mod MergeLaws
 pub mod NearestLaws
 pub mod PassLaws
 pub mod PlaceLaws
