@@ -1,19 +1,32 @@
 -- Runs of changes: one that grows, and the map after some.
-use Rattle.std.proofs.Common.{◌≡◌, List, [], ◌∷◌, ◌++◌, slice_get, Some, Less, refl, subst, ap, sym, ◌∙◌}
+use Rattle.std.proofs.Common.{◌≡◌, ◌-◌, suc, List, [], ◌∷◌, ◌++◌, length, slice_get, Some, Less, refl, subst, ap, sym, ◌∙◌, arith}
 use Rattle.std.specs.List.{AllByRecursion}
 use Rattle.tree_model.specs.Changes.{IsBehind, IsEarlier, Rising}
 use Rattle.tree_model.specs.Entries.{Entries, Sorted, changed}
 use Rattle.tree_model.specs.Keys.{key_cmp}
 use Rattle.tree_model.specs.declared.change.Change.{Change}
+use Rattle.tree_model.specs.declared.key.Key.{Key}
 use Rattle.tree_model.proofs.ChangeLists.{all_behind_lower}
 use Rattle.tree_model.proofs.Entries.{sorted_changed}
+use Rattle.tree_model.proofs.Keys.{key_total}
 use Rattle.tree_model.proofs.Lists.{all_append}
 use Rattle.tree_model.proofs.SameEntries.{value_is}
-use Rattle.overlays.proofs.Ends.{IsLast}
-use Rattle.overlays.proofs.MergeLaws.{all_below}
 use Rattle.paged_recovery.specs.inside.Nets.{after_runs}
 
 -- ---- one run behind another
+
+-- the last change of a run
+abbrev pub IsLast : List Change → Change → Type 0
+IsLast xs x = Some x ≡ slice_get xs (length xs - 1)
+
+-- all of a run lies below what its last change lies below
+all_below : (xs : List Change) (x : Change) (k : Key) → Rising xs → IsLast xs x → key_cmp x.key k ≡ Less → AllByRecursion (IsEarlier k) xs
+all_below [] x k r h l = tt
+all_below (y ∷ []) x k r h l = (subst (λ (c : Change). key_cmp c.key k ≡ Less) (value_is x y h) l, tt)
+all_below (y ∷ z ∷ zs) x k r h l =
+    let one_less : length (y ∷ z ∷ zs) - 1 ≡ suc (length (z ∷ zs) - 1) = omega arith in
+    let behind = all_below (z ∷ zs) x k r.1 (h ∙ ap (slice_get (y ∷ z ∷ zs)) one_less) l in
+    (key_total.trans y.key z.key k r.0.0 behind.0, behind)
 
 rises_before : (xs : List Change) (y : Change) (ys : List Change) → Rising xs → AllByRecursion (IsEarlier y.key) xs → Rising (y ∷ ys) → Rising (xs ++ y ∷ ys)
 rises_before [] y ys r e s = s

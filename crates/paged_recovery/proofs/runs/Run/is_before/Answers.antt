@@ -3,8 +3,7 @@ use Rattle.tree_model.specs.declared.change.Change.{Change}
 use Rattle.tree_model.specs.Changes.{Rising}
 use Rattle.tree_model.specs.Keys.{key_cmp}
 use Rattle.tree_model.proofs.Orders.{lt_is}
-use Rattle.overlays.proofs.Ends.{IsLast}
-use Rattle.paged_recovery.proofs.RunLaws.{joined_rise}
+use Rattle.paged_recovery.proofs.RunLaws.{IsLast, joined_rise}
 use Rattle.paged_recovery.proofs.runs.Run.is_before.Goals as goal
 
 pub returns-in-Some-Some : goal.returns-in-Some-Some
