@@ -1,14 +1,16 @@
 -- Labels: the way up from one, and the sides of two.
-use Rattle.std.proofs.Common.{◌≡◌, ℕ, zero, suc, ◌+◌, ◌-◌, ◌≤◌, Bool, true, false, not, ◌&&◌, [], ◌∷◌, ◌++◌, reverse, drop, Option, None, Some, Ordering, Less, Equal, Greater, nat_cmp, refl, sym, ap, subst, ◌∙◌, append-nil, arith}
+use Rattle.std.proofs.Common.{◌≡◌, ℕ, zero, suc, ◌+◌, ◌-◌, ◌≤◌, Bool, true, false, not, ◌&&◌, [], ◌∷◌, ◌++◌, reverse, drop, Option, None, Some, Ordering, Less, Equal, Greater, nat_cmp, refl, sym, ap, subst, ◌∙◌, append-nil, true≢false, arith}
 use Rattle.std.specs.Ordering.{ordering_reverse, ordering_then}
 use Rattle.std.specs.Cmp.{nat_cmp_total}
 use Rattle.std.specs.Cmp.Lexicographic.{slice_cmp, nat_list_cmp_total}
 use Rattle.std.proofs.lemmas.Grind.{reverse_onto}
-use Rattle.dewey_labels.specs.Labels.{Label, root, is_label, is_ancestor, parent, level, cut}
+use Rattle.dewey_labels.specs.Labels.{Label, root, is_child, is_label, is_ancestor, parent, level, cut}
 use Rattle.dewey_labels.specs.Sides.{Side, side, turn, above, left, same, under, right, is_under, is_right, child_toward}
 use Rattle.dewey_labels.specs.Ancestors.{cuts}
 use Rattle.dewey_labels.proofs.Ancestors.{cut_all, toward-cut, toward_itself}
+use Rattle.dewey_labels.proofs.Labels.{child_of_parent}
 use Rattle.dewey_labels.proofs.Sides.{left_before, above_before, right_before, same_is, ancestor_under, cmp_itself}
+use Rattle.tree_model.specs.Places.{is_root}
 use Rattle.path_model.specs.Axes.{document_in, document_of, is_left}
 use Rattle.path_model.specs.AxisPrograms.{ancestors_up}
 
@@ -32,6 +34,10 @@ ups_all l = by (level l)
 pub ends_at : (i n : ℕ) → i ≤ 1 + n → 1 ≤ i → (1 ≤ n → i ≤ n) → n ≤ i → i - 1 ≡ n - 1
 ends_at i zero h low high past = omega arith
 ends_at i (suc n) h low high past = let e : i ≤ suc n = high (omega arith) in omega (arith, e)
+
+-- a label whose parent isn't the root is a child of it
+pub child_of_place : (p l : Label) → is_label l ≡ true → p ≡ parent l → is_root p ≡ false → is_child p l ≡ true
+child_of_place p l i e r = subst (λ q. is_child q l ≡ true) (sym e) (child_of_parent l i (λ is. true≢false (sym (ap (λ k. is_root (parent k)) is) ∙ sym (ap is_root e) ∙ r)))
 
 -- ---- the document
 

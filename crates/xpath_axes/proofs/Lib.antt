@@ -1,6 +1,7 @@
 mod AttributeWalks
 mod FoundLabels
 mod RowWalks
+mod RowsBehind
 mod TreeWalks
 mod NodeWalks
 mod SingleLooks

@@ -1,6 +1,6 @@
 -- The walks over the nodes below a node, as their loop meets them: what is found, if it is a node's own entry that lies there.
 use Rattle.std.proofs.lemmas.Grind.{common_steps}
-use Rattle.std.proofs.Common.{◌≡◌, ◌+◌, ◌≤◌, ◌==◌, ℕ, Bool, true, false, cond, ◌&&◌, List, [], ◌∷◌, ◌++◌, length, Option, None, Some, Less, refl, sym, ap, subst, ◌∙◌, true≢false, ⊎_elim, arith}
+use Rattle.std.proofs.Common.{◌≡◌, ◌+◌, ◌≤◌, ◌==◌, ℕ, Bool, true, false, cond, ◌&&◌, List, [], ◌∷◌, ◌++◌, filter, length, Option, None, Some, Less, refl, sym, ap, subst, ◌∙◌, true≢false, ⊎_elim, arith}
 use Rattle.std.proofs.lemmas.List.{length-append}
 use Rattle.dewey_labels.specs.Labels.{Label, Within, is_label}
 use Rattle.dewey_labels.specs.Lists.{is_empty}
@@ -10,7 +10,7 @@ use Rattle.tree_model.specs.declared.key.Key.{Key}
 use Rattle.tree_model.specs.declared.record.Record.{Record}
 use Rattle.tree_model.specs.Keys.{key_cmp, node_key}
 use Rattle.tree_model.specs.Entries.{first_above}
-use Rattle.tree_model.specs.inside.Seeks.{behind_attributes}
+use Rattle.tree_model.specs.inside.Seeks.{behind_attributes, behind_tree}
 use Rattle.tree_model.specs.Places.{is_root}
 use Rattle.tree_model.specs.Tree.{Forest, none, node, Tree, map_of, at, found, below}
 use Rattle.tree_model.specs.ValidTrees.{IsValidTree}
@@ -20,58 +20,66 @@ use Rattle.tree_model.proofs.Seeks.{in_below_tree}
 use Rattle.tree_model.proofs.Split.{Labelled}
 use Rattle.tree_model.proofs.ValidKeys.{HasValidKey, keys_valid}
 use Rattle.tree_model.proofs.WholeTree.{map_sorted}
+use Rattle.path_model.specs.AxisPrograms.{on_right}
 use Rattle.path_model.specs.Positions.{Position, a_node}
 use Rattle.path_model.specs.Programs.{row_seen, all_seen}
 use Rattle.xpath_axes.specs.declared.nodes.Reach.{Reach}
-use Rattle.xpath_axes.specs.declared.nodes.Reach.TheVariants.{Children, Descendants}
-use Rattle.xpath_axes.specs.inside.Walks.{nodes_below, behind_key, node_under}
+use Rattle.xpath_axes.specs.declared.nodes.Reach.TheVariants.{Children, ChildrenBehind, Descendants}
+use Rattle.xpath_axes.specs.inside.Walks.{nodes_below, behind_key, start_key, node_under, CanBegin}
 use Rattle.xpath_axes.proofs.FoundLabels.{IsPlace, all_places, above_place}
 use Rattle.xpath_axes.proofs.RowWalks.{Walking, walk_begins, walk_goes, walk_ends, is_below}
+use Rattle.xpath_axes.proofs.RowsBehind.{walk_begins_behind}
 use Rattle.xpath_axes.proofs.TreeWalks.{Descent, descent_begins, descent_goes, descent_ends, nodes_in}
 
--- ---- both walks
+-- ---- the walks
 
 -- so many were met, and this entry comes next
 abbrev pub Coming : Reach → Label → Tree → List Position → Option (Key × Record) → Type 0
-Coming Children l t out next = Walking l t.documents (below (at l t.documents)) out next
+Coming Children l t out next = Walking l t.documents (row_seen (below (at l t.documents))) out next
+Coming (ChildrenBehind m) l t out next = Walking l t.documents (filter (on_right m.now) (row_seen (below (at l t.documents)))) out next
 Coming Descendants l t out next = Descent l (map_of t) (all_seen (below (at l t.documents))) out next
 
-begins : (reach : Reach) (l : Label) (t : Tree) → IsValidTree t → found (at l t.documents) ≡ true → Coming reach l t [] (first_above (behind_attributes l) (map_of t))
-begins Children l t w y = by (at l t.documents) refl y
+begins : (reach : Reach) (l : Label) (t : Tree) → IsValidTree t → CanBegin reach l → found (at l t.documents) ≡ true → Coming reach l t [] (first_above (start_key reach l) (map_of t))
+begins Children l t w c y = by (at l t.documents) refl y
   where
-    by : (f : Forest) → at l t.documents ≡ f → found f ≡ true → Walking l t.documents (below f) [] (first_above (behind_attributes l) (map_of t))
+    by : (f : Forest) → at l t.documents ≡ f → found f ≡ true → Walking l t.documents (row_seen (below f)) [] (first_above (behind_attributes l) (map_of t))
     by none e z = absurd (true≢false (sym z))
     by (node m r ats ch nx) e z = walk_begins l m r ats ch nx t w e
-begins Descendants l t w y = by (at l t.documents) refl y
+begins (ChildrenBehind k) l t w c y = by (at l t.documents) refl y
+  where
+    by : (f : Forest) → at l t.documents ≡ f → found f ≡ true → Walking l t.documents (filter (on_right k.now) (row_seen (below f))) [] (first_above (behind_tree k.now) (map_of t))
+    by none e z = absurd (true≢false (sym z))
+    by (node m r ats ch nx) e z = walk_begins_behind l m k.now r ats ch nx t w e c.1
+begins Descendants l t w c y = by (at l t.documents) refl y
   where
     by : (f : Forest) → at l t.documents ≡ f → found f ≡ true → Descent l (map_of t) (all_seen (below f)) [] (first_above (behind_attributes l) (map_of t))
     by none e z = absurd (true≢false (sym z))
     by (node m r ats ch nx) e z = descent_begins l m r ats ch nx t w e
 
 ends : (reach : Reach) (l : Label) (t : Tree) (out : List Position) (next : Option (Key × Record)) → Coming reach l t out next → is_below l next ≡ false → out ≡ nodes_below reach (at l t.documents)
-ends Children l t out next w h = walk_ends l t.documents (below (at l t.documents)) out next w h
+ends Children l t out next w h = walk_ends l t.documents (row_seen (below (at l t.documents))) out next w h
+ends (ChildrenBehind m) l t out next w h = walk_ends l t.documents (filter (on_right m.now) (row_seen (below (at l t.documents)))) out next w h
 ends Descendants l t out next w h = descent_ends l (map_of t) (all_seen (below (at l t.documents))) out next w h
 
+-- the next one is a node's own entry, and what is still to come stands behind it
 record Goes (reach : Reach) (l : Label) (t : Tree) (out : List Position) (e : Key × Record) : Type 0 where
   label : Label
   record_there : Record
   entry : e ≡ (node_key label, record_there)
   on : Coming reach l t (out ++ a_node label record_there ∷ []) (first_above (behind_key reach label) (map_of t))
+  rest : List Position
+  whole : (out ++ a_node label record_there ∷ []) ++ rest ≡ nodes_below reach (at l t.documents)
 
 goes : (reach : Reach) (l : Label) (t : Tree) (out : List Position) (e : Key × Record) → IsValidTree t → is_label l ≡ true → Coming reach l t out (Some e) → is_under (side l e.0.label) ≡ true → Goes reach l t out e
 goes Children l t out e v i w y =
-    let g = walk_goes l t (below (at l t.documents)) out (Some e) v i w e refl y in
-    record { label = g.label; record_there = g.record_there; entry = g.entry; on = g.on }
+    let g = walk_goes l t (row_seen (below (at l t.documents))) out (Some e) v i w e refl y in
+    record { label = g.label; record_there = g.record_there; entry = g.entry; on = g.on; rest = row_seen g.on.rest; whole = g.on.gathered }
+goes (ChildrenBehind m) l t out e v i w y =
+    let g = walk_goes l t (filter (on_right m.now) (row_seen (below (at l t.documents)))) out (Some e) v i w e refl y in
+    record { label = g.label; record_there = g.record_there; entry = g.entry; on = g.on; rest = row_seen g.on.rest; whole = g.on.gathered }
 goes Descendants l t out e v i w y =
     let g = descent_goes l (map_of t) (all_seen (below (at l t.documents))) out (Some e) (map_sorted t v) w e refl y in
-    record { label = g.label; record_there = g.record_there; entry = g.entry; on = g.on }
-
-part : (out rest whole : List Position) → out ++ rest ≡ whole → length out ≤ length whole
-part out rest whole h = let n = length-append out rest in let e = ap length h in omega (arith, n, e)
-
-within : (reach : Reach) (l : Label) (t : Tree) (out : List Position) (next : Option (Key × Record)) → Coming reach l t out next → length out ≤ length (nodes_below reach (at l t.documents))
-within Children l t out next w = part out (row_seen w.rest) (row_seen (below (at l t.documents))) w.gathered
-within Descendants l t out next w = part out (nodes_in w.left) (all_seen (below (at l t.documents))) w.gathered
+    record { label = g.label; record_there = g.record_there; entry = g.entry; on = g.on; rest = nodes_in g.on.left; whole = g.on.gathered }
 
 -- ---- what the loop has
 
@@ -105,22 +113,22 @@ left_goes reach l t out c r o v i w h =
     (subst (Coming reach l t (out ++ a_node c r ∷ [])) (sym h)
     (subst (λ (x : Key × Record). Coming reach l t (out ++ a_node x.0.label x.1 ∷ []) (first_above (behind_key reach x.0.label) (map_of t))) (sym g.entry) g.on))
 
--- one more is still to come
+-- what comes next, and what stands behind that
+pub coming : (reach : Reach) (l : Label) (t : Tree) (out : List Position) (c : Label) (r : Record) → IsValidTree t → is_label l ≡ true → Left reach l t out (Some (c, r))
+    → (rest : List Position) × ((out ++ a_node c r ∷ []) ++ rest ≡ nodes_below reach (at l t.documents))
+coming reach l t out c r v i w =
+    let g = goes reach l t out (node_key c, r) v i w.0 w.1 in
+    (g.rest, subst (λ (x : Key × Record). (out ++ a_node x.0.label x.1 ∷ []) ++ g.rest ≡ nodes_below reach (at l t.documents)) (sym g.entry) g.whole)
+
+-- so one more is still to come
 pub one_left : (reach : Reach) (l : Label) (t : Tree) (out : List Position) (c : Label) (r : Record) → IsValidTree t → is_label l ≡ true → Left reach l t out (Some (c, r))
     → length out + 1 ≤ length (nodes_below reach (at l t.documents))
 one_left reach l t out c r v i w =
-    let g = goes reach l t out (node_key c, r) v i w.0 w.1 in
-    let n = length-append out (a_node g.label g.record_there ∷ []) in
-    let m = within reach l t _ _ g.on in
-    omega (arith, n, m)
-
--- what comes next of a row, and what stands behind that
-pub coming : (l : Label) (t : Tree) (out : List Position) (c : Label) (r : Record) → IsValidTree t → is_label l ≡ true → Left Children l t out (Some (c, r))
-    → (rest : List Position) × ((out ++ a_node c r ∷ []) ++ rest ≡ row_seen (below (at l t.documents)))
-coming l t out c r v i w =
-    let g = goes Children l t out (node_key c, r) v i w.0 w.1 in
-    let rest : List Position = row_seen g.on.rest in
-    (rest, subst (λ (x : Key × Record). (out ++ a_node x.0.label x.1 ∷ []) ++ rest ≡ row_seen (below (at l t.documents))) (sym g.entry) g.on.gathered)
+    let rest = coming reach l t out c r v i w in
+    let n = length-append out (a_node c r ∷ []) in
+    let m = length-append (out ++ a_node c r ∷ []) rest.0 in
+    let e = ap length rest.1 in
+    omega (arith, n, m, e)
 
 -- ---- its beginning
 
@@ -135,19 +143,25 @@ none_there l t (Some e) w i r y h = elim (is_under (side l e.0.label)) as (λ u.
 
 nothing_below : (reach : Reach) (f : Forest) → found f ≡ false → [] ≡ nodes_below reach f
 nothing_below Children none y = refl
+nothing_below (ChildrenBehind m) none y = refl
 nothing_below Descendants none y = refl
 nothing_below reach (node l r ats ch nx) y = absurd (true≢false y)
 
-pub left_begins : (reach : Reach) (l : Label) (t : Tree) (o : Option (Key × Record)) → IsValidTree t → is_label l ≡ true → is_root l ≡ false
-    → o ≡ first_above (behind_attributes l) (map_of t) → Left reach l t [] (node_under l o)
+not_root : (reach : Reach) (l : Label) → CanBegin reach l → is_root l ≡ false
+not_root Children l c = c
+not_root (ChildrenBehind m) l c = c.0
+not_root Descendants l c = c
+
+pub left_begins : (reach : Reach) (l : Label) (t : Tree) (o : Option (Key × Record)) → IsValidTree t → is_label l ≡ true → CanBegin reach l
+    → o ≡ first_above (start_key reach l) (map_of t) → Left reach l t [] (node_under l o)
 left_begins reach l t o v i r h = by (found (at l t.documents)) refl
   where
     by : (b : Bool) → found (at l t.documents) ≡ b → Left reach l t [] (node_under l o)
-    by true y = settled reach l t [] o v i (subst (Coming reach l t []) (sym h) (begins reach l t v y))
+    by true y = settled reach l t [] o v i (subst (Coming reach l t []) (sym h) (begins reach l t v r y))
     by false y = subst (Left reach l t [])
-        (sym (none_there l t o v i r y (λ e q.
-        let is : first_above (behind_attributes l) (map_of t) ≡ Some e = sym h ∙ q in
-        (first_above_has (Labelled (IsPlace t)) (behind_attributes l) e (map_of t) (all_places t v) is, (first_above_has HasValidKey (behind_attributes l) e (map_of t) (keys_valid t v) is).label.0))))
+        (sym (none_there l t o v i (not_root reach l r) y (λ e q.
+        let is : first_above (start_key reach l) (map_of t) ≡ Some e = sym h ∙ q in
+        (first_above_has (Labelled (IsPlace t)) (start_key reach l) e (map_of t) (all_places t v) is, (first_above_has HasValidKey (start_key reach l) e (map_of t) (keys_valid t v) is).label.0))))
         (nothing_below reach (at l t.documents) y)
 
 -- ---- its end, over any map
@@ -160,6 +174,7 @@ entry_of (Some n) = Some (node_key n.0, n.1)
 -- a node's own entry lies below the key behind it
 pub before_behind : (reach : Reach) (l : Label) (r : Record) → Within l → key_cmp (node_key l) (behind_key reach l) ≡ Less
 before_behind Children l r w = in_below_tree l (node_key l, r) (ap is_in (side_itself l)) (w, refl)
+before_behind (ChildrenBehind m) l r w = in_below_tree l (node_key l, r) (ap is_in (side_itself l)) (w, refl)
 before_behind Descendants l r w = ap (λ o. Rattle.std.specs.Ordering.ordering_then o Less) (list_itself l)
 
 empty_is : (n : List ℕ) → is_empty n ≡ true → n ≡ []

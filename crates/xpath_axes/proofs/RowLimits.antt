@@ -19,6 +19,13 @@ module _ (q : Position → Bool) where
     | false ↦ let e = up_to_length (suc k) ns in omega (arith, e)
   ]
 
+  pub filter_length : (ns : List Position) → length (filter q ns) ≤ length ns
+  filter_length [] = omega arith
+  filter_length (n ∷ ns) = elim (q n) as (λ b. length (cond b (n ∷ filter q ns) (filter q ns)) ≤ suc (length ns)) [
+    | true ↦ let e = filter_length ns in omega (arith, e)
+    | false ↦ let e = filter_length ns in omega (arith, e)
+  ]
+
   -- where fewer pass of what was met than are wanted, all of it is read, and one more where there is one
   long_enough : (room : ℕ) (out rest : List Position) → length (filter q out) < room → length out + length (take 1 rest) ≤ length (up_to q room (out ++ rest))
   long_enough zero out rest h = absurd (omega (arith, h))

@@ -50,10 +50,10 @@ module _ (p l : Label) (r : Record) (ats : Attributes) (ch nx : Forest) (es : En
       ap (first_above k) z.whole ∙ first_above_past k _ (entries_of nx ++ z.after) (prefix_below p l r ats ch nx es z) ∙ first_above_head k (entries_of nx ++ z.after) (back_above p l r ats ch nx es z)
 
 -- so many of a row were found, and this entry comes next: the rest of the row, and what lies behind it
-pub record Walking (l : Label) (f whole : Forest) (out : List Position) (next : Option (Key × Record)) : Type 0 where
+pub record Walking (l : Label) (f : Forest) (whole out : List Position) (next : Option (Key × Record)) : Type 0 where
   pub rest : Forest
   pub tail : Entries
-  pub gathered : out ++ row_seen rest ≡ row_seen whole
+  pub gathered : out ++ row_seen rest ≡ whole
   pub comes : next ≡ head_of (entries_of rest ++ tail)
   pub children : (b : Label) × KeysRise l b rest
   pub right : AllByRecursion (Labelled (SideIs l right)) tail
@@ -69,16 +69,16 @@ none_below l [] h = refl
 none_below l (e ∷ es) h = ap is_under h.0
 
 -- what comes next and doesn't lie under the node ends the walk
-pub walk_ends : (l : Label) (all whole : Forest) (out : List Position) (next : Option (Key × Record)) → Walking l all whole out next → is_below l next ≡ false → out ≡ row_seen whole
+pub walk_ends : (l : Label) (all : Forest) (whole out : List Position) (next : Option (Key × Record)) → Walking l all whole out next → is_below l next ≡ false → out ≡ whole
 walk_ends l all whole out next w h = by w.rest w.gathered w.children.0 w.children.1 (ap (is_below l) (sym w.comes) ∙ h)
   where
-    by : (f : Forest) → out ++ row_seen f ≡ row_seen whole → (b : Label) → KeysRise l b f → is_below l (head_of (entries_of f ++ w.tail)) ≡ false → out ≡ row_seen whole
+    by : (f : Forest) → out ++ row_seen f ≡ whole → (b : Label) → KeysRise l b f → is_below l (head_of (entries_of f ++ w.tail)) ≡ false → out ≡ whole
     by none g b k q = sym (Rattle.std.proofs.Common.append-nil out) ∙ g
     by (node c r ats ch nx) g b k q = absurd (true≢false (sym (ap is_under (child_under l c k.0)) ∙ q))
 
 -- it begins behind the attributes
 pub walk_begins : (l m : Label) (r : Record) (ats : Attributes) (ch nx : Forest) (t : Tree) → IsValidTree t → at l t.documents ≡ node m r ats ch nx
-    → Walking l t.documents ch [] (first_above (behind_attributes l) (map_of t))
+    → Walking l t.documents (row_seen ch) [] (first_above (behind_attributes l) (map_of t))
 walk_begins l m r ats ch nx t w e =
     let z = lies_in_tree l m r ats ch nx t w e in
     record {
@@ -92,17 +92,17 @@ walk_begins l m r ats ch nx t w e =
     }
 
 -- what comes next and lies under the node is the next child's own entry; the walk goes on behind that child's tree
-pub record GoesOn (l : Label) (t : Tree) (whole : Forest) (out : List Position) (e : Key × Record) : Type 0 where
+pub record GoesOn (l : Label) (t : Tree) (whole out : List Position) (e : Key × Record) : Type 0 where
   pub label : Label
   pub record_there : Record
   pub entry : e ≡ (node_key label, record_there)
   pub on : Walking l t.documents whole (out ++ a_node label record_there ∷ []) (first_above (behind_tree label) (map_of t))
 
-pub walk_goes : (l : Label) (t : Tree) (whole : Forest) (out : List Position) (next : Option (Key × Record)) → IsValidTree t → is_label l ≡ true → Walking l t.documents whole out next
+pub walk_goes : (l : Label) (t : Tree) (whole out : List Position) (next : Option (Key × Record)) → IsValidTree t → is_label l ≡ true → Walking l t.documents whole out next
     → (e : Key × Record) → next ≡ Some e → is_under (side l e.0.label) ≡ true → GoesOn l t whole out e
 walk_goes l t whole out next v i w e is y = by w.rest w.gathered w.children.0 w.children.1 w.sits (sym is ∙ w.comes)
   where
-    by : (f : Forest) → out ++ row_seen f ≡ row_seen whole → (b : Label) → KeysRise l b f → ((m : Label) → is_child l m ≡ true → found (at m f) ≡ true → at m t.documents ≡ at m f)
+    by : (f : Forest) → out ++ row_seen f ≡ whole → (b : Label) → KeysRise l b f → ((m : Label) → is_child l m ≡ true → found (at m f) ≡ true → at m t.documents ≡ at m f)
         → Some e ≡ head_of (entries_of f ++ w.tail) → GoesOn l t whole out e
     by none g b k sits q = absurd (true≢false (sym y ∙ ap (is_below l) q ∙ none_below l w.tail w.right))
     by (node c r ats ch nx) g b k sits q =

@@ -12,7 +12,8 @@ ghost use Rattle.xpath_axes.specs.inside.Beside.{is_on, in_turn, labels_above, l
 
 use crate::labels::{document_label, labels_up, lies_left, lies_right, lies_under, parent_label};
 use crate::noted::{
-    see_attribute, see_attributes, see_below, see_node, see_row, see_row_up_to, see_tree,
+    see_attribute, see_attributes, see_below, see_node, see_row, see_row_behind,
+    see_row_behind_up_to, see_row_up_to, see_tree,
 };
 use crate::position::only;
 use crate::{Looks, Position};
@@ -42,7 +43,7 @@ pub fn axis<S: NodeRead, W: Looks>(
 }
 
 /// The first positions on an axis that pass the node test, as many as there is room for, in the axis's order. What is looked at is that of the axis;
-/// of children no more are read than up to the last of them, and one.
+/// of children, and of the siblings that follow, no more are read than up to the last of them, and one.
 pub fn axis_up_to<S: NodeRead, W: Looks>(
     alloc: Global,
     of: Axis,
@@ -60,6 +61,7 @@ pub fn axis_up_to<S: NodeRead, W: Looks>(
 {
     match of {
         Axis::Child => children_up_to(alloc, test, room, from, seq, looks),
+        Axis::FollowingSibling => next_siblings_up_to(alloc, test, room, from, seq, looks),
         _ => {
             let mut found = axis(alloc, of, test, from, seq, looks)?;
             found.truncate(room);
@@ -87,6 +89,29 @@ fn children_up_to<S: NodeRead, W: Looks>(
         Position::Node(label, _) => see_row_up_to(alloc, label, test, room, seq, looks),
         Position::Attribute(..) => Ok(List::new(alloc)),
     }
+}
+
+/// The first siblings on the right that pass a node test. A document has none, nor has an attribute.
+fn next_siblings_up_to<S: NodeRead, W: Looks>(
+    alloc: Global,
+    test: &NodeTest,
+    room: usize,
+    from: &Position,
+    seq: &mut S,
+    looks: &mut W,
+) -> Result<List<Position>, SeqError>
+    ensures run { Runs S.reads W.saw S.contents
+        (and_then (program.siblings (λ s. filter (program.on_right (path.label_of (plain from.now))) s) (plain from.now))
+        (λ s. ends (take room (filter (path.passes kinds.FollowingSibling test.now) s)))) all_plain seq.old looks.old result seq.new looks.new }
+    ensures unchanged { S.unchanged seq.old seq.new }
+    ensures cause { HasCause SeqError.DiskFault (S.count seq.old) (S.count seq.new) result }
+{
+    if from.is_document() || !from.is_node() {
+        return Ok(List::new(alloc));
+    }
+    let of = from.label();
+    let parent = parent_label(alloc, of)?;
+    see_row_behind_up_to(alloc, &parent, of, test, room, seq, looks)
 }
 
 /// The positions that pass the test of a step along an axis.
@@ -125,8 +150,8 @@ fn along<S: NodeRead, W: Looks>(
         Axis::Descendant => descendants(alloc, from, List::new(alloc), seq, looks),
         Axis::Parent => parent_node(alloc, from, seq, looks),
         Axis::Ancestor => ancestors(alloc, from, List::new(alloc), seq, looks),
-        Axis::FollowingSibling => siblings(alloc, from, Side::Right, seq, looks),
-        Axis::PrecedingSibling => siblings(alloc, from, Side::Left, seq, looks),
+        Axis::FollowingSibling => next_siblings(alloc, from, seq, looks),
+        Axis::PrecedingSibling => previous_siblings(alloc, from, seq, looks),
         Axis::Following => following(alloc, from, seq, looks),
         Axis::Preceding => preceding(alloc, from, seq, looks),
         Axis::Attribute => attributes(alloc, from, test, seq, looks),
@@ -271,16 +296,37 @@ enum Side {
     UnderOrRight,
 }
 
-/// Those on one side. A document has none, nor has an attribute.
-fn siblings<S: NodeRead, W: Looks>(
+/// The siblings on the right. A document has none, nor has an attribute. Those on the left aren't read.
+fn next_siblings<S: NodeRead, W: Looks>(
     alloc: Global,
     from: &Position,
-    side: Side,
     seq: &mut S,
     looks: &mut W,
 ) -> Result<List<Position>, SeqError>
     ensures run { Runs S.reads W.saw S.contents
-        (program.siblings (in_turn side (path.label_of (plain from.now))) (plain from.now)) all_plain seq.old looks.old result seq.new looks.new }
+        (program.siblings (λ s. filter (program.on_right (path.label_of (plain from.now))) s) (plain from.now)) all_plain
+        seq.old looks.old result seq.new looks.new }
+    ensures unchanged { S.unchanged seq.old seq.new }
+    ensures cause { HasCause SeqError.DiskFault (S.count seq.old) (S.count seq.new) result }
+{
+    if from.is_document() || !from.is_node() {
+        return Ok(List::new(alloc));
+    }
+    let of = from.label();
+    let parent = parent_label(alloc, of)?;
+    see_row_behind(alloc, &parent, of, seq, looks)
+}
+
+/// The siblings on the left, from the nearest one on. A document has none, nor has an attribute.
+fn previous_siblings<S: NodeRead, W: Looks>(
+    alloc: Global,
+    from: &Position,
+    seq: &mut S,
+    looks: &mut W,
+) -> Result<List<Position>, SeqError>
+    ensures run { Runs S.reads W.saw S.contents
+        (program.siblings (λ s. reverse (filter (program.on_left (path.label_of (plain from.now))) s)) (plain from.now)) all_plain
+        seq.old looks.old result seq.new looks.new }
     ensures unchanged { S.unchanged seq.old seq.new }
     ensures cause { HasCause SeqError.DiskFault (S.count seq.old) (S.count seq.new) result }
 {
@@ -289,7 +335,7 @@ fn siblings<S: NodeRead, W: Looks>(
     }
     let parent = parent_label(alloc, from.label())?;
     let row = see_row(alloc, &parent, seq, looks)?;
-    Ok(turned(alloc, side, from.label(), row)?)
+    Ok(turned(alloc, Side::Left, from.label(), row)?)
 }
 
 fn following<S: NodeRead, W: Looks>(

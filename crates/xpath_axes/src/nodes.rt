@@ -1,18 +1,18 @@
 //! The looks at nodes: one, its children, and all from it down.
 ghost use Rattle.std.specs.Prelude.{◌≡◌, ◌≤◌, ◌+◌, ◌∷◌, [], ◌++◌, false, length, take, IfOk, OnOk, None};
 ghost use Rattle.std.specs.List.{filter};
-ghost use Rattle.tree_model.specs.Entries.{first_above};
-ghost use Rattle.tree_model.specs.inside.Seeks.{behind_attributes};
+ghost use Rattle.dewey_labels.specs.Labels.{parent};
 ghost use Rattle.tree_model.specs.Places.{is_root};
 ghost use Rattle.tree_model.specs.Tree.{Tree, at as node_at};
 ghost use Rattle.node_seq.specs.Trees.{OnTree, StandsFor};
 ghost use Rattle.outside_traits.specs.Faults.{HasCause};
 ghost use Rattle.path_model.specs.declared.path.Axis.TheVariants as along;
+ghost use Rattle.path_model.specs.AxisPrograms.{on_right};
 ghost use Rattle.path_model.specs.Positions as path;
 ghost use Rattle.path_model.specs.Programs as look;
 ghost use Rattle.xpath_axes.specs.Positions.{plain, all_plain};
 ghost use Rattle.xpath_axes.specs.LookReads.{ReadsOfLook, up_to};
-ghost use Rattle.xpath_axes.specs.inside.Walks.{behind_key, node_under, nodes_below};
+ghost use Rattle.xpath_axes.specs.inside.Walks.{behind_key, start_key, node_under, nodes_below, CanBegin};
 
 use crate::Position;
 use crate::position::only;
@@ -77,38 +77,64 @@ pub fn at_row_up_to<S: NodeRead>(
         → S.reads seq.new ≤ S.reads seq.old + (length (up_to (path.passes along.Child test.now) room (look.seen t (look.at_row at.now))) + 1) }
     ensures cause { HasCause SeqError.DiskFault (S.count seq.old) (S.count seq.new) result }
 {
-    let mut found = List::new(alloc);
     // The root is no node: below it lie the documents.
     if is_root(at) {
-        return Ok(found);
+        return Ok(List::new(alloc));
     }
-    if room == 0 {
-        return Ok(found);
-    }
-    // They tell that it is a label, and so is each one that is found.
-    let _divisions = at.divisions();
-    let key = Key::behind_attributes(alloc, at)?;
-    let mut next = node_under(at, seq.next_from(alloc, &key)?);
-    while let Some((label, record)) = next {
-        let _divisions = label.divisions();
-        let key = Key::behind_tree(alloc, &label)?;
-        put_passing(&mut found, Position::Node(label, record), test)?;
-        if found.len() == room {
-            return Ok(found);
-        }
-        next = node_under(at, seq.next_from(alloc, &key)?);
-    }
-    Ok(found)
+    below_up_to(alloc, at, Reach::Children, Axis::Child, test, room, seq)
 }
 
-/// Puts a child at the end where it passes the test.
-fn put_passing(found: &mut List<Position>, child: Position, test: &NodeTest) -> Result<(), NoMemory>
-    ensures { OnOk result (all_plain found.new ≡ all_plain found.old ++ filter (path.passes along.Child test.now) (plain child ∷ [])) }
+/// Of the children of a node those on the right of one of them, `of`; none where there is no such node.
+/// One read each and one more, whatever stands before them.
+pub fn at_row_behind<S: NodeRead>(
+    alloc: Global,
+    at: &Label,
+    of: &Label,
+    seq: &mut S,
+) -> Result<List<Position>, SeqError>
+    requires { at.now ≡ parent of.now }
+    ensures seen { OnTree (S.contents seq.old) result (λ t found. all_plain found ≡ filter (on_right of.now) (look.seen t (look.at_row at.now))) }
+    ensures unchanged { S.unchanged seq.old seq.new }
+    ensures reads { (t : Tree) → StandsFor (S.contents seq.old) t
+        → S.reads seq.new ≤ S.reads seq.old + (length (filter (on_right of.now) (look.seen t (look.at_row at.now))) + 1) }
+    ensures cause { HasCause SeqError.DiskFault (S.count seq.old) (S.count seq.new) result }
 {
-    if child.passes(Axis::Child, test) {
-        found.push(child)?;
+    let behind = List::new(alloc);
+    // They tell that it is a label.
+    let _divisions = of.divisions();
+    // The root is no node: below it lie the documents.
+    if is_root(at) {
+        return Ok(behind);
     }
-    Ok(())
+    below(alloc, at, Reach::ChildrenBehind(of), behind, seq)
+}
+
+/// Of the children of a node on the right of one of them, `of`, the first ones that pass a node test, as many as there is room for.
+/// One read a child up to the last of them, and one more where fewer pass, whatever stands before them.
+pub fn at_row_behind_up_to<S: NodeRead>(
+    alloc: Global,
+    at: &Label,
+    of: &Label,
+    test: &NodeTest,
+    room: usize,
+    seq: &mut S,
+) -> Result<List<Position>, SeqError>
+    requires { at.now ≡ parent of.now }
+    ensures seen { OnTree (S.contents seq.old) result (λ t found.
+        all_plain found ≡ take room (filter (path.passes along.FollowingSibling test.now) (filter (on_right of.now) (look.seen t (look.at_row at.now))))) }
+    ensures unchanged { S.unchanged seq.old seq.new }
+    ensures reads { (t : Tree) → StandsFor (S.contents seq.old) t → S.reads seq.new ≤ S.reads seq.old
+        + (length (up_to (path.passes along.FollowingSibling test.now) room (filter (on_right of.now) (look.seen t (look.at_row at.now)))) + 1) }
+    ensures cause { HasCause SeqError.DiskFault (S.count seq.old) (S.count seq.new) result }
+{
+    // They tell that it is a label.
+    let _divisions = of.divisions();
+    // The root is no node: below it lie the documents.
+    if is_root(at) {
+        return Ok(List::new(alloc));
+    }
+    let reach = Reach::ChildrenBehind(of);
+    below_up_to(alloc, at, reach, Axis::FollowingSibling, test, room, seq)
 }
 
 /// A node and all that lie under it, in document order; none where there is no such node. One read a node and one more, whatever attributes they have.
@@ -133,9 +159,11 @@ pub fn at_tree<S: NodeRead>(
 }
 
 /// Which of the nodes below a node a walk meets.
-#[derive(Debug, Drop, Clone, Copy)]
-pub(crate) enum Reach {
+#[derive(Clone, Copy, Debug)]
+pub(crate) enum Reach<'a> {
     Children,
+    /// The children on the right of one of them.
+    ChildrenBehind(&'a Label),
     Descendants,
 }
 
@@ -143,22 +171,22 @@ pub(crate) enum Reach {
 pub(crate) fn below<S: NodeRead>(
     alloc: Global,
     at: &Label,
-    reach: Reach,
+    reach: Reach<'_>,
     before: List<Position>,
     seq: &mut S,
 ) -> Result<List<Position>, SeqError>
-    ensures seen { OnTree (S.contents seq.old) result (λ t found. is_root at.now ≡ false
-        → all_plain found ≡ all_plain before ++ nodes_below reach (node_at at.now t.documents)) }
+    ensures seen { OnTree (S.contents seq.old) result (λ t found. CanBegin reach.entry at.now
+        → all_plain found ≡ all_plain before ++ nodes_below reach.entry (node_at at.now t.documents)) }
     ensures unchanged { S.unchanged seq.old seq.new }
     ensures reads { IfOk result (λ found. S.reads seq.new + length before ≤ S.reads seq.old + (length found + 1)) }
-    ensures reads_of_tree { (t : Tree) → StandsFor (S.contents seq.old) t → is_root at.now ≡ false
-        → S.reads seq.new ≤ S.reads seq.old + (length (nodes_below reach (node_at at.now t.documents)) + 1) }
+    ensures reads_of_tree { (t : Tree) → StandsFor (S.contents seq.old) t → CanBegin reach.entry at.now
+        → S.reads seq.new ≤ S.reads seq.old + (length (nodes_below reach.entry (node_at at.now t.documents)) + 1) }
     ensures cause { HasCause SeqError.DiskFault (S.count seq.old) (S.count seq.new) result }
 {
     // They tell that it is a label, and so is each one that is found.
     let _divisions = at.divisions();
     let mut found = before;
-    let key = Key::behind_attributes(alloc, at)?;
+    let key = start(alloc, at, reach)?;
     let mut next = node_under(at, seq.next_from(alloc, &key)?);
     while let Some((label, record)) = next {
         let _divisions = label.divisions();
@@ -169,12 +197,75 @@ pub(crate) fn below<S: NodeRead>(
     Ok(found)
 }
 
-/// The key to seek from behind a node: behind its attributes, or behind its tree.
-fn behind(alloc: Global, at: &Label, reach: Reach) -> Result<Key, NoMemory>
-    ensures { IfOk result (λ key. key ≡ behind_key reach at.now) }
+/// The first nodes below a node that pass the test of a step along an axis, as many as there is room for.
+/// One read a node up to the last of them, and one more where fewer pass.
+fn below_up_to<S: NodeRead>(
+    alloc: Global,
+    at: &Label,
+    reach: Reach<'_>,
+    axis: Axis,
+    test: &NodeTest,
+    room: usize,
+    seq: &mut S,
+) -> Result<List<Position>, SeqError>
+    ensures seen { OnTree (S.contents seq.old) result (λ t found. CanBegin reach.entry at.now
+        → all_plain found ≡ take room (filter (path.passes axis test.now) (nodes_below reach.entry (node_at at.now t.documents)))) }
+    ensures unchanged { S.unchanged seq.old seq.new }
+    ensures reads { (t : Tree) → StandsFor (S.contents seq.old) t → CanBegin reach.entry at.now → S.reads seq.new ≤ S.reads seq.old
+        + (length (up_to (path.passes axis test.now) room (nodes_below reach.entry (node_at at.now t.documents))) + 1) }
+    ensures cause { HasCause SeqError.DiskFault (S.count seq.old) (S.count seq.new) result }
+{
+    let mut found = List::new(alloc);
+    if room == 0 {
+        return Ok(found);
+    }
+    // They tell that it is a label, and so is each one that is found.
+    let _divisions = at.divisions();
+    let key = start(alloc, at, reach)?;
+    let mut next = node_under(at, seq.next_from(alloc, &key)?);
+    while let Some((label, record)) = next {
+        let _divisions = label.divisions();
+        let key = behind(alloc, &label, reach)?;
+        put_passing(&mut found, Position::Node(label, record), axis, test)?;
+        if found.len() == room {
+            return Ok(found);
+        }
+        next = node_under(at, seq.next_from(alloc, &key)?);
+    }
+    Ok(found)
+}
+
+/// Puts a node at the end where it passes the test of a step along an axis.
+fn put_passing(
+    found: &mut List<Position>,
+    node: Position,
+    axis: Axis,
+    test: &NodeTest,
+) -> Result<(), NoMemory>
+    ensures { OnOk result (all_plain found.new ≡ all_plain found.old ++ filter (path.passes axis test.now) (plain node ∷ [])) }
+{
+    if node.passes(axis, test) {
+        found.push(node)?;
+    }
+    Ok(())
+}
+
+/// The key to seek the first node from: behind the attributes of the node above, or behind the tree of a child.
+fn start(alloc: Global, at: &Label, reach: Reach<'_>) -> Result<Key, NoMemory>
+    ensures { IfOk result (λ key. key ≡ start_key reach.entry at.now) }
 {
     match reach {
-        Reach::Children => Key::behind_tree(alloc, at),
+        Reach::ChildrenBehind(of) => Key::behind_tree(alloc, of),
+        Reach::Children | Reach::Descendants => Key::behind_attributes(alloc, at),
+    }
+}
+
+/// The key to seek from behind a node: behind its attributes, or behind its tree.
+fn behind(alloc: Global, at: &Label, reach: Reach<'_>) -> Result<Key, NoMemory>
+    ensures { IfOk result (λ key. key ≡ behind_key reach.entry at.now) }
+{
+    match reach {
+        Reach::Children | Reach::ChildrenBehind(_) => Key::behind_tree(alloc, at),
         Reach::Descendants => Key::behind_attributes(alloc, at),
     }
 }

@@ -1,8 +1,10 @@
 //! The looks at a map, each noted before it is made.
 ghost use Rattle.std.specs.Prelude.{◌≡◌, ◌++◌, drop, take};
 ghost use Rattle.std.specs.List.{filter};
+ghost use Rattle.dewey_labels.specs.Labels.{parent};
 ghost use Rattle.outside_traits.specs.Faults.{HasCause};
 ghost use Rattle.path_model.specs.declared.path.Axis.TheVariants as along;
+ghost use Rattle.path_model.specs.AxisPrograms.{on_right};
 ghost use Rattle.path_model.specs.Positions as path;
 ghost use Rattle.path_model.specs.Programs.{ends, looks as then_looks};
 ghost use Rattle.path_model.specs.Programs as look;
@@ -11,7 +13,8 @@ ghost use Rattle.xpath_axes.specs.Runs.{Runs};
 
 use crate::nodes::{Reach, below, is_root};
 use crate::{
-    Look, Looks, Position, at_attribute, at_attributes, at_node, at_row, at_row_up_to, at_tree,
+    Look, Looks, Position, at_attribute, at_attributes, at_node, at_row, at_row_behind,
+    at_row_behind_up_to, at_row_up_to, at_tree,
 };
 use dewey_labels::{Label, List, Text};
 use node_seq::{NodeRead, SeqError};
@@ -66,6 +69,46 @@ pub(crate) fn see_row_up_to<S: NodeRead, W: Looks>(
 {
     looks.note(alloc, Look::Row(at))?;
     at_row_up_to(alloc, at, test, room, seq)
+}
+
+/// Of the children of a node those on the right of one of them. The look at all of them is noted; one read each and one more.
+pub(crate) fn see_row_behind<S: NodeRead, W: Looks>(
+    alloc: Global,
+    at: &Label,
+    of: &Label,
+    seq: &mut S,
+    looks: &mut W,
+) -> Result<List<Position>, SeqError>
+    requires { at.now ≡ parent of.now }
+    ensures run { Runs S.reads W.saw S.contents (then_looks (look.at_row at.now) (λ s. ends (filter (on_right of.now) s))) all_plain
+        seq.old looks.old result seq.new looks.new }
+    ensures unchanged { S.unchanged seq.old seq.new }
+    ensures cause { HasCause SeqError.DiskFault (S.count seq.old) (S.count seq.new) result }
+{
+    looks.note(alloc, Look::Row(at))?;
+    at_row_behind(alloc, at, of, seq)
+}
+
+/// Of the children of a node on the right of one of them the first ones that pass a node test, as many as there is room for.
+/// The look at all children is noted; one read a child up to the last of those, and one more where fewer pass.
+pub(crate) fn see_row_behind_up_to<S: NodeRead, W: Looks>(
+    alloc: Global,
+    at: &Label,
+    of: &Label,
+    test: &NodeTest,
+    room: usize,
+    seq: &mut S,
+    looks: &mut W,
+) -> Result<List<Position>, SeqError>
+    requires { at.now ≡ parent of.now }
+    ensures run { Runs S.reads W.saw S.contents
+        (then_looks (look.at_row at.now) (λ s. ends (take room (filter (path.passes along.FollowingSibling test.now) (filter (on_right of.now) s))))) all_plain
+        seq.old looks.old result seq.new looks.new }
+    ensures unchanged { S.unchanged seq.old seq.new }
+    ensures cause { HasCause SeqError.DiskFault (S.count seq.old) (S.count seq.new) result }
+{
+    looks.note(alloc, Look::Row(at))?;
+    at_row_behind_up_to(alloc, at, of, test, room, seq)
 }
 
 /// A node and all that lie under it. One read a node and one more.

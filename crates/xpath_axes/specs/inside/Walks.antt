@@ -1,29 +1,46 @@
 -- Walks over the nodes below a node, and over the attributes of one: what is found, and from where the next one is sought.
-use Rattle.std.specs.Prelude.{◌&&◌, cond, ℕ, List, if◌then◌else◌, Option, Some, None}
-use Rattle.dewey_labels.specs.Labels.{Label}
+use Rattle.std.specs.Prelude.{◌≡◌, ◌&&◌, cond, ℕ, true, false, List, if◌then◌else◌, Option, Some, None}
+use Rattle.std.specs.List.{filter}
+use Rattle.dewey_labels.specs.Labels.{Label, is_child}
 use Rattle.dewey_labels.specs.Lists.{is_empty}
 use Rattle.dewey_labels.specs.Sides.{side, is_under}
 use Rattle.tree_model.specs.declared.key.Key.{Key}
 use Rattle.tree_model.specs.declared.record.Record.{Record}
 use Rattle.tree_model.specs.declared.record.Record.TheVariants.{Attr}
 use Rattle.tree_model.specs.inside.Seeks.{behind_attributes, behind_tree}
+use Rattle.tree_model.specs.Places.{is_root}
 use Rattle.tree_model.specs.Tree.{Forest, below}
 use Rattle.tree_model.specs.ValidTrees.{same_label}
+use Rattle.path_model.specs.AxisPrograms.{on_right}
 use Rattle.path_model.specs.Positions.{Position}
 use Rattle.path_model.specs.Programs.{row_seen, all_seen}
 use Rattle.xpath_axes.specs.declared.nodes.Reach.{Reach}
-use Rattle.xpath_axes.specs.declared.nodes.Reach.TheVariants.{Children, Descendants}
+use Rattle.xpath_axes.specs.declared.nodes.Reach.TheVariants.{Children, ChildrenBehind, Descendants}
 
 -- ---- nodes
 
--- the nodes below a node
+-- the nodes below a node that are met
 abbrev pub nodes_below : Reach → Forest → List Position
 nodes_below Children f = row_seen (below f)
+nodes_below (ChildrenBehind m) f = filter (on_right m.now) (row_seen (below f))
 nodes_below Descendants f = all_seen (below f)
+
+-- they are met from a label down: not from the root, which is no node, and behind one of the label's children
+abbrev pub CanBegin : Reach → Label → Type 0
+CanBegin Children l = is_root l ≡ false
+CanBegin (ChildrenBehind m) l = (is_root l ≡ false) × (is_child l m.now ≡ true)
+CanBegin Descendants l = is_root l ≡ false
+
+-- from where the first of them is sought
+abbrev pub start_key : Reach → Label → Key
+start_key Children l = behind_attributes l
+start_key (ChildrenBehind m) l = behind_tree m.now
+start_key Descendants l = behind_attributes l
 
 -- from where the next of them is sought
 abbrev pub behind_key : Reach → Label → Key
 behind_key Children l = behind_tree l
+behind_key (ChildrenBehind m) l = behind_tree l
 behind_key Descendants l = behind_attributes l
 
 -- what was found, if it is a node's own entry and lies under the label

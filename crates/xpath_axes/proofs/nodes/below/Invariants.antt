@@ -1,11 +1,11 @@
-use Rattle.std.proofs.Common.{◌≡◌, ◌+◌, ◌++◌, ◌≤◌, false, List, None, length}
-use Rattle.tree_model.specs.Places.{is_root}
+use Rattle.std.proofs.Common.{◌≡◌, ◌+◌, ◌++◌, ◌≤◌, List, None, length}
 use Rattle.tree_model.specs.Tree.{Tree}
 use Rattle.node_seq.specs.Reads.{IsEntryOfTrees}
 use Rattle.node_seq.specs.Trees.{StandsFor}
 use Rattle.node_seq.specs.WalkSteps.{steps_left}
 use Rattle.path_model.specs.Positions.{Position}
 use Rattle.xpath_axes.specs.Positions.{all_plain}
+use Rattle.xpath_axes.specs.inside.Walks.{CanBegin}
 use Rattle.xpath_axes.proofs.NodeWalks.{Left, entry_of}
 use Rattle.xpath_axes.proofs.nodes.below.Given as goal
 
@@ -15,7 +15,7 @@ invariant-loop-next g l = record {
   counted : g.S.NodeRead.count l.seq ≡ g.S.NodeRead.count l.fn.seq;
   read : g.S.NodeRead.reads l.seq + length l.fn.before ≤ g.S.NodeRead.reads l.fn.seq + (length l.found + 1);
   valid : g.S.NodeRead.contents l.fn.seq ≡ None → IsEntryOfTrees (entry_of l.next);
-  walked : (t : Tree) → StandsFor (g.S.NodeRead.contents l.fn.seq) t → is_root l.at ≡ false
+  walked : (t : Tree) → StandsFor (g.S.NodeRead.contents l.fn.seq) t → CanBegin l.reach l.at
       → (out : List Position) × (all_plain l.found ≡ all_plain l.fn.before ++ out) × Left l.reach l.at t out l.next;
 }
 
