@@ -1,11 +1,14 @@
--- A number as predicate keeps the node at its place, and needs none behind it.
-use Rattle.std.proofs.Common.{◌≡◌, ◌<◌, ◌≤◌, ◌+◌, ℕ, zero, suc, true, false, cond, if◌then◌else◌, Less, Equal, Greater, is_eq, nat_lt, List, [], ◌∷◌, ◌++◌, length, take, drop, ℤ, pos, negsuc, refl, sym, ap, ◌∙◌, arith, rules}
+-- A number as predicate, or `position()=` it, keeps the node at its place, and needs none behind it.
+use Rattle.std.proofs.Common.{◌≡◌, ◌<◌, ◌≤◌, ◌+◌, ℕ, zero, suc, true, false, cond, if◌then◌else◌, MatchOption, Option, None, Some, Less, Equal, Greater, is_eq, nat_lt, List, [], ◌∷◌, ◌++◌, length, take, drop, ℤ, pos, negsuc, refl, sym, ap, subst, ◌∙◌, arith, rules}
 use Rattle.std.specs.Ordering.{int_eq}
+use Rattle.std.specs.Prelude.{⊤}
 use Rattle.std.proofs.lemmas.Bool.Decides.{nat_tests}
+use Rattle.std.proofs.lemmas.Cmp.{int_eq_equiv}
 use Rattle.std.proofs.lemmas.List.{length-append}
 use Rattle.path_model.specs.declared.path.Expr as declared
 use Rattle.path_model.specs.declared.path.Expr.{the_lemmas}
 use Rattle.path_model.specs.declared.path.Expr.TheVariants.{Number}
+use Rattle.path_model.specs.declared.path.Op.TheVariants as op
 use Rattle.path_model.specs.Evaluation.{kept_by, filtered, value}
 use Rattle.path_model.specs.Paths as paths
 use Rattle.path_model.specs.PlainPaths.{plain, plain_row}
@@ -14,7 +17,7 @@ use Rattle.path_model.specs.Programs.{Program, ends, and_then}
 use Rattle.xpath_axes.specs.declared.position.Position as seen
 use Rattle.xpath_axes.specs.Positions as position
 use Rattle.xpath_axes.specs.Positions.{all_plain}
-use Rattle.xpath_eval.specs.inside.Places.{at_place, place_of, IsEnough}
+use Rattle.xpath_eval.specs.inside.Places.{at_place, place_of, IsEnough, KeepsAsNumber}
 
 pub number_opened : (z : ℤ) → plain (Number z) ≡ paths.number z
 number_opened z = search (rules, the_lemmas)
@@ -71,6 +74,34 @@ equal_at (pos (suc k)) ns = one_equal k 1 (suc k) ns (omega arith)
 pub kept_number : (z : ℤ) (size : ℕ) (ns : List Position) → kept_by (λ c. value (paths.number z) c) size 1 ns ≡ ends (at_place (place_of z) ns)
 kept_number z size ns = kept_by_number z size 1 ns ∙ ap ends (equal_at z ns)
 
+-- ---- a number by another name
+
+pub itself : (z : ℤ) → KeepsAsNumber z (plain (Number z))
+itself z = subst (KeepsAsNumber z) (sym (number_opened z)) (λ size p ns. refl)
+
+-- `position()`
+abbrev pub position_asked : paths.Expr
+position_asked = paths.apply op.Position paths.no_more
+
+number_first : (z : ℤ) → KeepsAsNumber z (paths.binary op.Eq (paths.number z) position_asked)
+number_first z size p [] = refl
+number_first z size p (n ∷ ns) = ap (λ (q : Program (List Position)). and_then q (λ kept. ends (if int_eq z (pos p) then n ∷ kept else kept))) (number_first z size (p + 1) ns)
+
+number_last : (z : ℤ) → KeepsAsNumber z (paths.binary op.Eq position_asked (paths.number z))
+number_last z size p [] = refl
+number_last z size p (n ∷ ns) = λ i. and_then (number_last z size (p + 1) ns i) (λ kept. ends (if int_eq_equiv.symm (pos p) z i then n ∷ kept else kept))
+
+pub position_left : (z : ℤ) (a b : paths.Expr) → a ≡ position_asked → b ≡ paths.number z → KeepsAsNumber z (paths.binary op.Eq a b)
+position_left z a b e f = subst (λ x. KeepsAsNumber z (paths.binary op.Eq x b)) (sym e) (subst (λ x. KeepsAsNumber z (paths.binary op.Eq position_asked x)) (sym f) (number_last z))
+
+pub position_right : (z : ℤ) (a b : paths.Expr) → a ≡ paths.number z → b ≡ position_asked → KeepsAsNumber z (paths.binary op.Eq a b)
+position_right z a b e f = subst (λ x. KeepsAsNumber z (paths.binary op.Eq x b)) (sym e) (subst (λ x. KeepsAsNumber z (paths.binary op.Eq (paths.number z) x)) (sym f) (number_first z))
+
+-- what may be there is so
+pub where_there : {A : Type 0} (P Q : A → Type 0) (o : Option A) → ((a : A) → P a → Q a) → MatchOption o ⊤ P → MatchOption o ⊤ Q
+where_there P Q None f h = tt
+where_there P Q (Some a) f h = f a h
+
 -- ---- what stands behind the place isn't needed
 
 one_of_first : (k : ℕ) (ns : List Position) → take 1 (drop k (take (suc k) ns)) ≡ take 1 (drop k ns)
@@ -83,10 +114,10 @@ place_of_first : (p : ℕ) (ns : List Position) → at_place p (take p ns) ≡ a
 place_of_first zero ns = refl
 place_of_first (suc k) ns = one_of_first k ns
 
-pub enough : (z : ℤ) (es : List declared.Expr) → IsEnough (place_of z) (plain_row (Number z ∷ es))
-enough z es ns =
-    let whole : (ms : List Position) → filtered (plain_row (Number z ∷ es)) ms ≡ filtered (plain_row es) (at_place (place_of z) ms) = λ ms.
-    ap (λ e. filtered (paths.then_expr e (plain_row es)) ms) (number_opened z) ∙ ap (λ p. and_then p (λ kept. filtered (plain_row es) kept)) (kept_number z (length ms) ms) in
+pub enough : (z : ℤ) (e : declared.Expr) (es : List declared.Expr) → KeepsAsNumber z (plain e) → IsEnough (place_of z) (plain_row (e ∷ es))
+enough z e es means ns =
+    let whole : (ms : List Position) → filtered (plain_row (e ∷ es)) ms ≡ filtered (plain_row es) (at_place (place_of z) ms) = λ ms.
+    ap (λ p. and_then p (λ kept. filtered (plain_row es) kept)) (means (length ms) 1 ms ∙ kept_number z (length ms) ms) in
     whole (take (place_of z) ns) ∙ ap (filtered (plain_row es)) (place_of_first (place_of z) ns) ∙ sym (whole ns)
 
 -- ---- as the program takes it

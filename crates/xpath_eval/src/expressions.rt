@@ -19,7 +19,7 @@ ghost use Rattle.xpath_eval.specs.inside.Steps.{from_node, IsWholeIn, LeadsDown}
 use crate::context::Context;
 use crate::operations::applied;
 use crate::order::in_document_order;
-use crate::places::{at_place, enough_for};
+use crate::places::{at_place, enough_for, number_in};
 use crate::value::XValue;
 use dewey_labels::{List, NoMemory, Text};
 use node_seq::{NodeRead, SeqError};
@@ -273,7 +273,7 @@ fn stepped<S: NodeRead, W: Looks>(
     Ok(all)
 }
 
-/// A step from one node. Where the first predicate is a number, nothing is asked of the axis behind its place.
+/// A step from one node. Where the first predicate asks for a place, nothing is asked of the axis behind it.
 #[cycle(evaluation)]
 fn stepped_from<S: NodeRead, W: Looks>(
     alloc: Global,
@@ -316,7 +316,7 @@ fn filtered<S: NodeRead, W: Looks>(
     Ok(left)
 }
 
-/// The nodes that a predicate keeps. A number keeps the one at its place, and isn't evaluated at the others.
+/// The nodes that a predicate keeps. A number, or `position()=` it, keeps the one at its place, and isn't evaluated at the others.
 #[cycle(evaluation)]
 fn kept<S: NodeRead, W: Looks>(
     alloc: Global,
@@ -331,10 +331,10 @@ fn kept<S: NodeRead, W: Looks>(
     ensures unchanged { S.unchanged seq.old seq.new }
     ensures cause { HasCause SeqError.DiskFault (S.count seq.old) (S.count seq.new) result }
 {
-    match test {
-        Expr::Number(number) => Ok(at_place(alloc, *number, nodes)?),
-        _ => kept_one_by_one(alloc, test, nodes, seq, looks),
-    }
+    let Some(number) = number_in(test) else {
+        return kept_one_by_one(alloc, test, nodes, seq, looks);
+    };
+    Ok(at_place(alloc, number, nodes)?)
 }
 
 /// The nodes that a predicate keeps, which is evaluated at each.

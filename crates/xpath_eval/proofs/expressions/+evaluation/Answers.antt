@@ -29,7 +29,7 @@ use Rattle.xpath_eval.specs.inside.Steps.{from_node}
 use Rattle.xpath_eval.proofs.Chains.{grouped_is, apply_is}
 use Rattle.xpath_eval.proofs.Opened.{take_all, plain_append, plain_length, step_is, path_is, apply_opened, first_is, drop_all, chain_done, meant_pushed, operands_next, kept_next}
 use Rattle.xpath_eval.proofs.Parts.{later, run_is, answer_is, made_of, one_by_one, each_starts, on_tree}
-use Rattle.xpath_eval.proofs.PlacedNodes.{kept_number, number_opened}
+use Rattle.xpath_eval.proofs.PlacedNodes.{kept_number}
 use Rattle.xpath_eval.specs.inside.Places.{at_place, place_of}
 use Rattle.xpath_eval.proofs.DownSteps.{whole_after, row_taken, in_its_place}
 use Rattle.xpath_eval.proofs.expressions.+evaluation.Goals as goal
@@ -458,17 +458,15 @@ stepped_from-returns-clause-run g t c =
     (one_by_one reads saw u nothing further (and_then ways first) behind (one.run u stands_for)
     (run_is reads saw u (ap (λ ts. filtered (plain_row ts) (all_plain c.in_ok-found-2.found)) c.as_slice-tests.ensures) (h (later _ _ u (seqs.unchanged_contents _ _ one.unchanged) stands_for))))) c.filtered-2.ensures.run
 
-pub kept-returns-in_ok-at_place-in-Number-clause-run : goal.kept-returns-in_ok-at_place-in-Number-clause-run
-kept-returns-in_ok-at_place-in-Number-clause-run g t c =
+pub kept-returns-clause-run : goal.kept-returns-clause-run
+kept-returns-clause-run g t c =
     let reads = g.S.NodeRead.reads in
     let saw = g.W.Looks.saw in
     let nothing = g.met.W.Looks.saw_nothing in
     let further = g.met.W.Looks.saw_further in
     let ns = all_plain c.args.nodes in
-    let z = c.in-Number.number in
+    let z = c.in-Some.number in
     let fits : FitsSigned w64 z = search rules in
-    let kept_all : Expr → Program (List Position) = λ e. kept_by (λ k. program.value (plain e) k) (length ns) 1 ns in
-    let at_all : paths.Expr → Program (List Position) = λ e. kept_by (λ k. program.value e k) (length ns) 1 ns in
     λ u stands_for.
-    run_is reads saw u (sym (kept_number z (length ns) ns) ∙ ap at_all (sym (number_opened z)) ∙ ap kept_all (sym c.in-Number.is))
-    (answer_is reads saw u (sym (c.in_ok-at_place-in-Number.ensures ∙ ap (λ p. at_place p ns) (ap place_of (to_z-of_z w64 z fits)))) (no_run reads saw u nothing further _ c.args.seq.now c.args.looks.now))
+    run_is reads saw u (sym (c.in-Some.ensures (length ns) 1 ns ∙ kept_number z (length ns) ns))
+    (answer_is reads saw u (sym (c.in_ok-at_place.ensures ∙ ap (λ p. at_place p ns) (ap place_of (to_z-of_z w64 z fits)))) (no_run reads saw u nothing further _ c.args.seq.now c.args.looks.now))
