@@ -51,7 +51,7 @@ fn finds(
 }
 
 /// A node, a path, and what is found from there.
-const FOUND_IN_MIXED: [(&str, &str, &str); 12] = [
+const FOUND_IN_MIXED: [(&str, &str, &str); 19] = [
     (
         "1.1001.1001.1009",
         "preceding-sibling::*[1]",
@@ -88,6 +88,29 @@ const FOUND_IN_MIXED: [(&str, &str, &str); 12] = [
         "following-sibling::text()[1]",
         "1.1001.1001.1005,",
     ),
+    (
+        "1.1001.1001.1003",
+        "following-sibling::*",
+        "1.1001.1001.1009,",
+    ),
+    ("1.1001.1001.1009", "following-sibling::node()", ""),
+    (
+        "1.1001.1001.1001",
+        "following-sibling::node()[3]",
+        "1.1001.1001.1007,",
+    ),
+    (
+        "1.1001.1001.1001",
+        "following-sibling::*[position()=2]",
+        "1.1001.1001.1009,",
+    ),
+    (
+        "1.1001.1001.1009",
+        "preceding-sibling::*[1=position()]",
+        "1.1001.1001.1003,",
+    ),
+    ("1.1001.1001", "text()[2=position()]", "1.1001.1001.1007,"),
+    ("1.1001.1001", "*[position()=4]", ""),
 ];
 
 #[test]
@@ -176,7 +199,8 @@ fn a_string_value_is_a_number_where_it_has_digits_alone(rt: HostRuntime) -> Resu
 
 /// The node and the document cost a read each, a row one a child and one more, a tree one a node and one more, an attribute with a name one.
 /// The children of all nodes of a tree that was just seen cost none, and those behind the place that is asked for aren't read.
-const READS_IN_PRICES: [(&str, u64); 12] = [
+/// The siblings that follow a node cost a read each and one more, wherever it stands; those before it cost what the row does.
+const READS_IN_PRICES: [(&str, u64); 21] = [
     ("/c", 4),
     ("/c/i", 9),
     ("/c/i[1]", 5),
@@ -186,6 +210,15 @@ const READS_IN_PRICES: [(&str, u64); 12] = [
     ("/c/i[0]", 4),
     ("/c/i[2][price]", 8),
     ("/c[1]/i[2]/price", 7),
+    ("/c/i[position()=1]", 5),
+    ("/c/i[3=position()]", 7),
+    ("/c/i[last()]", 9),
+    ("/c/i[1]/following-sibling::i", 9),
+    ("/c/i[3]/following-sibling::i", 9),
+    ("/c/i[4]/following-sibling::i", 9),
+    ("/c/i[1]/following-sibling::*[2]", 7),
+    ("/c/i[3]/following-sibling::i[1]", 8),
+    ("/c/i[3]/preceding-sibling::i", 12),
     ("//i", 16),
     ("//i/price", 24),
     ("//i[@k]", 20),
