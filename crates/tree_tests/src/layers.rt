@@ -182,9 +182,9 @@ fn a_view_answers_as_the_list_by_hand(rt: HostRuntime) -> Result<(), Fail> {
 }
 
 /// What changes leave at their keys, each with a full stop behind it.
-fn listed(alloc: Global, changes: &Changes) -> Result<String, Fail> {
+fn listed(alloc: Global, changes: &[Change]) -> Result<String, Fail> {
     let mut out = String::new(alloc);
-    for change in changes.as_slice() {
+    for change in changes {
         out.push_str(data(&change.now))?;
         out.push('.')?;
     }
@@ -193,14 +193,14 @@ fn listed(alloc: Global, changes: &Changes) -> Result<String, Fail> {
 
 /// What a transaction's own changes leave.
 fn own_listed(alloc: Global) -> Result<String, Fail> {
-    let own = overlay(alloc, OWN)?;
-    listed(alloc, &own.fold(alloc)?)
+    let mut own = overlay(alloc, OWN)?;
+    listed(alloc, own.changes(alloc)?)
 }
 
 /// What the commits leave.
 fn commits_listed(alloc: Global) -> Result<String, Fail> {
     let layers = layers(alloc, &COMMITS)?;
-    listed(alloc, &layers.fold(alloc)?)
+    listed(alloc, layers.fold(alloc)?.as_slice())
 }
 
 #[test]
