@@ -45,7 +45,7 @@ module _ {C B : Type 0} (is_valid : C → Type 0) (m : CallMeaning C) (told : B 
   core_merged count opening number limit p q same spare contents later core =
       core_still is_valid m told count opening number limit p q core (ap (λ (x : Parts C B). x.book.items) same) later (merged_stands p q same contents)
       (layered_seated p q q.base q.layers p.prepared core.seated same
-      (same_prepared p q (ap (λ (x : Parts C B). x.prepared) same) (ap (λ (x : Parts C B). x.places) same) spare core.seated.prepared))
+      (same_prepared p q (ap (λ (x : Parts C B). x.prepared) same) (ap (λ (x : Parts C B). x.places.entries) same) spare core.seated.prepared))
 
 -- ---- how many entries changes take out
 

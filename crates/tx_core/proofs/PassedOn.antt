@@ -3,7 +3,8 @@ use Rattle.std.proofs.Common.{◌≡◌, ℕ, zero, suc, ◌<◌, Bool, true, fa
 use Rattle.std.specs.Prelude.{◌&&◌, ◌||◌, IfSome, is_none}
 use Rattle.std.specs.List.{AllByRecursion}
 use Rattle.std.specs.Ordering.{nat_cmp}
-use Rattle.std.specs.BTreeMap.{get}
+use Rattle.std.specs.BTreeMap.{get, is_at}
+use Rattle.std.specs.Map.{lookup}
 use Rattle.std.proofs.lemmas.Option.{none-some, same_Some}
 use Rattle.tree_model.specs.Changes.{Rising}
 use Rattle.tree_model.specs.Entries as entries
@@ -220,9 +221,9 @@ module _ {C B : Type 0} (told : B → Option Entries) where
   pub passed_on : (p q : Parts C B) → ((o : ℕ) → seen_at told q o ≡ seen_at told p o) → KeepFewer q.passed.items p.passed.items → ArePassed told p → ArePassed told q
   passed_on p q seen fewer old o es is j h = old o es (sym (seen o) ∙ is) j (fewer o j h)
 
-  pub kept_passed : (p q : Parts C B) → q.places ≡ p.places → q.passed ≡ p.passed → contents_after q.layers.changes (told q.base) ≡ contents_after p.layers.changes (told p.base) → ArePassed told p → ArePassed told q
+  pub kept_passed : (p q : Parts C B) → q.places.entries ≡ p.places.entries → q.passed ≡ p.passed → contents_after q.layers.changes (told q.base) ≡ contents_after p.layers.changes (told p.base) → ArePassed told p → ArePassed told q
   kept_passed p q places passed committed =
-      passed_on p q (seen_same p q (λ o. ap (λ x. own_in (seat_in (get nat_cmp x o))) places) committed) (λ o j h. ap (λ v. is_covered (stretches_of v.items o) j) (sym passed) ∙ h)
+      passed_on p q (seen_same p q (λ o. ap (λ es. own_in (seat_in (lookup (is_at (nat_cmp o)) es))) places) committed) (λ o j h. ap (λ v. is_covered (stretches_of v.items o) j) (sym passed) ∙ h)
 
   -- what was taken out is empty in what the transaction sees
   pub taken_empty : (p : Parts C B) (s : ℕ) (seat : Seat) (ss : List Stretch) → seat_in (get nat_cmp p.places s) ≡ Some seat → AreWithin ss (stretches_of p.passed.items s) → ArePassed told p

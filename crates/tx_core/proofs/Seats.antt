@@ -1,6 +1,8 @@
 -- What a core keeps of the sessions, where one of them moves.
-use Rattle.std.proofs.Common.{◌≡◌, ◌≢◌, ℕ, Bool, true, false, cond, List, ◌++◌, Option, Some, None, ◌==◌, refl, sym, ap, subst, ◌∙◌, arith}
+use Rattle.std.proofs.Common.{◌≡◌, ◌≢◌, ℕ, Bool, true, false, cond, List, [], ◌∷◌, ◌++◌, Option, Some, None, ◌==◌, refl, sym, ap, subst, ◌∙◌, arith}
 use Rattle.std.proofs.lemmas.Bool.Decides.{nat_tests}
+use Rattle.std.proofs.lemmas.Option.{same_Some}
+use Rattle.std.specs.Map.{lookup, set_value}
 use Rattle.tree_model.specs.Tree.{Tree}
 use Rattle.lock_resources.specs.declared.request.Request.{Request}
 use Rattle.call_contract.specs.Calls.{CallMeaning}
@@ -22,6 +24,15 @@ isnt o p e f = other (sym e ∙ ap (λ x. o == x) f ∙ itself)
 
     other : false ≡ true → ⊥
     other e = grind (arith, e)
+
+-- entries are what they were where the value that they have is written again
+pub written_again : {K X : Type 0} (test : K → Bool) (es : List (K × X)) (v : X) → lookup test es ≡ Some v → set_value test es v ≡ es
+written_again test [] v has = refl
+written_again {K = K} {X = X} test (e ∷ es) v has = go (test e.0) (written_again test es v) has
+  where
+    go : (b : Bool) → (lookup test es ≡ Some v → set_value test es v ≡ es) → cond b (Some e.1) (lookup test es) ≡ Some v → cond b ((e.0, v) ∷ es) (e ∷ set_value test es v) ≡ e ∷ es
+    go true rest has = ap (λ (x : X). (e.0, x) ∷ es) (sym (same_Some e.1 v has))
+    go false rest has = ap (λ (xs : List (K × X)). e ∷ xs) (rest has)
 
 module _ {C : Type 0} (is_valid : C → Type 0) (m : CallMeaning C) where
   -- one session's transaction takes its seat

@@ -1,14 +1,33 @@
 -- Commits: what is prepared of them, and when a transaction has changed too much for one.
-use Rattle.std.specs.Prelude.{◌≡◌, ◌≢◌, ◌≤◌, ℕ, nat_lt, Bool, true, length, Some}
+use Rattle.std.specs.Prelude.{◌≡◌, ◌≢◌, ◌≤◌, ℕ, nat_lt, Bool, true, List, [], length, Some, IsSome}
+use Rattle.std.specs.Option.{unwrap_or}
 use Rattle.node_records.specs.Changes.{changes_bytes, changes_of as changes_read}
 use Rattle.node_records.specs.declared.pending.Pending.{Pending}
+use Rattle.tree_model.specs.declared.change.Change.{Change}
 use Rattle.node_seq.specs.ChangeLists.{IsChangeList}
 use Rattle.call_contract.specs.CallChanges.{changes_of_calls}
 use Rattle.call_contract.specs.Calls.{CallMeaning}
 use Rattle.call_contract.specs.Lives.{IsReplayed}
 use Rattle.call_contract.specs.States.{Live, State, of_session}
 use Rattle.tx_core.specs.Cores.{CoreView, next_number}
-use Rattle.tx_core.specs.declared.commits.Prepared.{Prepared}
+
+-- a commit that is prepared: its number, and its body with the changes that it is read as
+pub record PreparedView : Type 0 where
+  pub number : ℕ
+  pub changes : List Change
+  pub body : List ℕ
+
+-- the changes that a body is read as
+abbrev pub changes_in : List ℕ → List Change
+changes_in body = unwrap_or (changes_read body) []
+
+-- a number and a body, with what the body is read as
+abbrev pub prepared_view : ℕ → List ℕ → PreparedView
+prepared_view number body = record { number = number; changes = changes_in body; body = body }
+
+-- these bytes are read as changes
+abbrev pub IsRead : List ℕ → Type 0
+IsRead body = IsSome (changes_read body)
 
 -- the most bytes that a commit's body may have
 abbrev pub body_limit : ℕ
@@ -19,7 +38,7 @@ abbrev pub is_past_limit : {C : Type 0} → CallMeaning C → State C → Live C
 is_past_limit m st t = nat_lt body_limit (length (changes_bytes (changes_of_calls m t.calls st.tree)))
 
 -- what is prepared is the next commit: its body has the changes, and they are read off it again
-pub record IsPrepared {C B : Type 0} (v : CoreView C B) (p : Prepared) : Type 0 where
+pub record IsPrepared {C B : Type 0} (v : CoreView C B) (p : PreparedView) : Type 0 where
   pub number : p.number ≡ next_number v
   pub list : IsChangeList p.changes
   pub body : p.body ≡ changes_bytes p.changes
@@ -27,11 +46,11 @@ pub record IsPrepared {C B : Type 0} (v : CoreView C B) (p : Prepared) : Type 0 
   pub short : length p.body ≤ body_limit
 
 -- what is left of it to be made durable
-abbrev pub pending_of : Prepared → Pending
+abbrev pub pending_of : PreparedView → Pending
 pending_of p = record { number = p.number; body = p.body }
 
 -- the changes are those of the session's transaction in this state
-abbrev pub HasChangesOf : {C : Type 0} → CallMeaning C → State C → ℕ → Prepared → Type 0
+abbrev pub HasChangesOf : {C : Type 0} → CallMeaning C → State C → ℕ → PreparedView → Type 0
 HasChangesOf {C = C} m st s p = (x : Live C) → of_session s st.live ≡ Some x → p.changes ≡ changes_of_calls m x.calls st.tree
 
 -- the session's transaction has changed too much in this state

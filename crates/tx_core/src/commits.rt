@@ -4,7 +4,6 @@ ghost use Rattle.std.specs.Prelude.{◌≡◌, ◌≢◌, ℕ, cond, ◌==◌, �
 ghost use Rattle.std.specs.Ordering.{nat_cmp};
 ghost use Rattle.std.specs.BTreeMap.{get};
 ghost use Rattle.node_records.specs.Changes.{changes_bytes, changes_of as changes_read};
-ghost use Rattle.node_seq.specs.ChangeLists.{IsChangeList};
 ghost use Rattle.overlays.specs.Layered.{deletions_in};
 ghost use Rattle.tree_model.specs.Entries.{changed};
 ghost use Rattle.tree_model.specs.Tree.{map_of};
@@ -15,34 +14,43 @@ ghost use Rattle.call_contract.specs.declared.events.EventAnswer.TheVariants as 
 ghost use Rattle.tx_core.specs.declared.errors.SessionError.TheVariants as error;
 ghost use Rattle.tx_core.specs.Commits.{body_limit, HasChangesOf, IsPastLimitIn};
 ghost use Rattle.tx_core.specs.Refusals.{shown_prepare_refusal};
-ghost use Rattle.tx_core.specs.inside.Committing.{IsReady, HasChanges, commit_refused, IsCommit, GoesOn};
+ghost use Rattle.tx_core.specs.inside.Committing.{IsReady, IsBodyOf, HasBody, HasTooMuch, commit_refused, IsCommit, GoesOn};
 ghost use Rattle.tx_core.specs.inside.Passed.{ArePassed};
 ghost use Rattle.tx_core.specs.inside.Sessions.{IsSeated, IsSeatedFor};
 ghost use Rattle.tx_core.specs.inside.Standing.{Stands, seat_in, ordinal_in};
 
 use crate::SessionError;
 use crate::ends::{note, stop_waiting};
-use crate::parts::{Parts, Places, Seat};
+use crate::parts::{Parts, Place, Places, Seat};
 use crate::passed::{end_passed, forget_puts};
-use crate::places::{seat_at, unseat};
+use crate::places::unseat;
 use crate::undrained::Bodies;
 use call_contract::{Event, EventAnswer, Noted, TreeCall};
 use dewey_labels::{Copied, List, NoMemory};
 use node_records::write_change;
 use node_seq::{NodeRead, SortedSeq};
-use overlays::Layers;
+use overlays::{Layers, Overlay};
 use std::alloc::Global;
+use std::marker::Model;
 use std::mem;
-use tree_model::Changes;
+use tree_model::Change;
 
-/// A commit that may be made durable and then made.
+/// A commit that may be made durable and then made, seen with the changes that its body is read as.
 #[derive(Debug, Drop)]
 pub struct Prepared {
     pub number: u32,
-    /// What the transaction has changed, by rising keys.
-    pub changes: Changes,
-    /// The bytes of these changes, as a journal has them.
+    /// The bytes of what the transaction has changed, by rising keys, as a journal has them.
     pub body: List<u8>,
+}
+
+impl Model for Prepared {
+    ghost use Rattle.tx_core.specs.Commits.{PreparedView, prepared_view, IsRead};
+
+    ghost Value = { PreparedView };
+
+    ghost view = { λ p. prepared_view p.number p.body };
+
+    ghost invariant = { λ p. IsRead p.body };
 }
 
 impl Prepared {
@@ -51,7 +59,6 @@ impl Prepared {
     {
         Ok(Prepared {
             number: self.number,
-            changes: self.changes.copy(alloc)?,
             body: List::from_vec(Vec::from_slice(alloc, self.body.as_slice())?),
         })
     }
@@ -66,28 +73,8 @@ impl Copied for Prepared {
 /// The most bytes that a commit's body may have.
 const BODY_LIMIT: usize = 4_294_967_295;
 
-/// What a session's transaction has changed, where it may be committed.
-fn changes_at(alloc: Global, places: &Places, session: u32) -> Result<Changes, SessionError>
-    ensures ready { OnOk result (IsReady (seat_in (get nat_cmp places.now session))) }
-    ensures changes { IfOk result (λ changes. HasChanges (seat_in (get nat_cmp places.now session)) changes) }
-    ensures list { IfOk result (λ changes. IsChangeList changes) }
-    ensures refused { shown_prepare_refusal result ≡ commit_refused (seat_in (get nat_cmp places.now session)) }
-    ensures limit { result ≢ Err error.CommitLimit }
-{
-    let Some(seat) = seat_at(places, session) else {
-        return Err(SessionError::NoTransaction);
-    };
-    if seat.waiting.is_some() {
-        return Err(SessionError::IsWaiting);
-    }
-    match seat.own.fold(alloc) {
-        Ok(changes) => Ok(changes),
-        Err(_) => Err(SessionError::NoMemory),
-    }
-}
-
 /// The bytes of changes, where a commit may have so many.
-fn body_of(alloc: Global, changes: &Changes) -> Result<List<u8>, SessionError>
+fn body_of(alloc: Global, changes: &[Change]) -> Result<List<u8>, SessionError>
     ensures body { IfOk result (λ body. body ≡ changes_bytes changes.now) }
     ensures read { IfOk result (λ body. changes_read body ≡ Some changes.now) }
     ensures short { IfOk result (λ body. length body ≤ body_limit) }
@@ -95,7 +82,7 @@ fn body_of(alloc: Global, changes: &Changes) -> Result<List<u8>, SessionError>
     ensures limit { result ≡ Err error.CommitLimit → nat_lt body_limit (length (changes_bytes changes.now)) ≡ true }
 {
     let mut body = List::new(alloc);
-    for change in changes.as_slice() {
+    for change in changes {
         if write_change(alloc, change, &mut body).is_err() {
             return Err(SessionError::NoMemory);
         }
@@ -106,7 +93,62 @@ fn body_of(alloc: Global, changes: &Changes) -> Result<List<u8>, SessionError>
     Ok(body)
 }
 
-/// Takes all memory of a session's commit, and answers what is to be made durable before it. It costs what the transaction has changed.
+/// The body of what an overlay has. It writes each change once, and copies none.
+fn body_from(alloc: Global, own: &mut Overlay) -> Result<List<u8>, SessionError>
+    ensures same { own.new ≡ own.old }
+    ensures body { IfOk result (λ body. IsBodyOf body own.old) }
+    ensures refused { shown_prepare_refusal result ≡ None }
+    ensures limit { result ≡ Err error.CommitLimit → nat_lt body_limit (length (changes_bytes own.old)) ≡ true }
+{
+    match own.changes(alloc) {
+        Ok(changes) => body_of(alloc, changes),
+        Err(_) => Err(SessionError::NoMemory),
+    }
+}
+
+/// The body of a transaction that may be committed.
+fn body_in(alloc: Global, seat: &mut Seat) -> Result<List<u8>, SessionError>
+    ensures same { seat.new ≡ seat.old }
+    ensures ready { OnOk result (seat.old.waiting ≡ None) }
+    ensures body { IfOk result (λ body. IsBodyOf body seat.old.own) }
+    ensures refused { shown_prepare_refusal result ≡ commit_refused (Some seat.old) }
+    ensures limit { result ≡ Err error.CommitLimit → nat_lt body_limit (length (changes_bytes seat.old.own)) ≡ true }
+{
+    if seat.waiting.is_some() {
+        return Err(SessionError::IsWaiting);
+    }
+    body_from(alloc, &mut seat.own)
+}
+
+/// The body of a place's transaction, where it may be committed.
+fn body_on(alloc: Global, place: &mut Place) -> Result<List<u8>, SessionError>
+    ensures same { place.new ≡ place.old }
+    ensures ready { OnOk result (IsReady place.old.seat) }
+    ensures body { IfOk result (λ body. HasBody place.old.seat body) }
+    ensures refused { shown_prepare_refusal result ≡ commit_refused place.old.seat }
+    ensures limit { result ≡ Err error.CommitLimit → HasTooMuch place.old.seat }
+{
+    match &mut place.seat {
+        Some(seat) => body_in(alloc, seat),
+        None => Err(SessionError::NoTransaction),
+    }
+}
+
+/// The body of a session's transaction, where it may be committed.
+fn body_at(alloc: Global, places: &mut Places, session: u32) -> Result<List<u8>, SessionError>
+    ensures same { places.new.entries ≡ places.old.entries }
+    ensures ready { OnOk result (IsReady (seat_in (get nat_cmp places.old session))) }
+    ensures body { IfOk result (λ body. HasBody (seat_in (get nat_cmp places.old session)) body) }
+    ensures refused { shown_prepare_refusal result ≡ commit_refused (seat_in (get nat_cmp places.old session)) }
+    ensures limit { result ≡ Err error.CommitLimit → HasTooMuch (seat_in (get nat_cmp places.old session)) }
+{
+    match places.get_mut(&session) {
+        Some(place) => body_on(alloc, place),
+        None => Err(SessionError::NoTransaction),
+    }
+}
+
+/// Takes all memory of a session's commit, and answers what is to be made durable before it. It writes each change once, and copies none.
 pub fn prepare<C: TreeCall + Drop, B: NodeRead>(
     alloc: Global,
     parts: &mut Parts<C, B>,
@@ -127,18 +169,17 @@ pub fn prepare<C: TreeCall + Drop, B: NodeRead>(
     ensures refused { shown_prepare_refusal result ≡ commit_refused (seat_in (get nat_cmp parts.old.places session)) }
     ensures limit { result ≡ Err error.CommitLimit → (st : State C) → Stands C.is_valid C.meaning B.contents parts.old st → IsPastLimitIn C.meaning st session }
     ensures err { OnErr result ((parts.new.prepared ≡ parts.old.prepared) × (parts.new.layers.spare ≡ parts.old.layers.spare)) }
-    ensures same { parts.new ≡ record parts.old { layers = parts.new.layers; prepared = parts.new.prepared } }
+    ensures same { parts.new ≡ record parts.old { places = parts.new.places; layers = parts.new.layers; prepared = parts.new.prepared } }
+    ensures places { parts.new.places.entries ≡ parts.old.places.entries }
     ensures state { (st : State C) → Stands C.is_valid C.meaning B.contents parts.old st → Stands C.is_valid C.meaning B.contents parts.new st }
 {
-    let changes = changes_at(alloc, &parts.places, session)?;
-    let body = body_of(alloc, &changes)?;
+    let body = body_at(alloc, &mut parts.places, session)?;
     if bodies.make_room().is_err() || parts.layers.reserve_layer(alloc).is_err() {
         return Err(SessionError::NoMemory);
     }
     parts.prepared = Some(session);
     Ok(Prepared {
         number: parts.number + 1,
-        changes,
         body,
     })
 }

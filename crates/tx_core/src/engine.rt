@@ -166,7 +166,7 @@ impl<C: TreeCall + Drop, B: NodeRead + Drop> Core<C, B> {
         retry(alloc, &mut self.parts, session)
     }
 
-    /// Takes all memory of a session's commit, and answers what is to be made durable before it. It costs what the transaction has changed.
+    /// Takes all memory of a session's commit, and answers what is to be made durable before it. It writes each change once, and copies none.
     pub fn prepare(&mut self, alloc: Global, session: u32) -> Result<Prepared, SessionError>
         ensures ok { IfOk result (λ _. self.new ≡ record self.old { prepared = Some session }) }
         ensures commit { IfOk result (λ prepared. IsPrepared self.old prepared) }
@@ -192,11 +192,7 @@ impl<C: TreeCall + Drop, B: NodeRead + Drop> Core<C, B> {
         ensures apart { (t : Tree) → StandsFor (B.contents self.old.opening) t → NoCellIsShared (state_from C.meaning t self.old) }
         ensures others { (t : Tree) → StandsFor (B.contents self.old.opening) t → ReplaysOthers C.meaning (state_from C.meaning t self.old) session }
     {
-        let Prepared {
-            number,
-            changes: _,
-            body,
-        } = prepared;
+        let Prepared { number, body } = prepared;
         self.bodies.keep(Pending { number, body });
         commit(&mut self.parts, session, number);
         number

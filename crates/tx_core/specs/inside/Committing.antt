@@ -1,5 +1,5 @@
 -- Preparing a commit and making it.
-use Rattle.std.specs.Prelude.{◌≡◌, ◌≤◌, ◌++◌, ◌∷◌, [], List, ℕ, cond, is_some, length, Option, Some, None}
+use Rattle.std.specs.Prelude.{◌≡◌, ◌≤◌, ◌++◌, ◌∷◌, [], List, ℕ, cond, is_some, length, Option, Some, None, nat_lt, true}
 use Rattle.std.specs.Ordering.{nat_cmp}
 use Rattle.std.specs.BTreeMap.{get}
 use Rattle.node_records.specs.Changes.{changes_bytes, changes_of as changes_read}
@@ -11,8 +11,7 @@ use Rattle.call_contract.specs.Calls.{CallMeaning}
 use Rattle.call_contract.specs.States.{State}
 use Rattle.call_contract.specs.Steps.{step}
 use Rattle.call_contract.specs.declared.events.Noted.{Noted}
-use Rattle.tx_core.specs.Commits.{body_limit}
-use Rattle.tx_core.specs.declared.commits.Prepared.{Prepared}
+use Rattle.tx_core.specs.Commits.{body_limit, PreparedView}
 use Rattle.tx_core.specs.declared.errors.SessionError.{SessionError}
 use Rattle.tx_core.specs.declared.errors.SessionError.TheVariants.{IsWaiting, NoTransaction}
 use Rattle.tx_core.specs.declared.parts.Parts.{Parts}
@@ -24,10 +23,22 @@ abbrev pub IsReady : Option Seat → Type 0
 IsReady None = ⊥
 IsReady (Some seat) = seat.waiting ≡ None
 
--- there is a transaction, and these are its changes
-abbrev pub HasChanges : Option Seat → List Change → Type 0
-HasChanges None changes = ⊥
-HasChanges (Some seat) changes = changes ≡ seat.own
+-- a body of these changes that a commit may have: it is read as them again
+pub record IsBodyOf (body : List ℕ) (changes : List Change) : Type 0 where
+  pub list : IsChangeList changes
+  pub bytes : body ≡ changes_bytes changes
+  pub read : changes_read body ≡ Some changes
+  pub short : length body ≤ body_limit
+
+-- there is a transaction, and this is a body of its changes
+abbrev pub HasBody : Option Seat → List ℕ → Type 0
+HasBody None body = ⊥
+HasBody (Some seat) body = IsBodyOf body seat.own
+
+-- there is a transaction, and it has changed more than a commit may hold
+abbrev pub HasTooMuch : Option Seat → Type 0
+HasTooMuch None = ⊥
+HasTooMuch (Some seat) = nat_lt body_limit (length (changes_bytes seat.own)) ≡ true
 
 -- why no commit of it is prepared, before what it has changed is looked at
 abbrev pub commit_refused : Option Seat → Option SessionError
@@ -35,7 +46,7 @@ commit_refused None = Some NoTransaction
 commit_refused (Some seat) = cond (is_some seat.waiting) (Some IsWaiting) None
 
 -- what is prepared is a commit of this number: its body has the changes, and they are read off it again
-pub record IsCommit (n : ℕ) (p : Prepared) : Type 0 where
+pub record IsCommit (n : ℕ) (p : PreparedView) : Type 0 where
   pub number : p.number ≡ n
   pub list : IsChangeList p.changes
   pub body : p.body ≡ changes_bytes p.changes

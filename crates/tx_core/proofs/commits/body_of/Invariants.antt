@@ -6,7 +6,7 @@ use Rattle.tx_core.proofs.commits.body_of.Given as goal
 
 abbrev pub invariant-loop-change : goal.invariant-loop-change
 invariant-loop-change l = record {
-  body : l.body ≡ changes_bytes (take l.change-index l.change-items);
-  writable : AllByRecursion IsWritableChange (take l.change-index l.change-items);
+  body : l.body ≡ changes_bytes (take l.change-index l.changes);
+  writable : AllByRecursion IsWritableChange (take l.change-index l.changes);
   short : length l.body ≤ body_limit;
 }

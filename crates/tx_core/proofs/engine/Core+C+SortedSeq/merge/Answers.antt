@@ -15,7 +15,7 @@ invariant_of-self g c =
           core_merged g.C.TreeCall.is_valid g.C.TreeCall.meaning Some (λ _. 0) c.self.inside.opening.value c.self.inside.number c.self.inside.limit
           c.self.inside.parts c.merge.new.parts c.merge.ensures.same c.merge.ensures.spare (ap Some c.merge.ensures.contents) (omega (arith)) c.self.invariant.core;
       bodies = bodies_kept c.self.inside.number c.self.inside.parts.book.items c.merge.new.parts.book.items c.self.inside.parts.prepared c.merge.new.parts.prepared c.self.inside.bodies (ap (λ (x : Parts _ _). x.book.items) c.merge.ensures.same) (ap (λ (x : Parts _ _). x.prepared) c.merge.ensures.same) c.self.invariant.bodies;
-      passed = kept_passed Some c.self.inside.parts c.merge.new.parts (ap (λ (x : Parts _ _). x.places) c.merge.ensures.same) (ap (λ (x : Parts _ _). x.passed) c.merge.ensures.same) (ap Some c.merge.ensures.contents) c.self.invariant.passed;
+      passed = kept_passed Some c.self.inside.parts c.merge.new.parts (ap (λ (x : Parts _ _). x.places.entries) c.merge.ensures.same) (ap (λ (x : Parts _ _). x.passed) c.merge.ensures.same) (ap Some c.merge.ensures.contents) c.self.invariant.passed;
     }
 
 pub returns-clause-same : goal.returns-clause-same

@@ -24,7 +24,7 @@ invariant_of-self g c =
       core =
           core_merged g.C.TreeCall.is_valid g.C.TreeCall.meaning told g.B.NodeRead.count h.opening.value h.number h.limit p q same
           (ap (λ (l : Layered). l.spare) c.copy_committed.ensures.layers) committed c.copy_committed.ensures.cause.later c.self.invariant.core;
-      passed = kept_passed told p q (ap (λ (x : Parts _ _). x.places) same) (ap (λ (x : Parts _ _). x.passed) same) committed c.self.invariant.passed;
+      passed = kept_passed told p q (ap (λ (x : Parts _ _). x.places.entries) same) (ap (λ (x : Parts _ _). x.passed) same) committed c.self.invariant.passed;
       bodies = bodies_kept h.number p.book.items q.book.items p.prepared q.prepared h.bodies (ap (λ (x : Parts _ _). x.book.items) same) (ap (λ (x : Parts _ _). x.prepared) same) c.self.invariant.bodies;
     }
 

@@ -8,9 +8,9 @@ use Rattle.tx_core.specs.inside.Kept.{undrained_of}
 use Rattle.tx_core.proofs.Counted.{same_count}
 use Rattle.tx_core.proofs.Drained.{bodies_roomy, prepared_room, same_undrained}
 use Rattle.tx_core.proofs.Kept.{core_still}
-use Rattle.tx_core.proofs.CommitsKept.{prepared_kept}
+use Rattle.tx_core.proofs.CommitsKept.{prepared_kept, prepared_seated}
 use Rattle.tx_core.proofs.PassedOn.{kept_passed}
-use Rattle.tx_core.proofs.Told.{layered_seated, number_fits, seat_refused}
+use Rattle.tx_core.proofs.Told.{number_fits, seat_refused}
 use Rattle.std.proofs.Common.{Some, ap₂}
 use Rattle.std.proofs.lemmas.Result.{on_err_weaker}
 use Rattle.overlays.specs.Views.{contents_after}
@@ -29,9 +29,9 @@ invariant_of-self g c =
           let same = c.prepare.ensures.same in
           core_still g.C.TreeCall.is_valid g.C.TreeCall.meaning g.B.NodeRead.contents g.B.NodeRead.count c.self.inside.opening.value c.self.inside.number c.self.inside.limit p q c.self.invariant.core
           (ap (λ (x : Parts _ _). x.book.items) same) (same_count g.B.NodeRead.count c.self.inside.opening.value p q (ap (λ (x : Parts _ _). x.base) same)) c.prepare.ensures.state
-          (layered_seated p q p.base q.layers q.prepared c.self.invariant.core.seated same
-          (prepared_kept p q c.args.session c.prepare.result c.self.invariant.core.seated.prepared (ap (λ (x : Parts _ _). x.places) same) c.prepare.ensures.prepared c.prepare.ensures.ready c.prepare.ensures.spare c.prepare.ensures.err));
-      passed = kept_passed g.B.NodeRead.contents c.self.inside.parts c.prepare.new.parts (ap (λ (x : Parts _ _). x.places) c.prepare.ensures.same) (ap (λ (x : Parts _ _). x.passed) c.prepare.ensures.same) (ap₂ contents_after c.prepare.ensures.layers (ap g.B.NodeRead.contents (ap (λ (x : Parts _ _). x.base) c.prepare.ensures.same))) c.self.invariant.passed;
+          (prepared_seated p q same c.prepare.ensures.places c.self.invariant.core.seated
+          (prepared_kept p q c.args.session c.prepare.result c.self.invariant.core.seated.prepared c.prepare.ensures.places c.prepare.ensures.prepared c.prepare.ensures.ready c.prepare.ensures.spare c.prepare.ensures.err));
+      passed = kept_passed g.B.NodeRead.contents c.self.inside.parts c.prepare.new.parts c.prepare.ensures.places (ap (λ (x : Parts _ _). x.passed) c.prepare.ensures.same) (ap₂ contents_after c.prepare.ensures.layers (ap g.B.NodeRead.contents (ap (λ (x : Parts _ _). x.base) c.prepare.ensures.same))) c.self.invariant.passed;
       bodies =
           let h = c.self.inside in
           let q = c.prepare.new.parts in
