@@ -1,38 +1,52 @@
-use Rattle.std.proofs.Common.{◌∙◌, ap}
+use Rattle.std.proofs.Common.{◌∙◌, ap, sym, subst}
 use Rattle.journal.specs.Views.{JournalView}
 use Rattle.session_driver.specs.declared.doing.Doing.TheVariants.{Commit}
+use Rattle.tx_core.specs.Commits.{prepared_view}
+use Rattle.durable_sessions.specs.inside.Commits.{IsDue}
 use Rattle.durable_sessions.proofs.AnswerLaws.{begun_nothing, on_err, commit_follows, commit_leaves, commit_leads_to, commit_takes, done_book, due_allowed, finished_over, grown_by_one}
 use Rattle.durable_sessions.proofs.answering.commit.Goals as goal
 
 pub append_group-requires-clause-commit : goal.append_group-requires-clause-commit
 append_group-requires-clause-commit g c =
-    commit_follows g.C.TreeCall.is_valid g.C.TreeCall.meaning g.met.C.TreeCall.laws g.B.NodeRead.contents c.args.core.now c.args.session c.args.prepared c.args.journal.now c.make_room.new.self _ c.requires.due c.requires.takes (ap (λ (j : JournalView). j.last) c.in_ok-make_room.ensures.ok) c.as_slice.ensures
+    let made = prepared_view c.prepared.inside.number c.prepared.inside.body in
+    let due = subst (IsDue g.C.TreeCall.meaning g.B.NodeRead.contents c.args.core.now c.args.session) (sym c.prepared.view_is) c.requires.due in
+    commit_follows g.C.TreeCall.is_valid g.C.TreeCall.meaning g.met.C.TreeCall.laws g.B.NodeRead.contents c.args.core.now c.args.session made c.args.journal.now c.make_room.new.self _ due c.requires.takes (ap (λ (j : JournalView). j.last) c.in_ok-make_room.ensures.ok) c.as_slice.ensures
 
 pub returns-in_err-append_group-clause-any_moment : goal.returns-in_err-append_group-clause-any_moment
 returns-in_err-append_group-clause-any_moment g c =
-    commit_leaves g.C.TreeCall.is_valid g.C.TreeCall.meaning g.met.C.TreeCall.laws g.B.NodeRead.contents g.J.Disk.is_known c.args.core.now c.args.session c.args.prepared c.args.journal.now.history c.make_room.new.self.history c.append_group.new.self.history _ c.requires.due c.is_legal.ensures.book
+    let made = prepared_view c.prepared.inside.number c.prepared.inside.body in
+    let due = subst (IsDue g.C.TreeCall.meaning g.B.NodeRead.contents c.args.core.now c.args.session) (sym c.prepared.view_is) c.requires.due in
+    commit_leaves g.C.TreeCall.is_valid g.C.TreeCall.meaning g.met.C.TreeCall.laws g.B.NodeRead.contents g.J.Disk.is_known c.args.core.now c.args.session made c.args.journal.now.history c.make_room.new.self.history c.append_group.new.self.history _ due c.is_legal.ensures.book
     (λ known. c.is_usable.ensures.commits known c.requires.takes.usable.unfailed c.requires.takes.usable.unheld) (ap (λ (j : JournalView). j.history) c.in_ok-make_room.ensures.ok) c.as_slice.ensures c.in_err-append_group.ensures.any_moment
 
 pub returns-in-Ok-clause-state : goal.returns-in-Ok-clause-state
 returns-in-Ok-clause-state g c =
-    commit_leads_to g.C.TreeCall.is_valid g.C.TreeCall.meaning g.met.C.TreeCall.laws g.B.NodeRead.contents g.J.Disk.is_known c.args.core.now c.take_in.new.core c.args.session c.args.prepared c.args.journal.now.history c.make_room.new.self.history c.append_group.new.self.history _ _
-    c.args.replies.now.items c.finish_commit.new.out.items c.requires.due c.is_legal.ensures.book
+    let made = prepared_view c.prepared.inside.number c.prepared.inside.body in
+    let due = subst (IsDue g.C.TreeCall.meaning g.B.NodeRead.contents c.args.core.now c.args.session) (sym c.prepared.view_is) c.requires.due in
+    commit_leads_to g.C.TreeCall.is_valid g.C.TreeCall.meaning g.met.C.TreeCall.laws g.B.NodeRead.contents g.J.Disk.is_known c.args.core.now c.take_in.new.core c.args.session made c.args.journal.now.history c.make_room.new.self.history c.append_group.new.self.history _ _
+    c.args.replies.now.items c.finish_commit.new.out.items due c.is_legal.ensures.book
     (λ known. c.is_usable.ensures.commits known c.requires.takes.usable.unfailed c.requires.takes.usable.unheld) (ap (λ (j : JournalView). j.history) c.in_ok-make_room.ensures.ok) c.as_slice.ensures c.in_ok-append_group.ensures.durable
     (finished_over g.C.TreeCall.is_valid g.C.TreeCall.meaning g.met.C.TreeCall.laws g.B.NodeRead.contents c.args.session c.args.core.now c.finish_commit.new.core c.take_in.new.core c.args.replies.now.items c.finish_commit.new.out.items c.take_in.ensures.same c.in-Ok.ensures.line)
 
 pub returns-in-Ok-clause-takes : goal.returns-in-Ok-clause-takes
 returns-in-Ok-clause-takes g c =
-    commit_takes g.C.TreeCall.meaning g.B.NodeRead.contents c.args.core.now c.finish_commit.new.core c.take_in.new.core c.args.session _ c.args.prepared c.make_room.new.self c.append_group.new.self _ _ c.finish_commit.new.out.items
-    c.requires.due c.in_ok-append_group.ensures.ok c.finish_commit.ensures.made c.take_in.ensures.same
+    let made = prepared_view c.prepared.inside.number c.prepared.inside.body in
+    let due = subst (IsDue g.C.TreeCall.meaning g.B.NodeRead.contents c.args.core.now c.args.session) (sym c.prepared.view_is) c.requires.due in
+    commit_takes g.C.TreeCall.meaning g.B.NodeRead.contents c.args.core.now c.finish_commit.new.core c.take_in.new.core c.args.session _ made c.make_room.new.self c.append_group.new.self _ _ c.finish_commit.new.out.items
+    due c.in_ok-append_group.ensures.ok c.finish_commit.ensures.made c.take_in.ensures.same
 
 pub returns-in-Ok-clause-any_moment : goal.returns-in-Ok-clause-any_moment
 returns-in-Ok-clause-any_moment g c =
-    commit_leaves g.C.TreeCall.is_valid g.C.TreeCall.meaning g.met.C.TreeCall.laws g.B.NodeRead.contents g.J.Disk.is_known c.args.core.now c.args.session c.args.prepared c.args.journal.now.history c.make_room.new.self.history c.append_group.new.self.history _ c.requires.due c.is_legal.ensures.book
+    let made = prepared_view c.prepared.inside.number c.prepared.inside.body in
+    let due = subst (IsDue g.C.TreeCall.meaning g.B.NodeRead.contents c.args.core.now c.args.session) (sym c.prepared.view_is) c.requires.due in
+    commit_leaves g.C.TreeCall.is_valid g.C.TreeCall.meaning g.met.C.TreeCall.laws g.B.NodeRead.contents g.J.Disk.is_known c.args.core.now c.args.session made c.args.journal.now.history c.make_room.new.self.history c.append_group.new.self.history _ due c.is_legal.ensures.book
     (λ known. c.is_usable.ensures.commits known c.requires.takes.usable.unfailed c.requires.takes.usable.unheld) (ap (λ (j : JournalView). j.history) c.in_ok-make_room.ensures.ok) c.as_slice.ensures c.in_ok-append_group.ensures.any_moment
 
 pub returns-in-Err-clause-any_moment : goal.returns-in-Err-clause-any_moment
 returns-in-Err-clause-any_moment g c =
-    commit_leaves g.C.TreeCall.is_valid g.C.TreeCall.meaning g.met.C.TreeCall.laws g.B.NodeRead.contents g.J.Disk.is_known c.args.core.now c.args.session c.args.prepared c.args.journal.now.history c.make_room.new.self.history c.append_group.new.self.history _ c.requires.due c.is_legal.ensures.book
+    let made = prepared_view c.prepared.inside.number c.prepared.inside.body in
+    let due = subst (IsDue g.C.TreeCall.meaning g.B.NodeRead.contents c.args.core.now c.args.session) (sym c.prepared.view_is) c.requires.due in
+    commit_leaves g.C.TreeCall.is_valid g.C.TreeCall.meaning g.met.C.TreeCall.laws g.B.NodeRead.contents g.J.Disk.is_known c.args.core.now c.args.session made c.args.journal.now.history c.make_room.new.self.history c.append_group.new.self.history _ due c.is_legal.ensures.book
     (λ known. c.is_usable.ensures.commits known c.requires.takes.usable.unfailed c.requires.takes.usable.unheld) (ap (λ (j : JournalView). j.history) c.in_ok-make_room.ensures.ok) c.as_slice.ensures c.in_ok-append_group.ensures.any_moment
 
 pub returns-in_err-make_room-clause-begun : goal.returns-in_err-make_room-clause-begun
