@@ -183,7 +183,7 @@ impl<P: Disk + Drop> PagedSeq<P> {
         PAGE_BYTES as u64 * self.starts.len() as u64
     }
 
-    /// The entry with the least key above a key, of those that a valid tree may have.
+    /// The entry with the least key above a key, of those that a valid tree may have. Over a file without pages nothing is sought.
     /// At most three pages are read, and one a chunk of the record. Each other entry that is passed over costs as much again.
     fn valid_above(&mut self, alloc: Global, key: &Key) -> Result<Option<(Key, Record)>, SeqError>
         ensures value { IfOk result (λ found. IsTrue P.is_known
@@ -198,6 +198,9 @@ impl<P: Disk + Drop> PagedSeq<P> {
         ensures cause { HasCause DiskFault (P.faults self.old.disk) (P.faults self.new.disk) result }
     {
         let most = self.most_entries();
+        if most == 0 {
+            return Ok(None);
+        }
         let mut found = self.entry_above(alloc, key)?;
         for _ in 0..most {
             match pass_over(found) {
@@ -223,6 +226,9 @@ impl<P: Disk + Drop> PagedSeq<P> {
         ensures cause { HasCause DiskFault (P.faults self.old.disk) (P.faults self.new.disk) result }
     {
         let most = self.most_entries();
+        if most == 0 {
+            return Ok(None);
+        }
         let mut found = self.entry_below(alloc, key)?;
         for _ in 0..most {
             match pass_over(found) {
