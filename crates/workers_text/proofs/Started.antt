@@ -15,8 +15,8 @@ use Rattle.shared_store.specs.Sessions.{IsOpenedAs}
 use Rattle.shared_store.specs.declared.desk.Entry.{Entry}
 use Rattle.shared_store.specs.declared.desk.Entry.TheVariants as kind
 use Rattle.group_commit.specs.Marks.{last_commit}
+use Rattle.workers_text.specs.Cores.{IsFrom}
 use Rattle.workers_text.specs.StorePorts.{IsOpenedOver}
-use Rattle.workers_text.specs.inside.Handing.{IsFrom}
 
 pub some_same : {X : Type 0} (a b : X) → Some a ≡ Some b → b ≡ a
 some_same a b e = cc

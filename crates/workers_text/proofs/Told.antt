@@ -15,9 +15,9 @@ use Rattle.shared_store.specs.Lists.{list_of}
 use Rattle.shared_store.specs.declared.desk.Entry.{Entry}
 use Rattle.worker_run.specs.declared.port.PortFault.{PortFault}
 use Rattle.workers_text.specs.Asking.{own_doings, own_printed}
+use Rattle.workers_text.specs.Cores.{IsFrom}
 use Rattle.workers_text.specs.Sessions.{Does, DoesSome}
 use Rattle.workers_text.specs.StorePorts.{IsOpenedOver}
-use Rattle.workers_text.specs.inside.Handing.{IsFrom}
 use Rattle.workers_text.proofs.Runs.{does_none}
 use Rattle.workers_text.proofs.Started.{begun_over}
 

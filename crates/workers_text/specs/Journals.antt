@@ -1,5 +1,5 @@
 -- What the workers of a script leave of the journal that their commits were written to.
-use Rattle.std.specs.Prelude.{◌≡◌, ℕ, ◌+◌, ◌≤◌, Bool, IsTrue, [], Option}
+use Rattle.std.specs.Prelude.{◌≡◌, ℕ, ◌+◌, ◌≤◌, Bool, IsTrue, [], Option, Result, IfOk}
 use Rattle.tree_model.specs.Entries.{Entries}
 use Rattle.tree_model.specs.Tree.{Tree}
 use Rattle.node_seq.specs.Trees.{StandsFor}
@@ -22,3 +22,8 @@ pub record WroteAll {C B : Type 0} (m : CallMeaning C) (told : B → Option Entr
   pub takes : TakesGroups journal
   pub next : IsTrue (is_next journal.last (core.number + commits_in core.book + 1))
   pub faults : journal.faults ≡ first.faults
+
+-- The first commits of a core's book were written, and all of them where there is an answer.
+pub record WroteCommits {C B T E : Type 0} (m : CallMeaning C) (told : B → Option Entries) (is_known : Bool) (first : JournalView) (answer : Result T E) (core : CoreView C B) (journal : JournalView) : Type 0 where
+  pub wrote : WroteFirst m told is_known first 0 core journal
+  pub durable : IfOk answer (λ _. WroteAll m told is_known first core journal)

@@ -1,22 +1,19 @@
 //! The workers of a script over a store, with their commits in its journal.
-ghost use Rattle.std.specs.Prelude.{◌≡◌, ◌+◌, ◌^◌, ◌<◌, ℕ, [], length, true, None, Ok, IfOk, IfErr, IfSome, IsTrue, is_some};
-ghost use Rattle.std.specs.List.{AllByRecursion};
-ghost use Rattle.call_contract.specs.Books.{IsBookFrom, IsRun};
+ghost use Rattle.std.specs.Prelude.{◌≡◌, ◌^◌, ◌<◌, ℕ, [], length, true, None, Ok, IfOk, IfErr, IfSome, is_some};
+ghost use Rattle.call_contract.specs.Books.{IsRun};
 ghost use Rattle.call_contract.specs.States.{start};
-ghost use Rattle.command_lines.specs.ValidCommands.{IsValidCommand};
 ghost use Rattle.node_seq.specs.Trees.{StandsFor};
-ghost use Rattle.journal.specs.Groups.{is_next};
-ghost use Rattle.journal.specs.Views.{TakesGroups};
 ghost use Rattle.shared_store.specs.Lists.{book_of, list_of, SessionsFit};
 ghost use Rattle.shared_store.specs.Sessions.{IsOpenedAs};
 ghost use Rattle.tree_model.specs.Tree.{Tree};
 ghost use Rattle.group_commit.specs.Marks.{failure_in, last_commit, opening_in};
 ghost use Rattle.group_commit.specs.Members.{AreReached, IsOf};
 ghost use Rattle.workers_text.specs.Asking.{own_doings, own_printed};
-ghost use Rattle.workers_text.specs.Journals.{WroteAll, WroteFirst};
+ghost use Rattle.workers_text.specs.Cores.{HasBookFrom, IsFrom, MayBeAsked, MayBegin};
+ghost use Rattle.workers_text.specs.Journals.{WroteCommits};
 ghost use Rattle.workers_text.specs.Sessions.{Does, DoesSome};
 ghost use Rattle.workers_text.specs.StorePorts.{HaveSessions, IsOpenedOver, IsSamePass, IsSessionNumber};
-ghost use Rattle.workers_text.specs.inside.Handing.{IsAllHandedOut, IsFrom, IsHandedOut};
+ghost use Rattle.workers_text.specs.inside.Handing.{IsAllHandedOut, IsHandedOut};
 ghost use Rattle.workers_text.specs.inside.Joining.{HasAllBack, IsFirst};
 
 use crate::answers::fault_of;
@@ -70,8 +67,7 @@ fn open<C: TreeCall + LineCall + Drop, B: NodeRead + Drop, J: Disk>(
     journal: Journal<J>,
     number: u32,
 ) -> Result<(GroupCommit<C, B, J>, Member<C, B, J>), (Core<C, B>, Journal<J>)>
-    requires book { core.book ≡ [] }
-    requires takes { TakesGroups journal × IsTrue (is_next journal.last (core.number + 1)) }
+    requires begin { MayBegin core journal }
     requires number { IsSessionNumber number }
     ensures ok { IfOk result (λ r. IsFirst r.0 r.1) }
     ensures seen { IfOk result (λ r. r.1.session.seen ≡ list_of core core.book []) }
@@ -133,8 +129,7 @@ fn work<
     gate: &G,
 ) -> (Member<C, B, J>, Result<List<LineReply>, PortFault>)
     requires first { IsFirst group.now main }
-    requires sessions { HaveSessions lines.now }
-    requires valid { AllByRecursion IsValidCommand lines.now }
+    requires lines { MayBeAsked lines.now }
     ensures back { HasAllBack group.now main result.0 }
     ensures durable { IfOk result.1 (λ _. AreReached result.0.pass.seen (last_commit result.0.session.seen) × (failure_in result.0.pass.seen ≡ None)) }
     ensures all { IfOk result.1 (λ replies. length replies ≡ length lines.now) }
@@ -175,8 +170,7 @@ fn run_over<
     gate: &G,
 ) -> Ran<C, B, J>
     requires first { IsFirst group main }
-    requires sessions { HaveSessions lines.now }
-    requires valid { AllByRecursion IsValidCommand lines.now }
+    requires lines { MayBeAsked lines.now }
     ensures opened { IsOpenedAs B.unchanged main.session.seen result.core }
     ensures sessions { SessionsFit result.core.book }
     ensures out { IsHandedOut C.meaning B.contents J.is_known main.pass result.core result.journal }
@@ -218,16 +212,11 @@ pub fn run_lines<
     lines: &List<Command>,
     gate: &G,
 ) -> Ran<C, B, J>
-    requires book { core.book ≡ [] }
-    requires takes { TakesGroups journal × IsTrue (is_next journal.last (core.number + 1)) }
-    requires sessions { HaveSessions lines.now }
-    requires valid { AllByRecursion IsValidCommand lines.now }
-    ensures opened { (result.core.opening ≡ core.opening) × (result.core.number ≡ core.number) × (result.core.limit ≡ core.limit) }
-    ensures base { B.unchanged core.base result.core.base }
-    ensures legal { (t : Tree) → StandsFor (B.contents core.opening) t → IsBookFrom C.is_valid C.meaning t core.number core.limit result.core.book }
-    ensures sessions { SessionsFit result.core.book }
-    ensures wrote { WroteFirst C.meaning B.contents J.is_known journal 0 result.core result.journal }
-    ensures durable { IfOk result.replies (λ _. WroteAll C.meaning B.contents J.is_known journal result.core result.journal) }
+    requires begin { MayBegin core journal }
+    requires lines { MayBeAsked lines.now }
+    ensures opened { IsFrom B.unchanged core result.core }
+    ensures book { HasBookFrom C.is_valid C.meaning B.contents core result.core }
+    ensures written { WroteCommits C.meaning B.contents J.is_known journal result.replies result.core result.journal }
     ensures all { IfOk result.replies (λ replies. length replies ≡ length lines.now) }
     ensures does { IfOk result.replies (λ replies. (t : Tree) → StandsFor (B.contents core.opening) t
         → (s : ℕ) → Does C.meaning s (start t core.number core.limit) result.core.book (own_printed C.made s lines.now replies)) }

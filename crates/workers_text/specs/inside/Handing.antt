@@ -9,13 +9,6 @@ use Rattle.group_commit.specs.Closings.{IsAsTold}
 use Rattle.group_commit.specs.Marks.{failure_in, opening_in}
 use Rattle.group_commit.specs.Members.{AreReached, Marks, MarksPass}
 
--- a core that was opened as another one, over a base that goes on from that one's
-pub record IsFrom {C B : Type 0} (unchanged : B → B → Type 0) (first core : CoreView C B) : Type 0 where
-  pub opening : core.opening ≡ first.opening
-  pub number : core.number ≡ first.number
-  pub limit : core.limit ≡ first.limit
-  pub base : unchanged first.base core.base
-
 module _ {C B : Type 0} (m : CallMeaning C) (told : B → Option Entries) (is_known : Bool) (first : MarksPass C B) (core : CoreView C B) (journal : JournalView) where
   -- the journal is as a list behind its turn tells, with the opening that this pass has seen
   pub record IsHandedOut : Type 0 where

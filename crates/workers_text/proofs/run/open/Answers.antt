@@ -13,7 +13,7 @@ new-requires-2-clause-all g c = opens_all c.args.core c.args.number c.in-Ok.made
 pub new-requires-2-clause-next : goal.new-requires-2-clause-next
 new-requires-2-clause-next g c =
     let seen = opens_seen c.args.core c.args.number c.in-Ok.made.0 c.in-Ok.made.1 c.in-Ok.ensures.ok in
-    subst (λ (n : ℕ). IsTrue (is_next c.args.journal.last (n + 1))) (sym (begun_last c.args.core c.requires.book c.in-Ok.made.1.seen seen)) c.requires.takes.1
+    subst (λ (n : ℕ). IsTrue (is_next c.args.journal.last (n + 1))) (sym (begun_last c.args.core c.requires.begin.book c.in-Ok.made.1.seen seen)) c.requires.begin.next
 
 pub close-requires-clause-all : goal.close-requires-clause-all
 close-requires-clause-all g c n small = ap (λ (v : SessionView _ _). has_number v.has n) c.in-Err-new.ensures.err.1 ∙ opens_all c.args.core c.args.number c.in-Ok.made.0 c.in-Ok.made.1 c.in-Ok.ensures.ok n small
@@ -22,4 +22,4 @@ pub returns-in-Ok-new-clause-ok : goal.returns-in-Ok-new-clause-ok
 returns-in-Ok-new-clause-ok g c =
     let made = c.in-Ok-new.made in
     let e = c.in-Ok-new.ensures in
-    opens_first c.args.core c.args.number c.in-Ok.made.0 c.in-Ok.made.1 c.in-Ok.ensures.ok c.requires.book c.requires.number c.args.journal made.0 made.1 e.store e.session e.pass
+    opens_first c.args.core c.args.number c.in-Ok.made.0 c.in-Ok.made.1 c.in-Ok.ensures.ok c.requires.begin.book c.requires.number c.args.journal made.0 made.1 e.store e.session e.pass

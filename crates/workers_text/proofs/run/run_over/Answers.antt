@@ -60,11 +60,11 @@ returns-clause-does g c =
     if_ok_to
     (λ rs. (t : Tree) (n l : ℕ) → IsOpenedOver told c.args.main.session.seen t n l → IsRun m (start t n l) (book_of v.session.seen) → (k : ℕ) → IsSessionNumber k → Does m k (start t n l) (book_of v.session.seen) (own_printed made k lines rs))
     (λ rs. (t : Tree) (n l : ℕ) → IsOpenedOver told c.args.main.session.seen t n l → IsRun m (start t n l) end.result.0.book → (k : ℕ) → Does m k (start t n l) end.result.0.book (own_printed made k lines rs))
-    c.work-main.result.1 (λ rs each t n l opened run. end_does c.args.group c.args.main v back g.B.NodeRead.unchanged end.result.0 end.ensures.opened g.C.TreeCall.meaning g.B.NodeRead.contents g.J.Disk.is_known end.result.1 end.ensures.book end.ensures.journal c.requires.first end.ensures.sessions g.C.LineCall.made c.args.lines.now c.requires.sessions t n l run rs (each t n l opened)) c.work-main.ensures.does
+    c.work-main.result.1 (λ rs each t n l opened run. end_does c.args.group c.args.main v back g.B.NodeRead.unchanged end.result.0 end.ensures.opened g.C.TreeCall.meaning g.B.NodeRead.contents g.J.Disk.is_known end.result.1 end.ensures.book end.ensures.journal c.requires.first end.ensures.sessions g.C.LineCall.made c.args.lines.now c.requires.lines.sessions t n l run rs (each t n l opened)) c.work-main.ensures.does
 
 pub returns-clause-stops : goal.returns-clause-stops
 returns-clause-stops g c =
     let back = c.work-main.ensures.back in
     let v = c.work-main.result.0 in
     let end = c.close-core in
-    λ t n l opened run. end_does_some c.args.group c.args.main v back g.B.NodeRead.unchanged end.result.0 end.ensures.opened g.C.TreeCall.meaning g.B.NodeRead.contents g.J.Disk.is_known end.result.1 end.ensures.book end.ensures.journal c.requires.first end.ensures.sessions g.C.LineCall.made c.args.lines.now c.requires.sessions t n l run (c.work-main.ensures.stops t n l opened)
+    λ t n l opened run. end_does_some c.args.group c.args.main v back g.B.NodeRead.unchanged end.result.0 end.ensures.opened g.C.TreeCall.meaning g.B.NodeRead.contents g.J.Disk.is_known end.result.1 end.ensures.book end.ensures.journal c.requires.first end.ensures.sessions g.C.LineCall.made c.args.lines.now c.requires.lines.sessions t n l run (c.work-main.ensures.stops t n l opened)

@@ -123,7 +123,7 @@ run_workers-ports-requires-clause-one_port g c κs within =
     let ports = s.new.ports.items in
     let split : WasSplit told m made c.args.group.now c.args.main s.new.main s.new.ports.items = record { is_first = c.requires.first; same = s.ensures.main; own = s.ensures.own; fresh = s.ensures.fresh; given = s.ensures.given } in
     let old : c.from_vec.result ≡ s.new.ports.items ++ left_port s.new.main ∷ [] = search rules in
-    one_port told m made group first main ports split c.args.lines.now c.from_vec.result old (search rules) c.requires.sessions
+    one_port told m made group first main ports split c.args.lines.now c.from_vec.result old (search rules) c.requires.lines.sessions
 
 pub join_all-main-requires-clause-some : goal.join_all-main-requires-clause-some
 join_all-main-requires-clause-some g c =
