@@ -1,18 +1,16 @@
 //! The text of a whole script.
-ghost use Rattle.std.specs.Prelude.{◌≡◌, ◌+◌, ℕ, List, [], ◌∷◌, ◌++◌, length, flat_map, Ok, IfOk, IfErr, IsTrue, OnOk};
-ghost use Rattle.call_contract.specs.Books.{IsBookFrom};
+ghost use Rattle.std.specs.Prelude.{◌≡◌, ℕ, List, [], ◌∷◌, ◌++◌, length, flat_map, Ok, IfOk, IfErr, OnOk};
 ghost use Rattle.call_contract.specs.States.{start};
 ghost use Rattle.command_lines.specs.Replies.{reply_text};
 ghost use Rattle.command_lines.specs.declared.line_reply.LineReply.{LineReply};
-ghost use Rattle.journal.specs.Groups.{is_next};
-ghost use Rattle.journal.specs.Views.{TakesGroups};
 ghost use Rattle.node_seq.specs.Trees.{StandsFor};
 ghost use Rattle.shared_store.specs.Lists.{SessionsFit};
 ghost use Rattle.store_calls.specs.StoreCalls.{store_meaning, IsValidStoreCall};
 ghost use Rattle.tree_model.specs.Tree.{Tree};
 ghost use Rattle.workers_replies.specs.Shown.{lines_in, IsShownBy};
 ghost use Rattle.workers_script.specs.Entries.{commands_in, in_places};
-ghost use Rattle.workers_text.specs.Journals.{WroteAll, WroteFirst};
+ghost use Rattle.workers_text.specs.Cores.{HasBookFrom, IsFrom, MayBegin};
+ghost use Rattle.workers_text.specs.Journals.{WroteCommits};
 ghost use Rattle.workers_text.specs.Sessions.{DoesSome};
 ghost use Rattle.workers_text.specs.WorkersText.{asked_of, order_of};
 
@@ -105,14 +103,10 @@ pub fn answer_script<
     script: &Script,
     gate: &G,
 ) -> Answered<B, J>
-    requires book { core.book ≡ [] }
-    requires takes { TakesGroups journal × IsTrue (is_next journal.last (core.number + 1)) }
-    ensures opened { (result.core.opening ≡ core.opening) × (result.core.number ≡ core.number) × (result.core.limit ≡ core.limit) }
-    ensures base { B.unchanged core.base result.core.base }
-    ensures legal { (t : Tree) → StandsFor (B.contents core.opening) t → IsBookFrom IsValidStoreCall store_meaning t core.number core.limit result.core.book }
-    ensures sessions { SessionsFit result.core.book }
-    ensures wrote { WroteFirst store_meaning B.contents J.is_known journal 0 result.core result.journal }
-    ensures durable { IfOk result.text (λ _. WroteAll store_meaning B.contents J.is_known journal result.core result.journal) }
+    requires begin { MayBegin core journal }
+    ensures opened { IsFrom B.unchanged core result.core }
+    ensures book { HasBookFrom IsValidStoreCall store_meaning B.contents core result.core }
+    ensures written { WroteCommits store_meaning B.contents J.is_known journal result.text result.core result.journal }
     ensures text { IfOk result.text (λ text. (lines : List LineReply) × (text.items ≡ flat_map reply_text lines)
         × ((t : Tree) → StandsFor (B.contents core.opening) t
         → IsShownBy store_meaning t core.number core.limit result.core.book (lines_in script.now.entries) lines)) }

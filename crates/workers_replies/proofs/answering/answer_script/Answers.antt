@@ -21,13 +21,16 @@ pub text_of-text-requires-clause-all : goal.text_of-text-requires-clause-all
 text_of-text-requires-clause-all g c =
     subst (λ cs. IfOk c.run_lines-core.result.replies (λ rs. length rs ≡ length cs)) c.commands.ensures.commands c.run_lines-core.ensures.all
 
-pub returns-clause-durable : goal.returns-clause-durable
-returns-clause-durable g c =
+pub returns-clause-written : goal.returns-clause-written
+returns-clause-written g c =
     let run = c.run_lines-core in
-    rests c.text_of-text.result run.result.replies
-    (λ text given. text.items ≡ flat_map reply_text (in_places c.args.script.now.entries given ++ order_of run.result.core.book ∷ []))
-    (WroteAll store_meaning g.B.NodeRead.contents g.J.Disk.is_known c.args.journal run.result.core run.result.journal)
-    c.text_of-text.ensures run.ensures.durable
+    record {
+      wrote = run.ensures.written.wrote;
+      durable = rests c.text_of-text.result run.result.replies
+          (λ text given. text.items ≡ flat_map reply_text (in_places c.args.script.now.entries given ++ order_of run.result.core.book ∷ []))
+          (WroteAll store_meaning g.B.NodeRead.contents g.J.Disk.is_known c.args.journal run.result.core run.result.journal)
+          c.text_of-text.ensures run.ensures.written.durable;
+    }
 
 pub returns-clause-stops : goal.returns-clause-stops
 returns-clause-stops g c =
@@ -61,7 +64,7 @@ returns-clause-text g c =
       in_places es given ++ order_of book ∷ [],
       is,
       λ t stands.
-          shown store_meaning t core.number core.limit book es (run.ensures.legal t stands).legal given (all ∙ ap length same)
+          shown store_meaning t core.number core.limit book es (run.ensures.book.legal t stands).legal given (all ∙ ap length same)
           (λ s. subst (λ cs. Does store_meaning s (start t core.number core.limit) book (own_printed (λ call. call) s cs given)) same (does t stands s)),
     ))
 
