@@ -23,6 +23,7 @@ use Rattle.command_lines.specs.declared.line_reply.LineReply.{LineReply}
 use Rattle.tx_core.specs.Cores.{CoreView, opened_over}
 use Rattle.store_calls.specs.StoreCalls.{IsValidStoreCall, store_meaning}
 use Rattle.workers_replies.specs.Shown.{IsShownBy}
+use Rattle.workers_text.specs.Cores.{IsFrom}
 use Rattle.workers_text.specs.Journals.{WroteAll, WroteFirst}
 use Rattle.workers_text.specs.Sessions.{BreaksNext, Does, DoesSome, Ends, Printed, doings_of}
 use Rattle.workers_text.specs.WorkersText.{HasReplies, Line, asked, asked_of, bad, printed_of}
@@ -43,10 +44,6 @@ use Rattle.xtc.proofs.WorkersCommits.{FirstsStand, written_leaves}
 -- a core that was opened is new
 pub new_core : {B : Type 0} (contents : B → Option Entries) (base : B) (n : ℕ) (core : CoreView StoreCall B) → core ≡ opened_over base (contents base) n tx_limit → IsNew contents core
 new_core contents base n core is = subst (IsNew contents) (sym is) refl
-
--- a core has the opening, the number and the limit of another
-abbrev pub IsSameOpening : {B : Type 0} → CoreView StoreCall B → CoreView StoreCall B → Type 0
-IsSameOpening core first = (core.opening ≡ first.opening) × (core.number ≡ first.number) × (core.limit ≡ first.limit)
 
 -- ---- lines that were done, or begun
 
@@ -124,18 +121,18 @@ known_unlost some false known lost = absurd cc
 
 -- ---- what they did to a core
 
-module _ {P : Type 0} (is_known : Bool) (history : P → History) (faults : P → ℕ) (first core : CoreView StoreCall (Base P)) (is : IsNew (contents_of is_known history) first) (same : IsSameOpening core first)
-    (unchanged : IsUnchanged is_known history faults first.base core.base) (journal : JournalView) (checkpoints : Checkpoints P) where
+module _ {P : Type 0} (is_known : Bool) (history : P → History) (faults : P → ℕ) (first core : CoreView StoreCall (Base P)) (is : IsNew (contents_of is_known history) first)
+    (from : IsFrom (IsUnchanged is_known history faults) first core) (journal : JournalView) (checkpoints : Checkpoints P) where
   opening_is : core.opening ≡ first.base
-  opening_is = same.0 ∙ ap (λ (v : CoreView StoreCall (Base P)). v.opening) is
+  opening_is = from.opening ∙ ap (λ (v : CoreView StoreCall (Base P)). v.opening) is
 
   begun_still : IsBegun is_known history first.base first.number journal checkpoints → IsBegun is_known history core.base core.number journal checkpoints
   begun_still begun = record {
-    paged = paged_still is_known history faults first.base core.base unchanged begun.paged;
-    synced = λ known. subst IsAllSynced (sym (file_still is_known history faults first.base core.base None unchanged known)) (begun.synced known);
-    takes = subst (TakesBehind journal) (sym same.1) begun.takes;
+    paged = paged_still is_known history faults first.base core.base from.base begun.paged;
+    synced = λ known. subst IsAllSynced (sym (file_still is_known history faults first.base core.base None from.base known)) (begun.synced known);
+    takes = subst (TakesBehind journal) (sym from.number) begun.takes;
     inside = begun.inside;
-    opened = begun.opened ∙ sym same.1;
+    opened = begun.opened ∙ sym from.number;
   }
 
   -- the pages are in the base
@@ -157,7 +154,7 @@ module _ {P : Type 0} (is_known : Bool) (history : P → History) (faults : P �
 
   -- the files are as they were
   pub files_still : IsTrue is_known → files_beside history journal core.base checkpoints ≡ begin
-  files_still known = λ i. pair_of journal.history (file_still is_known history faults first.base core.base checkpoints.pages unchanged known i)
+  files_still known = λ i. pair_of journal.history (file_still is_known history faults first.base core.base checkpoints.pages from.base known i)
 
   module _ (known : IsTrue is_known) (t : Tree) (stands : StandsFor (contents_of is_known history first.base) t) (files : StandSettled begin t first.number) (lines : List (Line StoreCall))
       (legal : (u : Tree) → StandsFor (contents_of is_known history first.opening) u → IsBookFrom IsValidStoreCall store_meaning u first.number first.limit core.book) where
@@ -174,8 +171,8 @@ module _ {P : Type 0} (is_known : Bool) (history : P → History) (faults : P �
     pub of_commits : (Q : Type 0) → (StandsFor (contents_of is_known history core.opening) t → IsBookFrom IsValidStoreCall store_meaning t core.number core.limit core.book → StandSettled now t core.number → Q) → Q
     of_commits Q leads = leads
         (subst (λ (b : Base P). StandsFor (contents_of is_known history b) t) (sym opening_is) stands)
-        (subst (λ (x : ℕ × ℕ). IsBookFrom IsValidStoreCall store_meaning t x.0 x.1 core.book) (λ i. (sym same.1 i, sym same.2 i)) (legal t first_stands))
-        (subst (λ (x : Pair × ℕ). StandSettled x.0 t x.1) (λ i. (sym (files_still known) i, sym same.1 i)) files)
+        (subst (λ (x : ℕ × ℕ). IsBookFrom IsValidStoreCall store_meaning t x.0 x.1 core.book) (λ i. (sym from.number i, sym from.limit i)) (legal t first_stands))
+        (subst (λ (x : Pair × ℕ). StandSettled x.0 t x.1) (λ i. (sym (files_still known) i, sym from.number i)) files)
 
     -- of the commits of its book the first ones are in the journal
     pub first_left : (law : FirstsStand) (journal_known : Bool) → IsTrue journal_known → ReadsGroups journal_known journal → IsBegun is_known history first.base first.number journal checkpoints → (later : JournalView)
@@ -190,7 +187,7 @@ module _ {P : Type 0} (is_known : Bool) (history : P → History) (faults : P �
       legal_here = subst (λ (limit : ℕ). IsBookFrom IsValidStoreCall store_meaning t first.number limit core.book) limit_is (legal t first_stands)
 
       leaves_here : LeavesCommits t first.number checkpoints.every core.book begin new
-      leaves_here = subst (λ (x : Pair × ℕ). LeavesCommits t x.1 checkpoints.every core.book x.0 new) (λ i. (files_still known i, same.1 i)) leaves
+      leaves_here = subst (λ (x : Pair × ℕ). LeavesCommits t x.1 checkpoints.every core.book x.0 new) (λ i. (files_still known i, from.number i)) leaves
 
       pub worked_some : ((u : Tree) → StandsFor (contents_of is_known history first.opening) u → (s : ℕ) → DoesSome store_meaning s (start u first.number first.limit) core.book (asked_of s lines))
           → WorkedSome t first.number checkpoints.every lines begin new
@@ -210,7 +207,7 @@ module _ {P : Type 0} (is_known : Bool) (history : P → History) (faults : P �
         shows = subst (λ (limit : ℕ). IsShownBy store_meaning t first.number limit core.book lines text) limit_is (shows t first_stands);
         bytes_are = shown;
         leaves = leaves_here;
-        all = subst (λ (n : ℕ). HasCommits t n checkpoints.every core.book new) same.1 all;
+        all = subst (λ (n : ℕ). HasCommits t n checkpoints.every core.book new) from.number all;
       }
 
     -- they did some of the lines

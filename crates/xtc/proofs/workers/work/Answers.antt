@@ -23,11 +23,12 @@ use Rattle.xtc.specs.inside.Working.{HasCommits, IsWorkersStop, LeavesCommits, M
 use Rattle.xtc.proofs.WorkedScripts.{base_rose, both_same, did_some, ended_done, journal_rose, known_unlost, may_end, of_commits, of_ok, pages_still, some_done}
 use Rattle.xtc.proofs.workers.work.Goals as goal
 
-pub answer_script-core-requires-clause-book : goal.answer_script-core-requires-clause-book
-answer_script-core-requires-clause-book g c = λ κs within. ap (λ (v : CoreView StoreCall (Base g.row.P.Denot)). v.book) c.requires.opened
-
-pub answer_script-core-requires-clause-takes : goal.answer_script-core-requires-clause-takes
-answer_script-core-requires-clause-takes g c = λ κs within. (c.requires.begun.takes.usable, c.requires.begun.takes.next)
+pub answer_script-core-requires-clause-begin : goal.answer_script-core-requires-clause-begin
+answer_script-core-requires-clause-begin g c = λ κs within. record {
+  book = ap (λ (v : CoreView StoreCall (Base g.row.P.Denot)). v.book) c.requires.opened;
+  takes = c.requires.begun.takes.usable;
+  next = c.requires.begun.takes.next;
+}
 
 -- ---- a fault of the pages was counted
 
@@ -42,8 +43,8 @@ returns-then-pages_now-pages_before-clause-done g c = λ kj kp t is files.
     let did = did_some a.result.text (λ (u : Tree). StandsFor (contents_of known history first.opening) u) first.number first.limit a.result.core.book lines (λ x ls. x.items ≡ flat_map reply_text ls) a.ensures.text a.ensures.stops in
     subst (λ (r : WorkedOver _ g.row.P.Denot). ScriptDone t first.number c.args.checkpoints.every lines (files_beside history c.args.journal first.base c.args.checkpoints)
     (files_beside history r.journal r.base r.checkpoints) (λ text. text.items) r.text) (sym c.without_text.ensures)
-    (some_done known history g.P.Disk.faults first a.result.core c.requires.opened a.ensures.opened a.ensures.base c.args.journal c.args.checkpoints kp t is files lines a.ensures.legal
-    c.first_commits_stand.ensures g.J.Disk.is_known kj reads c.requires.begun a.result.journal a.ensures.wrote did)
+    (some_done known history g.P.Disk.faults first a.result.core c.requires.opened a.ensures.opened c.args.journal c.args.checkpoints kp t is files lines a.ensures.book.legal
+    c.first_commits_stand.ensures g.J.Disk.is_known kj reads c.requires.begun a.result.journal a.ensures.written.wrote did)
 
 pub returns-then-pages_now-pages_before-clause-stops : goal.returns-then-pages_now-pages_before-clause-stops
 returns-then-pages_now-pages_before-clause-stops g c = subst (λ (r : WorkedOver _ g.row.P.Denot). IfErr r.text (IsWorkersStop (may_lose (Some workers) c.args.checkpoints.every g.P.Disk.is_known))) (sym c.without_text.ensures) tt
@@ -52,15 +53,15 @@ pub returns-then-pages_now-pages_before-clause-pages : goal.returns-then-pages_n
 returns-then-pages_now-pages_before-clause-pages g c =
     let a = c.answer_script-core in
     subst (λ (r : WorkedOver _ g.row.P.Denot). HasPages r.base r.checkpoints.pages) (sym c.without_text.ensures)
-    (pages_still g.P.Disk.is_known g.P.Disk.history g.P.Disk.faults c.args.core a.result.core c.requires.opened a.ensures.opened a.ensures.base c.args.journal c.args.checkpoints c.requires.begun)
+    (pages_still g.P.Disk.is_known g.P.Disk.history g.P.Disk.faults c.args.core a.result.core c.requires.opened a.ensures.opened c.args.journal c.args.checkpoints c.requires.begun)
 
 pub returns-then-pages_now-pages_before-clause-counts : goal.returns-then-pages_now-pages_before-clause-counts
 returns-then-pages_now-pages_before-clause-counts g c =
     let a = c.answer_script-core in
     let faults = g.P.Disk.faults in
     subst (λ (r : WorkedOver _ g.row.P.Denot). DisksCountedWhere (r.text ≡ Err DiskFault) (counts_beside faults c.args.journal c.args.core.base c.args.checkpoints) (counts_beside faults r.journal r.base r.checkpoints)) (sym c.without_text.ensures)
-    (base_rose faults c.args.journal a.result.journal c.args.checkpoints c.requires.begun.inside c.args.core.base a.result.core.base refl a.ensures.wrote.faults
-    (unchanged_count g.P.Disk.is_known g.P.Disk.history faults c.args.core.base a.result.core.base a.ensures.base) (λ e. c.if-pages_now-pages_before.true (c.faults-pages_now.ensures ∙ e ∙ sym c.faults-pages_before.ensures)))
+    (base_rose faults c.args.journal a.result.journal c.args.checkpoints c.requires.begun.inside c.args.core.base a.result.core.base refl a.ensures.written.wrote.faults
+    (unchanged_count g.P.Disk.is_known g.P.Disk.history faults c.args.core.base a.result.core.base a.ensures.opened.base) (λ e. c.if-pages_now-pages_before.true (c.faults-pages_now.ensures ∙ e ∙ sym c.faults-pages_before.ensures)))
 
 -- ---- a fault of the journal was
 
@@ -75,8 +76,8 @@ returns-then-journal_now-journal_before-clause-done g c = λ kj kp t is files.
     let did = did_some a.result.text (λ (u : Tree). StandsFor (contents_of known history first.opening) u) first.number first.limit a.result.core.book lines (λ x ls. x.items ≡ flat_map reply_text ls) a.ensures.text a.ensures.stops in
     subst (λ (r : WorkedOver _ g.row.P.Denot). ScriptDone t first.number c.args.checkpoints.every lines (files_beside history c.args.journal first.base c.args.checkpoints)
     (files_beside history r.journal r.base r.checkpoints) (λ text. text.items) r.text) (sym c.without_text-then-journal_now-journal_before.ensures)
-    (some_done known history g.P.Disk.faults first a.result.core c.requires.opened a.ensures.opened a.ensures.base c.args.journal c.args.checkpoints kp t is files lines a.ensures.legal
-    c.first_commits_stand.ensures g.J.Disk.is_known kj reads c.requires.begun a.result.journal a.ensures.wrote did)
+    (some_done known history g.P.Disk.faults first a.result.core c.requires.opened a.ensures.opened c.args.journal c.args.checkpoints kp t is files lines a.ensures.book.legal
+    c.first_commits_stand.ensures g.J.Disk.is_known kj reads c.requires.begun a.result.journal a.ensures.written.wrote did)
 
 pub returns-then-journal_now-journal_before-clause-stops : goal.returns-then-journal_now-journal_before-clause-stops
 returns-then-journal_now-journal_before-clause-stops g c = subst (λ (r : WorkedOver _ g.row.P.Denot). IfErr r.text (IsWorkersStop (may_lose (Some workers) c.args.checkpoints.every g.P.Disk.is_known))) (sym c.without_text-then-journal_now-journal_before.ensures) tt
@@ -85,16 +86,16 @@ pub returns-then-journal_now-journal_before-clause-pages : goal.returns-then-jou
 returns-then-journal_now-journal_before-clause-pages g c =
     let a = c.answer_script-core in
     subst (λ (r : WorkedOver _ g.row.P.Denot). HasPages r.base r.checkpoints.pages) (sym c.without_text-then-journal_now-journal_before.ensures)
-    (pages_still g.P.Disk.is_known g.P.Disk.history g.P.Disk.faults c.args.core a.result.core c.requires.opened a.ensures.opened a.ensures.base c.args.journal c.args.checkpoints c.requires.begun)
+    (pages_still g.P.Disk.is_known g.P.Disk.history g.P.Disk.faults c.args.core a.result.core c.requires.opened a.ensures.opened c.args.journal c.args.checkpoints c.requires.begun)
 
 pub returns-then-journal_now-journal_before-clause-counts : goal.returns-then-journal_now-journal_before-clause-counts
 returns-then-journal_now-journal_before-clause-counts g c =
     let a = c.answer_script-core in
     let faults = g.P.Disk.faults in
     subst (λ (r : WorkedOver _ g.row.P.Denot). DisksCountedWhere (r.text ≡ Err DiskFault) (counts_beside faults c.args.journal c.args.core.base c.args.checkpoints) (counts_beside faults r.journal r.base r.checkpoints)) (sym c.without_text-then-journal_now-journal_before.ensures)
-    (journal_rose faults c.args.journal a.result.journal c.args.checkpoints c.requires.begun.inside c.args.core.base a.result.core.base refl a.ensures.wrote.faults
+    (journal_rose faults c.args.journal a.result.journal c.args.checkpoints c.requires.begun.inside c.args.core.base a.result.core.base refl a.ensures.written.wrote.faults
     (λ e. c.if-journal_now-journal_before.true (c.faults-journal_now.ensures.count ∙ e ∙ sym c.faults-journal_before.ensures.count))
-    (unchanged_count g.P.Disk.is_known g.P.Disk.history faults c.args.core.base a.result.core.base a.ensures.base))
+    (unchanged_count g.P.Disk.is_known g.P.Disk.history faults c.args.core.base a.result.core.base a.ensures.opened.base))
 
 -- ---- memory was wanting
 
@@ -109,8 +110,8 @@ returns-in-Err-clause-done g c = λ kj kp t is files.
     let did = did_some a.result.text (λ (u : Tree). StandsFor (contents_of known history first.opening) u) first.number first.limit a.result.core.book lines (λ x ls. x.items ≡ flat_map reply_text ls) a.ensures.text a.ensures.stops in
     subst (λ (r : WorkedOver _ g.row.P.Denot). ScriptDone t first.number c.args.checkpoints.every lines (files_beside history c.args.journal first.base c.args.checkpoints)
     (files_beside history r.journal r.base r.checkpoints) (λ text. text.items) r.text) (sym c.without_text-in-Err.ensures)
-    (some_done known history g.P.Disk.faults first a.result.core c.requires.opened a.ensures.opened a.ensures.base c.args.journal c.args.checkpoints kp t is files lines a.ensures.legal
-    c.first_commits_stand.ensures g.J.Disk.is_known kj reads c.requires.begun a.result.journal a.ensures.wrote did)
+    (some_done known history g.P.Disk.faults first a.result.core c.requires.opened a.ensures.opened c.args.journal c.args.checkpoints kp t is files lines a.ensures.book.legal
+    c.first_commits_stand.ensures g.J.Disk.is_known kj reads c.requires.begun a.result.journal a.ensures.written.wrote did)
 
 pub returns-in-Err-clause-stops : goal.returns-in-Err-clause-stops
 returns-in-Err-clause-stops g c = subst (λ (r : WorkedOver _ g.row.P.Denot). IfErr r.text (IsWorkersStop (may_lose (Some workers) c.args.checkpoints.every g.P.Disk.is_known))) (sym c.without_text-in-Err.ensures) tt
@@ -119,7 +120,7 @@ pub returns-in-Err-clause-pages : goal.returns-in-Err-clause-pages
 returns-in-Err-clause-pages g c =
     let a = c.answer_script-core in
     subst (λ (r : WorkedOver _ g.row.P.Denot). HasPages r.base r.checkpoints.pages) (sym c.without_text-in-Err.ensures)
-    (pages_still g.P.Disk.is_known g.P.Disk.history g.P.Disk.faults c.args.core a.result.core c.requires.opened a.ensures.opened a.ensures.base c.args.journal c.args.checkpoints c.requires.begun)
+    (pages_still g.P.Disk.is_known g.P.Disk.history g.P.Disk.faults c.args.core a.result.core c.requires.opened a.ensures.opened c.args.journal c.args.checkpoints c.requires.begun)
 
 pub returns-in-Err-clause-counts : goal.returns-in-Err-clause-counts
 returns-in-Err-clause-counts g c =
@@ -138,9 +139,9 @@ returns-in-Err-clause-counts g c =
 pub end_all-requires-clause-may : goal.end_all-requires-clause-may
 end_all-requires-clause-may g c =
     let a = c.answer_script-core in
-    let wrote = of_ok a.result.text c.in-Ok.text _ c.in-Ok.is a.ensures.durable in
+    let wrote = of_ok a.result.text c.in-Ok.text _ c.in-Ok.is a.ensures.written.durable in
     subst (λ (j : JournalView). MayEnd g.J.Disk.is_known g.P.Disk.is_known g.P.Disk.history j a.result.core a.result.journal c.args.checkpoints) (sym c.of-first.ensures)
-    (may_end g.P.Disk.is_known g.P.Disk.history g.P.Disk.faults c.args.core a.result.core c.requires.opened a.ensures.opened a.ensures.base c.args.journal c.args.checkpoints g.J.Disk.is_known a.result.journal c.requires.begun c.requires.tree wrote)
+    (may_end g.P.Disk.is_known g.P.Disk.history g.P.Disk.faults c.args.core a.result.core c.requires.opened a.ensures.opened c.args.journal c.args.checkpoints g.J.Disk.is_known a.result.journal c.requires.begun c.requires.tree wrote)
 
 pub end_all-requires-clause-reads : goal.end_all-requires-clause-reads
 end_all-requires-clause-reads g c =
@@ -159,11 +160,11 @@ returns-in-Ok-clause-done g c = λ kj kp t is files.
     let lines = lines_in c.args.script.now.entries in
     let shown = of_ok a.result.text c.in-Ok.text _ c.in-Ok.is a.ensures.text in
     let new = files_beside history c.end_all.result.journal c.end_all.result.base c.end_all.result.checkpoints in
-    let left = of_commits known history g.P.Disk.faults first core c.requires.opened a.ensures.opened a.ensures.base c.args.journal c.args.checkpoints kp t is files lines a.ensures.legal _
+    let left = of_commits known history g.P.Disk.faults first core c.requires.opened a.ensures.opened c.args.journal c.args.checkpoints kp t is files lines a.ensures.book.legal _
     (subst (λ (j : JournalView). StandsFor (contents_of known history core.opening) t → IsBookFrom IsValidStoreCall store_meaning t core.number core.limit core.book
     → StandSettled (files_beside history j core.base c.args.checkpoints) t core.number
     → LeavesCommits t core.number every core.book (files_beside history j core.base c.args.checkpoints) new × OnOk r.text (HasCommits t core.number every core.book new)) c.of-first.ensures (e.leaves kj kp t)) in
-    ended_done known history g.P.Disk.faults first core c.requires.opened a.ensures.opened a.ensures.base c.args.journal c.args.checkpoints kp t is files lines a.ensures.legal
+    ended_done known history g.P.Disk.faults first core c.requires.opened a.ensures.opened c.args.journal c.args.checkpoints kp t is files lines a.ensures.book.legal
     r.text c.in-Ok.text (λ (text : Vec ℕ Global). text.items) (may_lose (Some workers) every known) (known_unlost (is_positive every) known kp) e.stops e.text new left shown.0 shown.2 shown.1
 
 pub returns-in-Ok-clause-counts : goal.returns-in-Ok-clause-counts
