@@ -1,5 +1,6 @@
 """The databases that tools/bench sets beside the program, each where it is there: SQLite by Python's module sqlite3, LMDB by ctypes, and durable
-commits by threads of SQLite, LMDB, RocksDB and PostgreSQL by a small program in C, which `cc` makes in a temporary folder.
+commits by threads of SQLite, LMDB, RocksDB and PostgreSQL, and rows of documents in SQLite and LMDB, by small programs in C, which `cc` makes in a
+temporary folder.
 
 What isn't on the machine is left out, with a line. On Debian: liblmdb-dev, librocksdb-dev, libsqlite3-dev, libpq-dev and postgresql.
 """
@@ -371,6 +372,139 @@ COMMITTERS = {
     "RocksDB": ("ROCKSDB", ["-lrocksdb"]),
     "PostgreSQL": ("POSTGRESQL", ["-I/usr/include/postgresql", "-lpq"]),
 }
+
+
+# ---- the rows of a document, by one thread
+
+ROWS = r"""
+/* ROWS ACT COUNT ENTRIES PLACE: an act over rows of keys and records; prints the processor's seconds for it.
+   ENTRIES has each entry by rising keys: two bytes of length and the key, the same for the record. */
+#include <stdio.h>
+#include <stdlib.h>
+#include <string.h>
+#include <time.h>
+#include <unistd.h>
+
+static void need(int it, const char *what) { if (!it) { fprintf(stderr, "%s\n", what); exit(1); } }
+
+typedef struct { int key_size, size; const char *key, *record; } Entry;
+static Entry *entries; static int count;
+
+static void read_entries(const char *name) {
+    FILE *file = fopen(name, "rb"); need(file != NULL, "entries");
+    fseek(file, 0, SEEK_END); long size = ftell(file); rewind(file);
+    unsigned char *at = malloc(size + 4), *end = at + size;
+    need(fread(at, 1, size, file) == (size_t)size, "entries");
+    entries = malloc(sizeof *entries * (size / 4 + 1));
+    while (at < end) {
+        Entry *it = &entries[count++];
+        it->key_size = at[0] * 256 + at[1]; it->key = (char *)at + 2; at += 2 + it->key_size;
+        it->size = at[0] * 256 + at[1]; it->record = (char *)at + 2; at += 2 + it->size;
+    }
+}
+
+#if defined(WITH_SQLITE)
+#include <sqlite3.h>
+static sqlite3 *db; static sqlite3_stmt *put_row, *all_rows, *next_row;
+static void run(const char *words) { need(sqlite3_exec(db, words, 0, 0, 0) == SQLITE_OK, words); }
+static void prepare(const char *words, sqlite3_stmt **it) { need(sqlite3_prepare_v2(db, words, -1, it, 0) == SQLITE_OK, words); }
+static void opened(const char *place, int durable) {
+    need(sqlite3_open(place, &db) == SQLITE_OK, "open");
+    run("pragma page_size = 8192"); run("pragma journal_mode = wal"); run(durable ? "pragma synchronous = full" : "pragma synchronous = off");
+    run("create table if not exists entries (key blob primary key, record blob) without rowid");
+    prepare("insert or replace into entries values (?, ?)", &put_row);
+    prepare("select key, record from entries order by key", &all_rows);
+    prepare("select key from entries where key > ? order by key limit 1", &next_row);
+}
+static void begin(void) { run("begin"); }
+static void commit(void) { run("commit"); }
+static void put(const Entry *it) {
+    sqlite3_bind_blob(put_row, 1, it->key, it->key_size, SQLITE_STATIC); sqlite3_bind_blob(put_row, 2, it->record, it->size, SQLITE_STATIC);
+    need(sqlite3_step(put_row) == SQLITE_DONE, "put"); sqlite3_reset(put_row);
+}
+static long scan(FILE *out) {
+    long rows = 0;
+    while (sqlite3_step(all_rows) == SQLITE_ROW) { fwrite(sqlite3_column_blob(all_rows, 1), 1, sqlite3_column_bytes(all_rows, 1), out); rows++; }
+    return rows;
+}
+static int next(const Entry *it) {
+    sqlite3_bind_blob(next_row, 1, it->key, it->key_size, SQLITE_STATIC);
+    int found = sqlite3_step(next_row) == SQLITE_ROW && sqlite3_column_bytes(next_row, 0) > 0;
+    sqlite3_reset(next_row); return found;
+}
+static void closed(void) { sqlite3_finalize(put_row); sqlite3_finalize(all_rows); sqlite3_finalize(next_row); sqlite3_close(db); }
+#elif defined(WITH_LMDB)
+#include <lmdb.h>
+static MDB_env *env; static MDB_txn *txn; static MDB_dbi rows_of; static MDB_cursor *cursor;
+static void opened(const char *place, int durable) {
+    need(!mdb_env_create(&env) && !mdb_env_set_mapsize(env, 1L << 30) && !mdb_env_open(env, place, MDB_NOSUBDIR | (durable ? 0 : MDB_NOSYNC), 0644), "open");
+}
+static void begin(void) { need(!mdb_txn_begin(env, NULL, 0, &txn) && !mdb_dbi_open(txn, NULL, 0, &rows_of), "begin"); cursor = NULL; }
+static void commit(void) { if (cursor) mdb_cursor_close(cursor); cursor = NULL; need(!mdb_txn_commit(txn), "commit"); }
+static void put(const Entry *it) {
+    MDB_val key = {it->key_size, (void *)it->key}, record = {it->size, (void *)it->record};
+    need(!mdb_put(txn, rows_of, &key, &record, 0), "put");
+}
+static long scan(FILE *out) {
+    long rows = 0; MDB_val key, record; begin(); need(!mdb_cursor_open(txn, rows_of, &cursor), "cursor");
+    for (int it = mdb_cursor_get(cursor, &key, &record, MDB_FIRST); !it; it = mdb_cursor_get(cursor, &key, &record, MDB_NEXT)) { fwrite(record.mv_data, 1, record.mv_size, out); rows++; }
+    commit(); return rows;
+}
+static int next(const Entry *it) {
+    MDB_val key = {it->key_size, (void *)it->key}, record;
+    if (!cursor) need(!mdb_cursor_open(txn, rows_of, &cursor), "cursor");
+    return !mdb_cursor_get(cursor, &key, &record, MDB_SET_RANGE) && !mdb_cursor_get(cursor, &key, &record, MDB_NEXT) && key.mv_size > 0;
+}
+static void closed(void) { mdb_env_close(env); }
+#endif
+
+static double now(void) { struct timespec it; clock_gettime(CLOCK_PROCESS_CPUTIME_ID, &it); return it.tv_sec + it.tv_nsec / 1e9; }
+
+int main(int argc, char **argv) {
+    need(argc == 5, "usage");
+    const char *act = argv[1]; int many = atoi(argv[2]); read_entries(argv[3]);
+    double began = now();
+    opened(argv[4], strcmp(act, "commits"));
+    if (!strcmp(act, "put")) { begin(); for (int it = 0; it < count; it++) put(&entries[it]); commit(); }
+    if (!strcmp(act, "get")) { FILE *out = fopen("/dev/null", "wb"); need(scan(out) == count, "rows"); fclose(out); }
+    if (!strcmp(act, "commits")) for (int it = 0; it < many; it++) { begin(); for (int row = 0; row < 6; row++) put(&entries[(6 * it + row) % count]); commit(); }
+    if (!strcmp(act, "steps")) {
+        unsigned long seed = 7; long found = 0; begin(); began = now();
+        for (int it = 0; it < many; it++) { seed = seed * 6364136223846793005UL + 1442695040888963407UL; found += next(&entries[(seed >> 33) % (count - 1)]); }
+        need(found == many, "steps"); printf("%.6f\n", now() - began); return 0;
+    }
+    closed();
+    printf("%.6f\n", now() - began);
+    return 0;
+}
+"""
+
+
+def acts_on_rows(folder, entries, acts):
+    """For each database that is there its name and, for each act and its number, the processor's seconds, the least of three: `put` of all entries in
+    one durable transaction, `get` of all in order, `commits` of six rows each without syncs, and `steps`, each to the next key above one by chance."""
+    source, given = os.path.join(folder, "rows.c"), os.path.join(folder, "rows.entries")
+    with open(source, "w", encoding="ascii") as file:
+        file.write(ROWS)
+    with open(given, "wb") as file:
+        for part in (part for entry in entries for part in entry):
+            file.write(len(part).to_bytes(2, "big") + part)
+    found = []
+    for name, (word, libraries) in COMMITTERS.items():
+        if name not in ("SQLite", "LMDB"):
+            continue
+        program = os.path.join(folder, "rows-" + word.lower())
+        if subprocess.run(["cc", "-O2", "-o", program, source, "-DWITH_" + word, *libraries], stderr=subprocess.DEVNULL).returncode:
+            print("left out: %s: its library for C isn't there" % name)
+            continue
+        place, least = os.path.join(folder, "rows-of-" + word.lower()), {}
+        for run in range(3):
+            for act, number in acts:
+                own = "%s-%s-%d" % (place, "put" if act in ("get", "steps") else act, run)  # these read what was put
+                took = float(subprocess.run([program, act, str(number), given, own], check=True, capture_output=True).stdout)
+                least[act] = min(took, least.get(act, took))
+        found.append((name, least))
+    return found
 
 
 class Counted:
