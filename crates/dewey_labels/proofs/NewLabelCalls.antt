@@ -4,9 +4,9 @@ use Rattle.std.specs.Cmp.Lexicographic.{slice_cmp}
 use Rattle.std.specs.Option.{ok_or}
 use Rattle.dewey_labels.specs.Labels.{Label, is_child, is_label, is_within, IsLabel}
 use Rattle.dewey_labels.specs.Sides.{rest}
-use Rattle.dewey_labels.specs.NewLabels.{alone, after, before, between, new_divisions}
+use Rattle.dewey_labels.specs.NewLabels.{alone, after, before, between, new_divisions, AreNeighbours}
 use Rattle.dewey_labels.proofs.Labels.{child_label}
-use Rattle.dewey_labels.proofs.NewLabels.{AreNeighbours, new_child, new_behind, new_ahead}
+use Rattle.dewey_labels.proofs.NewLabels.{new_child, new_behind, new_ahead}
 use Rattle.dewey_labels.proofs.Limits.{within_of_test, test_of_within}
 
 -- the new divisions as each call puts them together, from the parent's and the neighbours' codes as it read them

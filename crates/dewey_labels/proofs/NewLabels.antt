@@ -4,7 +4,7 @@ use Rattle.std.specs.Cmp.Lexicographic.{slice_cmp}
 use Rattle.std.specs.List.{AllByRecursion}
 use Rattle.dewey_labels.specs.Labels.{Label, greatest, is_child, is_label, Within, is_within, IsLabel}
 use Rattle.dewey_labels.specs.Sides.{right, side, rest}
-use Rattle.dewey_labels.specs.NewLabels.{alone, after, before, between, new_divisions, new_label}
+use Rattle.dewey_labels.specs.NewLabels.{alone, after, before, between, new_divisions, new_label, AreNeighbours}
 use Rattle.dewey_labels.specs.inside.Codes.{IsCode}
 use Rattle.dewey_labels.proofs.Sides.{cmp_append}
 use Rattle.dewey_labels.proofs.Codes.{is_child_append, child_is, child_code, children_right}
@@ -12,13 +12,6 @@ use Rattle.dewey_labels.proofs.Labels.{child_label}
 use Rattle.dewey_labels.proofs.Limits.{within_of_test, test_of_within}
 use Rattle.dewey_labels.proofs.Fill.{all_behind}
 use Rattle.dewey_labels.proofs.NewCodes.{after_code, after_behind, before_code, before_ahead, LiesBetween, between_lies}
-
--- neighbours that a new child of p may have, where they are there: children of p, the left one before the right one
-abbrev pub AreNeighbours : Label → Option Label → Option Label → Type 0
-AreNeighbours p None None = Unit {0}
-AreNeighbours p (Some l) None = IsTrue (is_child p l)
-AreNeighbours p None (Some r) = IsTrue (is_child p r)
-AreNeighbours p (Some l) (Some r) = IsTrue (is_child p l) × IsTrue (is_child p r) × (slice_cmp nat_cmp l r ≡ Less)
 
 -- the order of two children of p is that of their codes
 pub codes_less : (p l r : Label) → is_child p l ≡ true → is_child p r ≡ true → slice_cmp nat_cmp l r ≡ Less → slice_cmp nat_cmp (rest p l) (rest p r) ≡ Less

@@ -1,7 +1,10 @@
 -- The label of a new node, from its parent and its neighbours (docs/PROFILE.md, "New labels").
 -- l is the code of the neighbour to the left, r that of the one to the right.
-use Rattle.std.specs.Prelude.{ℕ, ◌+◌, ◌-◌, ◌&&◌, ◌==◌, nat_le, nat_lt, if◌then◌else◌, List, [], ◌∷◌, ◌++◌, Option, Some, None, option_map}
-use Rattle.dewey_labels.specs.Labels.{Label, is_odd, is_within}
+use Rattle.std.specs.Prelude.{◌≡◌, ℕ, ◌+◌, ◌-◌, ◌&&◌, ◌==◌, nat_le, nat_lt, if◌then◌else◌, List, [], ◌∷◌, ◌++◌, Option, Some, None, option_map, IsTrue}
+use Rattle.std.specs.declared.cmp.Ordering.TheVariants.{Less}
+use Rattle.std.specs.Ordering.{nat_cmp}
+use Rattle.std.specs.Cmp.Lexicographic.{slice_cmp}
+use Rattle.dewey_labels.specs.Labels.{Label, is_child, is_odd, is_within}
 use Rattle.dewey_labels.specs.Sides.{rest}
 
 -- the odd division with which the children of a node are begun: there is room on both sides of it
@@ -55,3 +58,10 @@ new_divisions p left right = p ++ new_code (option_map (rest p) left) (option_ma
 -- the label of a new child of p between the labels of its neighbours; None where it would pass a limit
 abbrev pub new_label : Label → Option Label → Option Label → Option Label
 new_label p left right = if is_within (new_divisions p left right) then Some (new_divisions p left right) else None
+
+-- the neighbours of a new child of p: children of p, the left one before the right one; each of them may be missing
+abbrev pub AreNeighbours : Label → Option Label → Option Label → Type 0
+AreNeighbours p None None = Unit {0}
+AreNeighbours p (Some l) None = IsTrue (is_child p l)
+AreNeighbours p None (Some r) = IsTrue (is_child p r)
+AreNeighbours p (Some l) (Some r) = IsTrue (is_child p l) × IsTrue (is_child p r) × (slice_cmp nat_cmp l r ≡ Less)

@@ -5,7 +5,7 @@ ghost use Rattle.std.specs.Ordering.{nat_cmp};
 ghost use Rattle.std.specs.Cmp.Lexicographic.{slice_cmp};
 ghost use Rattle.dewey_labels.specs.Labels.{greatest, is_child, is_label, is_within, IsLabel};
 ghost use Rattle.dewey_labels.specs.Sides.{rest as rest_behind};
-ghost use Rattle.dewey_labels.specs.NewLabels.{odd_above as least_odd_above, after, before, between, new_label};
+ghost use Rattle.dewey_labels.specs.NewLabels.{odd_above as least_odd_above, after, before, between, new_label, AreNeighbours};
 ghost use Rattle.dewey_labels.specs.inside.Codes.{IsCode};
 ghost use Rattle.dewey_labels.specs.inside.MadeLabels.{IsMade};
 
@@ -85,9 +85,7 @@ pub fn child_between(
     left: &Label,
     right: &Label,
 ) -> Result<Label, LabelError>
-    requires left_child { IsTrue (is_child parent.now left.now) }
-    requires right_child { IsTrue (is_child parent.now right.now) }
-    requires order { slice_cmp nat_cmp left.now right.now ≡ Less }
+    requires { AreNeighbours parent.now (Some left.now) (Some right.now) }
     ensures ok { IfOk result (λ new.
         new_label parent.now (Some left.now) (Some right.now) ≡ Some new) }
     ensures limit { let new = new_label parent.now (Some left.now) (Some right.now) in

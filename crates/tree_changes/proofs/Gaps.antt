@@ -2,11 +2,11 @@
 use Rattle.std.specs.Cmp.Lexicographic.{slice_cmp, nat_list_cmp_total}
 use Rattle.std.proofs.Common.{◌≡◌, true, Option, None, Some, unwrap_or, Less, nat_cmp, refl, sym, ap, subst, ◌∙◌, true≢false}
 use Rattle.dewey_labels.specs.Labels.{Label, root, parent, is_child, Within}
-use Rattle.dewey_labels.specs.NewLabels.{new_label, new_divisions}
+use Rattle.dewey_labels.specs.NewLabels.{new_label, new_divisions, AreNeighbours}
 use Rattle.dewey_labels.specs.Sides.{above, left, same, under, right, side}
 use Rattle.dewey_labels.proofs.Codes.{first_of_both, second_of_both, child_under}
 use Rattle.dewey_labels.proofs.Sides.{under_before}
-use Rattle.dewey_labels.proofs.NewLabels.{AreNeighbours, new_child, new_behind, new_ahead, new_label_is}
+use Rattle.dewey_labels.proofs.NewLabels.{new_child, new_behind, new_ahead, new_label_is}
 use Rattle.tree_model.specs.Tree.{Forest, none, node, Tree, choose, at, found, head_label, next_of, prev_of}
 use Rattle.tree_model.specs.inside.FoundNodes.{up, low}
 use Rattle.tree_model.specs.Placing.{has_child}

@@ -12,24 +12,24 @@ push_between-requires-clause-order c =
     let r = c.args.right.now in
     ap (λ v. slice_cmp nat_cmp v c.code-2.result.now) c.code.ensures.rest
     ∙ ap (slice_cmp nat_cmp (rest p l)) c.code-2.ensures.rest
-    ∙ codes_less p l r c.requires.left_child c.requires.right_child c.requires.order
+    ∙ codes_less p l r c.requires.0 c.requires.1 c.requires.2
 
 pub within_limits-requires : goal.within_limits-requires
 within_limits-requires c =
-    made_label _ (Some c.args.left.now) (Some c.args.right.now) _ c.in_ok-divisions.ensures.label.0 (c.requires.left_child, c.requires.right_child, c.requires.order)
+    made_label _ (Some c.args.left.now) (Some c.args.right.now) _ c.in_ok-divisions.ensures.label.0 c.requires
     (between_made _ c.args.left.now c.args.right.now _ _ _ _ c.in_ok-divisions.ensures.divisions c.code.ensures.rest c.code-2.ensures.rest c.in_ok-push_between.ensures)
 
 pub returns-clause-child : goal.returns-clause-child
 returns-clause-child c =
-    answered_child _ (Some c.args.left.now) (Some c.args.right.now) _ _ _ (c.requires.left_child, c.requires.right_child, c.requires.order)
+    answered_child _ (Some c.args.left.now) (Some c.args.right.now) _ _ _ c.requires
     (between_made _ c.args.left.now c.args.right.now _ _ _ _ c.in_ok-divisions.ensures.divisions c.code.ensures.rest c.code-2.ensures.rest c.in_ok-push_between.ensures) c.within_limits.ensures
 
 pub returns-clause-behind : goal.returns-clause-behind
 returns-clause-behind c =
-    answered_behind c.args.parent.now _ (Some c.args.right.now) _ _ _ (c.requires.left_child, c.requires.right_child, c.requires.order)
+    answered_behind c.args.parent.now _ (Some c.args.right.now) _ _ _ c.requires
     (between_made _ c.args.left.now c.args.right.now _ _ _ _ c.in_ok-divisions.ensures.divisions c.code.ensures.rest c.code-2.ensures.rest c.in_ok-push_between.ensures) c.within_limits.ensures
 
 pub returns-clause-ahead : goal.returns-clause-ahead
 returns-clause-ahead c =
-    answered_ahead c.args.parent.now _ (Some c.args.left.now) _ _ _ (c.requires.left_child, c.requires.right_child, c.requires.order)
+    answered_ahead c.args.parent.now _ (Some c.args.left.now) _ _ _ c.requires
     (between_made _ c.args.left.now c.args.right.now _ _ _ _ c.in_ok-divisions.ensures.divisions c.code.ensures.rest c.code-2.ensures.rest c.in_ok-push_between.ensures) c.within_limits.ensures
