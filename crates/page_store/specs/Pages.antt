@@ -51,3 +51,13 @@ kept_after page bytes pool = if is_kept page pool then promoted (nat_eq page) po
 -- the pages that are kept once one was asked for: where it was answered as `kept_after` says, with some bytes; else those that stay where one is read
 abbrev pub KeepsPages : {T E : Type 0} → ℕ → PoolView → Result T E → PoolView → Type 0
 KeepsPages page old result new = MatchResult result (λ _. (bytes : List ℕ) × (new.kept ≡ kept_after page bytes old)) (λ _. new.kept ≡ with_room old)
+
+-- a pool that has a page, whether it was read for that or not
+pub record IsFilled (page : ℕ) (old new : PoolView) : Type 0 where
+  pub there : IsTrue (is_kept page new)
+  pub reads : new.reads ≡ reads_after page old
+
+-- a pool after a page was asked for, by the answer: how much was read, and which pages are kept
+pub record IsAfterAnswer {T E : Type 0} (page : ℕ) (old : PoolView) (result : Result T E) (new : PoolView) : Type 0 where
+  pub asked : IsAfterAsking page old new
+  pub pages : KeepsPages page old result new

@@ -4,7 +4,7 @@ ghost use Rattle.std.specs.Map.{lookup};
 ghost use Rattle.std.specs.Borrow.{sem, follows_so};
 ghost use mathlib.Core.Option.{none};
 ghost use Rattle.outside_traits.specs.Faults.{HasCause};
-ghost use Rattle.page_store.specs.Pages.{ArePagesOf, IsAfterAsking, KeepsPages, is_kept, page_of, reads_after, with_room};
+ghost use Rattle.page_store.specs.Pages.{ArePagesOf, IsAfterAnswer, IsAfterAsking, IsFilled, KeepsPages, is_kept, page_of, with_room};
 ghost use Rattle.page_store.specs.contracts.pool.Pool.{the_row};
 ghost use Rattle.page_store.specs.declared.page_error.PageError.TheVariants.{DiskFault};
 
@@ -74,14 +74,11 @@ impl Pool {
         requires within { IsTrue P.is_known → 8_192 * page + 8_192 ≤ length (P.history disk.old).now.reads }
         requires pages { IsTrue P.is_known → ArePagesOf (P.history disk.old).now.reads self.old.kept }
         ensures pages { IsTrue P.is_known → ArePagesOf (P.history disk.new).now.reads self.new.kept }
-        ensures there { OnOk result (IsTrue (is_kept page self.new)) }
-        ensures most { self.new.most ≡ self.old.most }
+        ensures filled { OnOk result (IsFilled page self.old self.new) }
         // The others stay, in their order. Only where the page has to be read and all frames are in use the last one goes, also if that fails.
-        ensures others { KeepsPages page self.old result self.new }
+        ensures after { IsAfterAnswer page self.old result self.new }
         // What is kept is found without a read.
         ensures kept_suffices { IsTrue (is_kept page self.old) → IsOk result }
-        ensures read_once { OnOk result (self.new.reads ≡ reads_after page self.old) }
-        ensures reads { self.new.reads ≤ self.old.reads + 1 }
         ensures same { IsTrue P.is_known → P.history disk.new ≡ P.history disk.old }
         ensures cause { HasCause DiskFault (P.faults disk.old) (P.faults disk.new) result }
     {

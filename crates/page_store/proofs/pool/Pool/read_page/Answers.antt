@@ -8,7 +8,7 @@ returns g c =
     let file = (g.P.Disk.history c.args.disk.now).now.reads in
     let kept : IsTrue g.P.Disk.is_known → ArePagesOf (g.P.Disk.history c.args.disk.now).now.reads c.fill.new.self.kept =
     λ known. subst (λ (h : History). ArePagesOf h.now.reads c.fill.new.self.kept) (c.fill.ensures.same known) (c.fill.ensures.pages known) in (
-      (refl, λ _. tt, (search rules, search rules, kept, c.in_ok-fill.ensures.others)),
+      (refl, λ _. tt, (c.fill.ensures.after.asked, search rules, kept, c.in_ok-fill.ensures.after.pages)),
       record {
         after = tt;
         kept_suffices = λ _. refl;
