@@ -7,6 +7,13 @@ pub record Counts : Type 0 where
   pub journal : ℕ
   pub pages : ℕ
 
+-- what a source, a sink and a store's two disks have counted: their faults, and the bytes that the source gave
+pub record Tally : Type 0 where
+  pub read : ℕ
+  pub given : ℕ
+  pub write : ℕ
+  pub disks : Counts
+
 -- a disk counted a fault, and no count fell
 pub record DiskFaultCounted (before now : Counts) : Type 0 where
   pub one : FaultCounted before.journal now.journal ⊎ FaultCounted before.pages now.pages

@@ -1,13 +1,16 @@
 -- What a run of a script leaves, by its end.
 use Rattle.std.specs.Prelude.{◌≡◌, ◌⊎◌, ℕ, ◌+◌, ◌≤◌, List, [], ◌++◌, length, take, Option, Some, IfSome}
 use Rattle.std.specs.List.{AllByRecursion}
+use Rattle.outside_kinds.specs.Bounds.{input_limit}
 use Rattle.outside_traits.specs.Bytes.{Took, TookPrefix}
 use Rattle.outside_traits.specs.DiskPairs.{PairsHave, PairsLeave}
+use Rattle.script_runs.specs.Counts.{CountedWhere, DisksCountedWhere, ReadCountedWhere, Tally}
 use Rattle.script_runs.specs.Lines.{ended, lines_of, first_long, AllShort}
 use Rattle.script_runs.specs.Machine.{Machine, IsSettled}
 use Rattle.script_runs.specs.Texts.{state_after, text_of, script_text}
+use Rattle.script_runs.specs.declared.halt.Halt.TheVariants.{DiskFault}
 use Rattle.script_runs.specs.declared.running.End.{End}
-use Rattle.script_runs.specs.declared.running.End.TheVariants.{Done, LineTooLong, ReadFault, Halted}
+use Rattle.script_runs.specs.declared.running.End.TheVariants.{Done, LineTooLong, ReadFault, WriteFault, Halted}
 
 -- the lines that a run was to do: those that have ended, and at the end of the input the last one too
 abbrev pub AskedLines : Option (List ℕ) → List ℕ → List (List ℕ) → Type 0
@@ -53,6 +56,12 @@ IfAnswered end P = Unit {0}
 abbrev pub IfDone : End → Type 0 → Type 0
 IfDone Done P = P
 IfDone end P = Unit {0}
+
+-- each end that a fault brings has its count that rose, and no count rose at another end: the source's, the sink's, and those of the machine's disks
+pub record FaultsCounted (end : End) (before now : Tally) : Type 0 where
+  pub read : ReadCountedWhere (end ≡ ReadFault) input_limit before.read now.read before.given now.given
+  pub write : CountedWhere (end ≡ WriteFault) before.write now.write
+  pub disk : DisksCountedWhere (end ≡ Halted DiskFault) before.disks now.disks
 
 -- A run from this state, of which these bytes were read, the first `asked` of them before the last read was asked for.
 -- Of the lines that it was to do it did so many, all short and valid; the sink took a prefix of what these are answered;

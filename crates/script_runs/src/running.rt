@@ -3,9 +3,8 @@ ghost use Rattle.std.specs.Prelude.{◌≡◌, ◌≢◌, ◌+◌, ◌-◌, ◌<
 ghost use Rattle.outside_kinds.specs.Bounds.{input_limit};
 ghost use Rattle.outside_traits.specs.Bytes.{Gave};
 ghost use Rattle.node_records.specs.declared.open_error.Place.{Place};
-ghost use Rattle.script_runs.specs.Counts.{CountedWhere, DisksCountedWhere, ReadCountedWhere};
 ghost use Rattle.script_runs.specs.Lines.{line_limit};
-ghost use Rattle.script_runs.specs.Runs.{Ran};
+ghost use Rattle.script_runs.specs.Runs.{FaultsCounted, Ran};
 ghost use Rattle.script_runs.specs.Whole.{piece};
 ghost use Rattle.script_runs.specs.inside.Feeding.{IsNew, stopped};
 ghost use Rattle.script_runs.specs.inside.Inputs.{TakesInput, RunsScript};
@@ -60,10 +59,9 @@ pub fn run<S: Source, K: Sink, M: LineMachine>(
     ensures bound { S.given source.new ≤ S.given source.old + input_limit }
     ensures whole { result.end ≡ End.Done → IfSome (S.left source.new) (λ rest. rest ≡ []) }
     ensures usable { result.end ≡ End.Done → M.machine.usable result.machine }
-    ensures read { ReadCountedWhere (result.end ≡ End.ReadFault) input_limit
-        (S.faults source.old) (S.faults source.new) (S.given source.old) (S.given source.new) }
-    ensures write { CountedWhere (result.end ≡ End.WriteFault) (K.faults sink.old) (K.faults sink.new) }
-    ensures disk { DisksCountedWhere (result.end ≡ End.Halted Halt.DiskFault) (M.machine.faults machine) (M.machine.faults result.machine) }
+    ensures counted { FaultsCounted result.end
+        (record { read = S.faults source.old; given = S.given source.old; write = K.faults sink.old; disks = M.machine.faults machine })
+        (record { read = S.faults source.new; given = S.given source.new; write = K.faults sink.new; disks = M.machine.faults result.machine }) }
     ensures damaged { (place : Place) → result.end ≡ End.Halted (Halt.Damaged place) → M.machine.damages }
 {
     let mut script = Script::new(alloc, machine);

@@ -60,9 +60,9 @@ returns-in-Ok g c =
           store_ran g.J.Disk.is_known g.P.Disk.is_known makes history faults store.base store.number tx_limit every store.journal t is (both_known _ _ kj kp) files
           c.run-run.result.end read.0 _ _ _ _ c.new-store.result m old _ same (record { files = λ i. pair_of (journal_is i) (pages_is i); journal_image = out.images.0 kj; pages_image = out.images.1 kp })
           read.3 ran.damaged c.requires.makes ran.usable (subst (ReadsGroups g.J.Disk.is_known) parts.journal out.groups) _ refl,
-    ) ran.whole ran.bound ran.read ran.write
+    ) ran.whole ran.bound ran.counted.read ran.counted.write
     (disks_moved _ _ _ _ (λ i. record { journal = (same i).journal.faults; pages = faults_of faults (same i).core.base (same i).checkpoints.pages })
-    (λ i. record { journal = (out.journal.1 ∙ ap (λ (j : JournalView). j.faults) parts.journal) i; pages = (ap faults out.pages ∙ parts.faults) i }) ran.disk)
+    (λ i. record { journal = (out.journal.1 ∙ ap (λ (j : JournalView). j.faults) parts.journal) i; pages = (ap faults out.pages ∙ parts.faults) i }) ran.counted.disk)
     (loses_by every g.P.Disk.is_known makes c.run-run.result.end c.requires.makes ran.damaged))
 
 -- there is no memory for a core, and nothing is read
