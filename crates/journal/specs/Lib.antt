@@ -1,6 +1,7 @@
 -- What contracts say.
 pub mod DiskFaults
 pub mod Appends
+pub mod Asked
 pub mod Batches
 pub mod Bodies
 pub mod Groups

@@ -1,18 +1,17 @@
 // A store's journal: it is opened on a disk, takes commits until a call of the disk fails, and hands the disk out.
-ghost use Rattle.std.specs.Prelude.{◌≡◌, ◌≤◌, ◌<◌, false, true, not, Ok, IfOk, IfErr, MatchResult, IsTrue, None, OnOk, OnErr, length};
+ghost use Rattle.std.specs.Prelude.{◌≡◌, ◌≤◌, false, true, not, Ok, IfOk, IfErr, MatchResult, IsTrue, None, OnOk, OnErr};
 ghost use Rattle.outside_traits.specs.Faults.{HasCause, FaultCounted};
 ghost use Rattle.outside_traits.specs.CrashImages.{IsImage};
 ghost use Rattle.outside_traits.specs.Moments.{IsAllSynced};
 ghost use Rattle.journal.specs.DiskFaults.{disk_fault};
 ghost use Rattle.journal.specs.Batches.{AddsCommits, HasAddedAll, LeavesAllOrNone, batch_steps, pairs_of};
-ghost use Rattle.journal.specs.Groups.{AreCommits, AreImages, IsCommit};
+ghost use Rattle.journal.specs.Asked.{MayAppend, MayAppendAll, MayAppendImages};
 ghost use Rattle.journal.specs.ImageAppends.{AddsImages, HoldsImages, LeavesWithOrWithoutImages};
 ghost use Rattle.journal.specs.Journals.{is_fresh, read};
 ghost use Rattle.journal.specs.Openings.{LeavesSameGroups, Opens, TakesCommits};
-ghost use Rattle.journal.specs.Refusals.{BreaksJournal, HasReason, UnlessFault};
+ghost use Rattle.journal.specs.Refusals.{BreaksJournal, HasReason, RisesOnlyAtFault, UnlessFault};
 ghost use Rattle.journal.specs.Resets.{Clears, HasReset, LeavesGroupsOrNone};
 ghost use Rattle.journal.specs.Steps.{StopsIn, append_steps, images_steps, reset_steps};
-ghost use Rattle.journal.specs.Views.{TakesGroups};
 ghost use Rattle.journal.specs.Appends.{AddsCommit, HasAdded, LeavesWithOrWithout, groups_in};
 
 use crate::decoding::Found;
@@ -85,10 +84,9 @@ impl<J: Disk> Journal<J> {
 
         // Nothing is written then but where the disk fails while a journal is made in a fresh file, and no other fault is counted.
         ensures untouched { IfErr result (λ refused. UnlessFault refused.fault (IsTrue J.is_known → J.history refused.disk ≡ J.history disk)) }
-        ensures uncounted { IfErr result (λ refused. UnlessFault refused.fault (J.faults refused.disk ≡ J.faults disk)) }
         ensures made_before { IfErr result (λ refused. IsTrue J.is_known → is_fresh (J.history disk).now.reads ≡ false
             → J.history refused.disk ≡ J.history disk) }
-        ensures later { IfErr result (λ refused. J.faults disk ≤ J.faults refused.disk) }
+        ensures counts { IfErr result (λ refused. RisesOnlyAtFault refused.fault (J.faults disk) (J.faults refused.disk)) }
     {
         let mut disk = disk;
         let Ok(buffer) = Vec::with_capacity(alloc, FRAME) else {
@@ -118,9 +116,7 @@ impl<J: Disk> Journal<J> {
     /// Adds a commit behind the last one, by four calls of the disk. It takes no memory.
     /// After an error the journal isn't used again; the disk is opened anew.
     pub fn append_group(&mut self, number: u32, body: &[u8]) -> Result<(), DiskFault>
-        requires usable { TakesGroups self.old }
-        requires commit { IsCommit self.old.last number body.now }
-        requires room { length body.now ≤ self.old.room }
+        requires may { MayAppend number body.now self.old }
 
         // After Ok every crash leaves the new commit; after an error the journal isn't to be used.
         ensures durable { OnOk result (IsTrue J.is_known → AddsCommit self.old.gate number body.now self.old.history self.new.history) }
@@ -144,9 +140,7 @@ impl<J: Disk> Journal<J> {
     /// Adds commits behind the last one, all of them or none, with one pair of syncs. It takes no memory, and needs no room.
     /// After an error the journal isn't used again; the disk is opened anew.
     pub fn append_groups(&mut self, commits: &[Pending]) -> Result<(), DiskFault>
-        requires usable { TakesGroups self.old }
-        requires commits { AreCommits self.old.last (pairs_of commits.now) }
-        requires some { 0 < length commits.now }
+        requires may { MayAppendAll commits.now self.old }
 
         // After Ok every crash leaves all of the new commits; after an error the journal isn't to be used.
         ensures durable { OnOk result (IsTrue J.is_known → AddsCommits self.old.gate (pairs_of commits.now) self.old.history self.new.history) }
@@ -171,9 +165,7 @@ impl<J: Disk> Journal<J> {
     /// which this journal has read or written, and any where there is none; then nothing is appended until `reset`.
     /// After an error the journal isn't used again; the disk is opened anew.
     pub fn append_images(&mut self, number: u32, body: &[u8]) -> Result<(), DiskFault>
-        requires usable { TakesGroups self.old }
-        requires images { AreImages self.old.last number body.now }
-        requires room { length body.now ≤ self.old.room }
+        requires may { MayAppendImages number body.now self.old }
 
         // After Ok every crash leaves the images; after an error the journal isn't to be used.
         ensures durable { OnOk result (IsTrue J.is_known → AddsImages self.old.gate number body.now self.old.history self.new.history) }

@@ -1,4 +1,4 @@
-use Rattle.std.proofs.Common.{◌∙◌, ap, sym, subst}
+use Rattle.std.proofs.Common.{◌∙◌, ap, sym, subst, arith, length}
 use Rattle.journal.specs.Views.{JournalView}
 use Rattle.session_driver.specs.declared.doing.Doing.TheVariants.{Commit}
 use Rattle.tx_core.specs.Commits.{prepared_view}
@@ -6,11 +6,20 @@ use Rattle.durable_sessions.specs.inside.Commits.{IsDue}
 use Rattle.durable_sessions.proofs.AnswerLaws.{begun_nothing, on_err, commit_follows, commit_leaves, commit_leads_to, commit_takes, done_book, due_allowed, finished_over, grown_by_one}
 use Rattle.durable_sessions.proofs.answering.commit.Goals as goal
 
-pub append_group-requires-clause-commit : goal.append_group-requires-clause-commit
-append_group-requires-clause-commit g c =
+pub append_group-requires : goal.append_group-requires
+append_group-requires g c =
     let made = prepared_view c.prepared.inside.number c.prepared.inside.body in
     let due = subst (IsDue g.C.TreeCall.meaning g.B.NodeRead.contents c.args.core.now c.args.session) (sym c.prepared.view_is) c.requires.due in
-    commit_follows g.C.TreeCall.is_valid g.C.TreeCall.meaning g.met.C.TreeCall.laws g.B.NodeRead.contents c.args.core.now c.args.session made c.args.journal.now c.make_room.new.self _ due c.requires.takes (ap (λ (j : JournalView). j.last) c.in_ok-make_room.ensures.ok) c.as_slice.ensures
+    record {
+      may = record {
+        usable = record {
+          unfailed = ap (λ (j : JournalView). j.failed) c.in_ok-make_room.ensures.ok ∙ c.requires.takes.usable.unfailed;
+          unheld = ap (λ (j : JournalView). j.has_images) c.in_ok-make_room.ensures.ok ∙ c.requires.takes.usable.unheld;
+        };
+        commit = commit_follows g.C.TreeCall.is_valid g.C.TreeCall.meaning g.met.C.TreeCall.laws g.B.NodeRead.contents c.args.core.now c.args.session made c.args.journal.now c.make_room.new.self _ due c.requires.takes (ap (λ (j : JournalView). j.last) c.in_ok-make_room.ensures.ok) c.as_slice.ensures;
+        room = omega (arith, ap length c.as_slice.ensures, c.len.ensures, c.in_ok-make_room.ensures.room);
+      };
+    }
 
 pub returns-in_err-append_group-clause-any_moment : goal.returns-in_err-append_group-clause-any_moment
 returns-in_err-append_group-clause-any_moment g c =

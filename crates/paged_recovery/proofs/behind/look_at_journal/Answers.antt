@@ -20,12 +20,12 @@ returns-in-Err-clause-reason g c =
     (g.J.Disk.faults c.args.journal) (g.J.Disk.faults c.in-Err.refused.disk) (g.J.Disk.faults c.first_fault-fault.new.journal)
     c.in-Err.refused.fault c.first_fault-fault.result (λ place. place ≡ unwrap_or (answer_before c.args.base t.now.reads) c.args.broken)
     (λ at known broken. sym (ap (λ (o : Option Place). unwrap_or o c.args.broken) (before_by_damage c.args.base t.now.reads at broken)))
-    c.first_fault-fault.ensures.first c.in-Err.ensures.reason c.in-Err.ensures.untouched c.in-Err.ensures.later c.first_fault-fault.ensures.later
+    c.first_fault-fault.ensures.first c.in-Err.ensures.reason c.in-Err.ensures.untouched c.in-Err.ensures.counts.later c.first_fault-fault.ensures.later
 
 pub returns-in-Err-clause-same : goal.returns-in-Err-clause-same
 returns-in-Err-clause-same g c known = c.first_fault-fault.ensures.same known ∙ c.in-Err.ensures.made_before known (c.requires.made known)
 
 pub returns-in-Err-clause-uncounted : goal.returns-in-Err-clause-uncounted
 returns-in-Err-clause-uncounted g c =
-    let before = unless_first (g.J.Disk.faults c.in-Err.refused.disk ≡ g.J.Disk.faults c.args.journal) (IsTrue g.J.Disk.is_known) c.args.base (g.J.Disk.history c.in-Err.refused.disk).now.reads _ c.in-Err.refused.fault c.first_fault-fault.result c.first_fault-fault.ensures.first c.in-Err.ensures.uncounted in
+    let before = unless_first (g.J.Disk.faults c.in-Err.refused.disk ≡ g.J.Disk.faults c.args.journal) (IsTrue g.J.Disk.is_known) c.args.base (g.J.Disk.history c.in-Err.refused.disk).now.reads _ c.in-Err.refused.fault c.first_fault-fault.result c.first_fault-fault.ensures.first c.in-Err.ensures.counts.uncounted in
     unless_both _ _ _ c.first_fault-fault.result (λ last first. last ∙ first) c.first_fault-fault.ensures.uncounted before

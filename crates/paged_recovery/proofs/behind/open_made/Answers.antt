@@ -59,12 +59,12 @@ returns-in-Err-clause-reason g c =
     (g.J.Disk.faults c.args.journal) (g.J.Disk.faults c.in-Err.refused.disk) (g.J.Disk.faults c.first_fault-fault.new.journal)
     c.in-Err.refused.fault c.first_fault-fault.result (λ place. IsTrue g.P.Disk.is_known → answer_over (es, c.args.base) t.now.reads ≡ Err place)
     (λ at known broken kept. answer_by_damage (es, c.args.base) t.now.reads at broken)
-    c.first_fault-fault.ensures.first c.in-Err.ensures.reason c.in-Err.ensures.untouched c.in-Err.ensures.later c.first_fault-fault.ensures.later)
+    c.first_fault-fault.ensures.first c.in-Err.ensures.reason c.in-Err.ensures.untouched c.in-Err.ensures.counts.later c.first_fault-fault.ensures.later)
 
 pub returns-in-Err-clause-counts : goal.returns-in-Err-clause-counts
 returns-in-Err-clause-counts g c =
-    let before = unless_first (g.J.Disk.faults c.in-Err.refused.disk ≡ g.J.Disk.faults c.args.journal) (IsTrue g.J.Disk.is_known) (Some c.args.base) (g.J.Disk.history c.in-Err.refused.disk).now.reads _ c.in-Err.refused.fault c.first_fault-fault.result c.first_fault-fault.ensures.first c.in-Err.ensures.uncounted in
+    let before = unless_first (g.J.Disk.faults c.in-Err.refused.disk ≡ g.J.Disk.faults c.args.journal) (IsTrue g.J.Disk.is_known) (Some c.args.base) (g.J.Disk.history c.in-Err.refused.disk).now.reads _ c.in-Err.refused.fault c.first_fault-fault.result c.first_fault-fault.ensures.first c.in-Err.ensures.counts.uncounted in
     record {
       uncounted = unless_both _ _ _ c.first_fault-fault.result (λ last first. (last ∙ first, refl)) c.first_fault-fault.ensures.uncounted before;
-      later = (le_trans c.in-Err.ensures.later c.first_fault-fault.ensures.later, le_refl (g.P.Disk.faults c.args.seq.now.disk));
+      later = (le_trans c.in-Err.ensures.counts.later c.first_fault-fault.ensures.later, le_refl (g.P.Disk.faults c.args.seq.now.disk));
     }

@@ -86,6 +86,6 @@ returns-in-Err-clause-without g c = λ tj tp none. (c.in-Err.ensures.made_before
 
 pub returns-in-Err-clause-counts : goal.returns-in-Err-clause-counts
 returns-in-Err-clause-counts g c = record {
-  uncounted = unless_then _ _ c.in-Err.refused.fault (λ same. (same, refl)) c.in-Err.ensures.uncounted;
-  later = (c.in-Err.ensures.later, le_refl _);
+  uncounted = unless_then _ _ c.in-Err.refused.fault (λ same. (same, refl)) c.in-Err.ensures.counts.uncounted;
+  later = (c.in-Err.ensures.counts.later, le_refl _);
 }

@@ -62,8 +62,8 @@ returns-then-is_empty-clause-moments g c = λ is_known.
     subst (λ (x : ScribeView _ _). LeavesWritten x.opening (began_after x) x.written (last_commit d.seen) x.journal.history s.journal.history) c.self.view_is
     (unchanged g.C.TreeCall.meaning g.B.NodeRead.contents g.J.Disk.is_known after (none_waited g.C.TreeCall.meaning g.B.NodeRead.contents g.J.Disk.is_known v c.self.invariant none d ps e.drainer got e.bodies (c.is_empty.ensures.0 c.if-is_empty.true)) c.is_usable.ensures.settled is_known)
 
-pub append_groups-appended-requires-clause-usable : goal.append_groups-appended-requires-clause-usable
-append_groups-appended-requires-clause-usable g c =
+pub append_groups-appended-requires : goal.append_groups-appended-requires
+append_groups-appended-requires g c =
     let s = c.self.inside in
     let v : ScribeView _ _ = scribe_of s.journal s.drainer s.session.value s.opening.value s.written s.durable s.failure in
     let none : v.failure ≡ None = ap (λ (x : ScribeView _ _). x.failure) c.self.view_is ∙ c.requires.unfailed in
@@ -72,23 +72,13 @@ append_groups-appended-requires-clause-usable g c =
     let ps = c.as_slice-pending.result.now in
     let got = gathered_as s.drainer.seen d.seen c.gather-commits.result ps c.as_slice-pending.ensures e.grown e.follow e.all e.drained in
     let lasts : (t : Tree) → OpensFrom g.B.NodeRead.contents d.seen t → HaveLastBodies g.C.TreeCall.meaning t (book_of d.seen) ps = λ t opens. subst (λ (l : List Pending). HaveLastBodies g.C.TreeCall.meaning t (book_of d.seen) l) (sym c.as_slice-pending.ensures) (e.bodies t opens) in
-    takes g.C.TreeCall.meaning g.B.NodeRead.contents g.J.Disk.is_known v c.self.invariant none d ps e.drainer got lasts
-
-pub append_groups-appended-requires-clause-commits : goal.append_groups-appended-requires-clause-commits
-append_groups-appended-requires-clause-commits g c =
-    let s = c.self.inside in
-    let v : ScribeView _ _ = scribe_of s.journal s.drainer s.session.value s.opening.value s.written s.durable s.failure in
-    let none : v.failure ≡ None = ap (λ (x : ScribeView _ _). x.failure) c.self.view_is ∙ c.requires.unfailed in
-    let e = c.gather-commits.ensures in
-    let d = c.gather-commits.new.drainer in
-    let ps = c.as_slice-pending.result.now in
-    let got = gathered_as s.drainer.seen d.seen c.gather-commits.result ps c.as_slice-pending.ensures e.grown e.follow e.all e.drained in
-    let lasts : (t : Tree) → OpensFrom g.B.NodeRead.contents d.seen t → HaveLastBodies g.C.TreeCall.meaning t (book_of d.seen) ps = λ t opens. subst (λ (l : List Pending). HaveLastBodies g.C.TreeCall.meaning t (book_of d.seen) l) (sym c.as_slice-pending.ensures) (e.bodies t opens) in
-    may_append g.C.TreeCall.meaning g.B.NodeRead.contents g.J.Disk.is_known v c.self.invariant none d ps e.drainer got lasts
-
-pub append_groups-appended-requires-clause-some : goal.append_groups-appended-requires-clause-some
-append_groups-appended-requires-clause-some g c =
-    some_in c.as_slice-pending.result.now c.is_empty.result c.if-is_empty.false (λ empty. c.is_empty.ensures.1 (sym c.as_slice-pending.ensures ∙ empty))
+    record {
+      may = record {
+        usable = takes g.C.TreeCall.meaning g.B.NodeRead.contents g.J.Disk.is_known v c.self.invariant none d ps e.drainer got lasts;
+        follow = may_append g.C.TreeCall.meaning g.B.NodeRead.contents g.J.Disk.is_known v c.self.invariant none d ps e.drainer got lasts;
+        some = some_in c.as_slice-pending.result.now c.is_empty.result c.if-is_empty.false (λ empty. c.is_empty.ensures.1 (sym c.as_slice-pending.ensures ∙ empty));
+      };
+    }
 
 pub last_number-self-inside-requires : goal.last_number-self-inside-requires
 last_number-self-inside-requires g c =
