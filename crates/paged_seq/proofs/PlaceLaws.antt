@@ -30,7 +30,7 @@ use Rattle.tree_model.specs.declared.record.Record.{Record}
 use Rattle.node_records.specs.Records.{record_bytes}
 use Rattle.paged_seq.specs.PagedMaps.{chunk_count, chunks_found, chunks_of_entry}
 use Rattle.paged_seq.proofs.MapLaws.{IsSplit, to_last}
-use Rattle.paged_seq.specs.Places.{comes, passes, NextPasses, LastFails, HasPassed, HasFound, Advances, read_or_none, rest_at, IsPlace, HasArrived, HasRead, IsFull, Parts, IsBehind, MayBeKept, EndsRecord}
+use Rattle.paged_seq.specs.Places.{comes, first_place, passes, NextPasses, LastFails, HasPassed, HasFound, FindsFrom, MayGoOn, Advances, read_or_none, rest_at, IsPlace, HasArrived, HasRead, IsFull, Parts, IsBehind, MayBeKept, EndsRecord}
 use Rattle.paged_seq.specs.declared.place.Place.{Place}
 
 -- ---- the items of a page
@@ -76,18 +76,9 @@ no_items n before bytes here rest none e =
 
 -- ---- a search of one page
 
-pub at_start : (test : Key → Bool) (bytes : List ℕ) (es : List Entry) (p : Place) → page_in entry_read bytes ≡ Some es → p.at ≡ 2 → p.left ≡ big_number 2 bytes → p.before ≡ None → HasPassed test bytes es p
-at_start test bytes es p e at left before =
-    let s = page_start bytes es e in
-    record {
-      passed = [];
-      ahead = es;
-      rest = s.0;
-      parts = refl;
-      none = tt;
-      last = sym before;
-      items = (λ i. items_in entry_read (left i) (before i) (drop (at i) bytes)) ∙ s.1;
-    }
+-- where it begins it has passed none
+pub at_start : (test : Key → Bool) (bytes : List ℕ) (es : List Entry) (rest : List ℕ) (p : Place) → items_in entry_read p.left p.before (drop p.at bytes) ≡ Some (es, rest) → HasPassed test bytes p.before es p
+at_start test bytes es rest p e = record { passed = []; ahead = es; rest = rest; parts = refl; none = tt; last = refl; items = e }
 
 none_more : (test : Key → Bool) (xs : List Entry) (e : Entry) → NonePass test xs → test e.key ≡ false → NonePass test (xs ++ e ∷ [])
 none_more test [] e none fails = (fails, tt)
@@ -101,9 +92,9 @@ drop_on : (n m : ℕ) (bytes : List ℕ) → drop m (drop n bytes) ≡ drop (n +
 drop_on n m bytes = drop-drop m n bytes
 
 -- one entry more was passed
-pub one_passed : (test : Key → Bool) (bytes : List ℕ) (es : List Entry) (p q : Place) (x : Entry × ℕ) → HasPassed test bytes es p → 0 < p.left → entry_read p.before (drop p.at bytes) ≡ Some x → test x.0.key ≡ false
-    → q.at ≡ p.at + x.1 → q.left ≡ p.left - 1 → q.before ≡ Some x.0 → HasPassed test bytes es q
-one_passed test bytes es p q x h some is fails at left before =
+pub one_passed : (test : Key → Bool) (bytes : List ℕ) (before : Option Entry) (es : List Entry) (p q : Place) (x : Entry × ℕ) → HasPassed test bytes before es p → 0 < p.left → entry_read p.before (drop p.at bytes) ≡ Some x → test x.0.key ≡ false
+    → q.at ≡ p.at + x.1 → q.left ≡ p.left - 1 → q.before ≡ Some x.0 → HasPassed test bytes before es q
+one_passed test bytes before es p q x h some is fails at left now =
     let n = p.left - 1 in
     let count : p.left ≡ suc n = omega (arith, some) in
     let o = one_item n p.before (drop p.at bytes) x h.ahead h.rest (subst (λ (m : ℕ). items_in entry_read m p.before (drop p.at bytes) ≡ Some (h.ahead, h.rest)) count h.items) is in
@@ -113,28 +104,28 @@ one_passed test bytes es p q x h some is fails at left before =
       rest = h.rest;
       parts = h.parts ∙ ap (λ (l : List Entry). h.passed ++ l) o.1 ∙ sym (append_assoc h.passed (x.0 ∷ []) o.0);
       none = none_more test h.passed x.0 h.none fails;
-      last = last_more None h.passed x.0 ∙ sym before;
-      items = (λ i. items_in entry_read (left i) (before i) (drop (at i) bytes)) ∙ ap (λ (b : List ℕ). items_in entry_read n (Some x.0) b) (sym (drop_on p.at x.1 bytes)) ∙ o.2;
+      last = last_more before h.passed x.0 ∙ sym now;
+      items = (λ i. items_in entry_read (left i) (now i) (drop (at i) bytes)) ∙ ap (λ (b : List ℕ). items_in entry_read n (Some x.0) b) (sym (drop_on p.at x.1 bytes)) ∙ o.2;
     }
 
 -- the next entry, where one is left
-pub next_entry : (test : Key → Bool) (bytes : List ℕ) (es : List Entry) (p : Place) → HasPassed test bytes es p → 0 < p.left → (x : Entry × ℕ) × (entry_read p.before (drop p.at bytes) ≡ Some x)
-next_entry test bytes es p h some =
+pub next_entry : (test : Key → Bool) (bytes : List ℕ) (before : Option Entry) (es : List Entry) (p : Place) → HasPassed test bytes before es p → 0 < p.left → (x : Entry × ℕ) × (entry_read p.before (drop p.at bytes) ≡ Some x)
+next_entry test bytes before es p h some =
     let n = p.left - 1 in
     let count : p.left ≡ suc n = omega (arith, some) in
     some_item n p.before (drop p.at bytes) (h.ahead, h.rest) (subst (λ (m : ℕ). items_in entry_read m p.before (drop p.at bytes) ≡ Some (h.ahead, h.rest)) count h.items)
 
 -- it stops at one that passes
-pub found_passing : (test : Key → Bool) (bytes : List ℕ) (es : List Entry) (p : Place) (x : Entry × ℕ) → HasPassed test bytes es p → 0 < p.left → entry_read p.before (drop p.at bytes) ≡ Some x → test x.0.key ≡ true → HasFound test bytes es p
-found_passing test bytes es p x h some is passing =
+pub found_passing : (test : Key → Bool) (bytes : List ℕ) (before : Option Entry) (es : List Entry) (p : Place) (x : Entry × ℕ) → HasPassed test bytes before es p → 0 < p.left → entry_read p.before (drop p.at bytes) ≡ Some x → test x.0.key ≡ true → HasFound test bytes before es p
+found_passing test bytes before es p x h some is passing =
     let n = p.left - 1 in
     let count : p.left ≡ suc n = omega (arith, some) in
     let o = one_item n p.before (drop p.at bytes) x h.ahead h.rest (subst (λ (m : ℕ). items_in entry_read m p.before (drop p.at bytes) ≡ Some (h.ahead, h.rest)) count h.items) is in
     record { reached = h; first = subst (HeadPasses test) (sym o.1) passing }
 
 -- or at the page's end
-pub found_end : (test : Key → Bool) (bytes : List ℕ) (es : List Entry) (p : Place) → HasPassed test bytes es p → p.left ≡ 0 → HasFound test bytes es p
-found_end test bytes es p h none = record { reached = h; first = subst (HeadPasses test) (sym (no_items p.left p.before (drop p.at bytes) h.ahead h.rest none h.items)) tt }
+pub found_end : (test : Key → Bool) (bytes : List ℕ) (before : Option Entry) (es : List Entry) (p : Place) → HasPassed test bytes before es p → p.left ≡ 0 → HasFound test bytes before es p
+found_end test bytes before es p h none = record { reached = h; first = subst (HeadPasses test) (sym (no_items p.left p.before (drop p.at bytes) h.ahead h.rest none h.items)) tt }
 
 -- ---- all pages
 
@@ -353,10 +344,19 @@ parts_at_start page index test p is next at left before =
       last = sym before;
     }
 
+-- the pages behind this one begin with an entry that passes
+head_behind : (page : ℕ → List ℕ) (index : List PageStart) (test : Key → Bool) (m : ℕ) → IsIndex page index → 0 < m → m ≤ length index → NextPasses test (drop m index) → HeadPasses test (entries_from page (m + 1) (length index - m))
+head_behind page index test zero is some within next = absurd (omega (arith, some))
+head_behind page index test (suc j) is some within next =
+    let count = length index in
+    let more = count - suc j in
+    let here = page_at page j more 1 count (suc j) None (omega (arith, within)) (omega arith) is.each in
+    head_passes test (suc j + 1) (data_pages_from page (suc j + 1) more) here.each (subst (NextPasses test) here.next (subst (λ (ss : List PageStart). NextPasses test (drop (suc j) ss)) is.starts next))
+
 -- a page is the last one that begins before it
 pub parts_on_page : (page : ℕ → List ℕ) (index : List PageStart) (k : Key) (b : Bool) (m : ℕ) (p : Place) → IsIndex page index → 0 < m → m ≤ length index
     → LastFails (passes k b) (take m index) → NextPasses (passes k b) (drop m index) → p.page ≡ m
-    → ((es : List Entry) → page_in entry_read (page m) ≡ Some es → HasFound (passes k b) (page m) es p) → Parts page (length index) (passes k b) p
+    → FindsFrom (passes k b) (page m) (first_place m (page m)) p → Parts page (length index) (passes k b) p
 parts_on_page page index k b zero p is some within last next at found = absurd (omega (arith, some))
 parts_on_page page index k b (suc j) p is some within last next at found =
     let test = passes k b in
@@ -367,7 +367,8 @@ parts_on_page page index k b (suc j) p is some within last next at found =
     let es : List Entry = here.es in
     let fails : test e.key ≡ false =
     subst (λ (o : Option PageStart). IfSome o (λ s. test s.key ≡ false)) here.last (subst (λ (ss : List PageStart). LastFails test (take (suc j) ss)) is.starts last) in
-    let f = found (e ∷ es) here.items in
+    let s = page_start (page (suc j)) (e ∷ es) here.items in
+    let f = found (e ∷ es) s.0 s.1 in
     let passed = f.reached.passed in
     let ahead = f.reached.ahead in
     let front = entries_from page 1 j in
@@ -375,8 +376,7 @@ parts_on_page page index k b (suc j) p is some within last next at found =
     let items : items_in entry_read p.left p.before (drop p.at (page p.page)) ≡ Some (ahead, f.reached.rest) = ap (λ (x : ℕ). items_in entry_read p.left p.before (drop p.at (page x))) at ∙ f.reached.items in
     let rest : rest_at page count p ≡ ahead ++ behind = (λ i. read_or_none (items i) ++ entries_from page (at i + 1) (count - at i)) in
     let whole : entries_from page 1 count ≡ front ++ (e ∷ (es ++ behind)) = here.parts in
-    let others : HeadPasses test behind = head_passes test (suc j + 1) (data_pages_from page (suc j + 1) more) here.each
-    (subst (NextPasses test) here.next (subst (λ (ss : List PageStart). NextPasses test (drop (suc j) ss)) is.starts next)) in
+    let others : HeadPasses test behind = head_behind page index test (suc j) is some within next in
     record {
       place = record { within = omega (arith, at, within); first = λ h. omega (arith, at); read = ap (λ (x : Option (List Entry × List ℕ)). is_some x) items };
       below = front ++ passed;
@@ -439,9 +439,9 @@ data_whole page index m is some within =
     let same : 1 + (m - 1) ≡ m = omega (arith, some) in
     ap (λ (k : ℕ). length (page k)) (sym same) ∙ is.whole (m - 1) (omega (arith, some, within))
 
-pub found_there : (test : Key → Bool) (bytes there : List ℕ) (p : Place) → bytes ≡ there → ((es : List Entry) → page_in entry_read bytes ≡ Some es → HasFound test bytes es p)
-    → (es : List Entry) → page_in entry_read there ≡ Some es → HasFound test there es p
-found_there test bytes there p same found es e = subst (λ (b : List ℕ). HasFound test b es p) same (found es (ap (λ (b : List ℕ). page_in entry_read b) same ∙ e))
+-- what a search of a page found that began at its start
+pub found_first : (test : Key → Bool) (bytes there : List ℕ) (m : ℕ) (start p : Place) → bytes ≡ there → start ≡ first_place m bytes → FindsFrom test bytes start p → FindsFrom test there (first_place m there) p
+found_first test bytes there m start p same first found = subst (λ (b : List ℕ). FindsFrom test b (first_place m b) p) same (subst (λ (s : Place). FindsFrom test bytes s p) first found)
 
 -- ---- a record that was begun
 
@@ -506,6 +506,46 @@ head_rises k (x ∷ xs) last h is none runs =
     let all = keys_rise k (x ∷ xs) (subst (λ (l : Option Key). Runs l None (x ∷ xs)) is (subst (λ (g : Option (List ℕ × ℕ)). Runs last g (x ∷ xs)) none runs)) in
     ap (comes true) (key_turned k x.key all.0)
 
+-- where the entry before it doesn't pass, none of those that it is behind does
+none_behind : (page : ℕ → List ℕ) (index : List PageStart) (k : Key) (b : Bool) (p : Place) (e : Entry) → IsIndex page index → (kept : IsBehind page (length index) p) → p.before ≡ Some e → passes k b e.key ≡ false
+    → NonePass (passes k b) kept.below
+none_behind page index k b p e is kept before fails =
+    let rest = rest_at page (length index) p in
+    let runs : Runs None None (kept.below ++ rest) = subst (Runs None None) kept.parts is.runs in
+    all_mapped (λ (x : Entry). IsFrom x.key e.key) (λ (x : Entry). passes k b x.key ≡ false) (λ x from. fails_before k b x.key e.key from fails) kept.below
+    (to_last kept.below rest None e None None runs (kept.last ∙ before))
+
+last_on : (before : Option Entry) (xs ys : List Entry) → last_behind before (xs ++ ys) ≡ last_behind (last_behind before xs) ys
+last_on before [] ys = refl
+last_on before (x ∷ xs) ys = last_on (Some x) xs ys
+
+-- the search of a page went on at a place behind others
+pub parts_from : (page : ℕ → List ℕ) (index : List PageStart) (k : Key) (b : Bool) (m : ℕ) (start p : Place) → IsIndex page index → 0 < m → m ≤ length index → NextPasses (passes k b) (drop m index)
+    → IsBehind page (length index) start → MayGoOn m (passes k b) start → p.page ≡ start.page → FindsFrom (passes k b) (page m) start p → Parts page (length index) (passes k b) p
+parts_from page index k b m start p is some within next kept goes same found =
+    let test = passes k b in
+    let count = length index in
+    let at : p.page ≡ m = same ∙ goes.on in
+    let y = some_read (items_in entry_read start.left start.before (drop start.at (page start.page))) kept.place.read in
+    let here : items_in entry_read start.left start.before (drop start.at (page m)) ≡ Some y.0 = ap (λ (n : ℕ). items_in entry_read start.left start.before (drop start.at (page n))) (sym goes.on) ∙ y.1 in
+    let f = found y.0.0 y.0.1 here in
+    let passed = f.reached.passed in
+    let ahead = f.reached.ahead in
+    let behind = entries_from page (m + 1) (count - m) in
+    let items : items_in entry_read p.left p.before (drop p.at (page p.page)) ≡ Some (ahead, f.reached.rest) = ap (λ (n : ℕ). items_in entry_read p.left p.before (drop p.at (page n))) at ∙ f.reached.items in
+    let from : rest_at page count start ≡ y.0.0 ++ behind = (λ i. read_or_none (y.1 i) ++ entries_from page (goes.on i + 1) (count - goes.on i)) in
+    let rest : rest_at page count p ≡ ahead ++ behind = (λ i. read_or_none (items i) ++ entries_from page (at i + 1) (count - at i)) in
+    record {
+      place = record { within = omega (arith, at, within); first = λ h. omega (arith, at, some); read = ap (λ (x : Option (List Entry × List ℕ)). is_some x) items };
+      below = kept.below ++ passed;
+      parts =
+          kept.parts ∙ ap (λ (l : List Entry). kept.below ++ l) (from ∙ ap (λ (l : List Entry). l ++ behind) f.reached.parts ∙ append_assoc passed ahead behind)
+          ∙ sym (append_assoc kept.below passed (ahead ++ behind)) ∙ ap (λ (l : List Entry). (kept.below ++ passed) ++ l) (sym rest);
+      none = none_both test kept.below passed (none_behind page index k b start goes.chunk is kept goes.before goes.fails) f.reached.none;
+      first = subst (HeadPasses test) (sym rest) (head_both test ahead behind f.first (head_behind page index test m is some within next));
+      last = last_on None kept.below passed ∙ ap (λ (o : Option Entry). last_behind o passed) kept.last ∙ f.reached.last;
+    }
+
 -- where the record at a key ends before it, it parts the entries beyond the key from the others
 pub parts_behind_record : (page : ℕ → List ℕ) (index : List PageStart) (k : Key) (p : Place) → IsIndex page index → IsBehind page (length index) p → EndsRecord k p → Parts page (length index) (passes k true) p
 parts_behind_record page index k p is b ends =
@@ -520,8 +560,7 @@ parts_behind_record page index k p is b ends =
       place = b.place;
       below = b.below;
       parts = b.parts;
-      none =
-          all_mapped (λ (x : Entry). IsFrom x.key e.key) (λ (x : Entry). passes k true x.key ≡ false) (λ x from. fails_before k true x.key e.key from fails) b.below (to_last b.below rest None e None None runs last);
+      none = none_behind page index k true p e is b ends.before fails;
       first = head_rises k rest (last_key None b.below) (hand_behind None b.below) key none (runs_behind b.below rest None None runs);
       last = b.last;
     }

@@ -218,5 +218,5 @@ size_within b =
 pub sizes_told : (r : Option (ℕ × ℕ)) (a b : ℕ × ℕ) → r ≡ Some a → r ≡ Some b → (a.0 ≡ b.0) × (a.1 ≡ b.1)
 sizes_told r a b h g = let same = same_Some a b (sym h ∙ g) in (ap (λ (x : ℕ × ℕ). x.0) same, ap (λ (x : ℕ × ℕ). x.1) same)
 
-pub there_read : (bytes : List ℕ) (n : ℕ) (x : Entry × ℕ) → entry_in (drop n bytes) ≡ Some x → entry_there bytes (Some n) ≡ Some x.0
-there_read bytes n x is = ap (λ (o : Option (Entry × ℕ)). option_map (λ e. e.0) o) is
+pub there_read : (bytes : List ℕ) (before : Option Entry) (n : ℕ) (x : Entry × ℕ) → entry_in (drop n bytes) ≡ Some x → entry_there bytes before (Some n) ≡ Some x.0
+there_read bytes before n x is = ap (λ (o : Option (Entry × ℕ)). option_map (λ e. e.0) o) is

@@ -2,6 +2,7 @@
 use Rattle.std.specs.Prelude.{◌≡◌, ◌≤◌, ◌<◌, ℕ, ◌+◌, ◌*◌, ◌-◌, Bool, true, false, not, IsTrue, List, [], ◌∷◌, ◌++◌, length, drop, Option, Some, None, IfSome, is_some, option_and_then}
 use Rattle.std.specs.declared.cmp.Ordering.{Ordering}
 use Rattle.std.specs.declared.cmp.Ordering.TheVariants.{Less, Equal, Greater}
+use Rattle.byteorder.specs.Endian.{big_number}
 use Rattle.tree_model.specs.Keys.{key_cmp}
 use Rattle.tree_model.specs.declared.key.Key.{Key}
 use Rattle.tree_model.specs.declared.record.Record.{Record}
@@ -21,6 +22,10 @@ use Rattle.paged_seq.specs.declared.place.Place.{Place}
 -- a place with these parts
 abbrev pub place_at : ℕ → ℕ → ℕ → Option Entry → Place
 place_at page at left before = record { page = page; at = at; left = left; before = before }
+
+-- the place before the first entry of a page with these bytes
+abbrev pub first_place : ℕ → List ℕ → Place
+first_place page bytes = place_at page 2 (big_number 2 bytes) None
 
 -- an entry that compares so with the key that is looked for stands there or beyond it; only beyond it, where `beyond` says so
 abbrev pub comes : Bool → Ordering → Bool
@@ -44,20 +49,32 @@ LastFails p ss = IfSome (last_behind None ss) (λ s. p s.key ≡ false)
 
 -- ---- on one page
 
--- a search of a page with these entries has passed some, and stands at the others
-pub record HasPassed (test : Key → Bool) (page : List ℕ) (es : List Entry) (p : Place) : Type 0 where
+-- a search of a page that began behind this entry and before these has passed some, and stands at the others
+pub record HasPassed (test : Key → Bool) (page : List ℕ) (before : Option Entry) (es : List Entry) (p : Place) : Type 0 where
   pub passed : List Entry
   pub ahead : List Entry
   pub rest : List ℕ
   pub parts : es ≡ passed ++ ahead
   pub none : NonePass test passed
-  pub last : last_behind None passed ≡ p.before
+  pub last : last_behind before passed ≡ p.before
   pub items : items_in entry_read p.left p.before (drop p.at page) ≡ Some (ahead, rest)
 
 -- it has found the first that passes
-pub record HasFound (test : Key → Bool) (page : List ℕ) (es : List Entry) (p : Place) : Type 0 where
-  pub reached : HasPassed test page es p
+pub record HasFound (test : Key → Bool) (page : List ℕ) (before : Option Entry) (es : List Entry) (p : Place) : Type 0 where
+  pub reached : HasPassed test page before es p
   pub first : HeadPasses test reached.ahead
+
+-- a search of a page that begins at a place finds the first behind it that passes
+abbrev pub FindsFrom : (Key → Bool) → List ℕ → Place → Place → Type 0
+FindsFrom test page start p = (es : List Entry) (rest : List ℕ) → items_in entry_read start.left start.before (drop start.at page) ≡ Some (es, rest)
+    → HasFound test page start.before es p
+
+-- a search of this page may go on at a place: behind an entry of it that doesn't pass
+pub record MayGoOn (page : ℕ) (test : Key → Bool) (p : Place) : Type 0 where
+  pub on : p.page ≡ page
+  pub chunk : Entry
+  pub before : p.before ≡ Some chunk
+  pub fails : test chunk.key ≡ false
 
 -- a chunk that isn't its record's last has 1,024 bytes
 abbrev pub IsFull : Option Entry → Type 0
@@ -130,10 +147,11 @@ pub record EndsRecord (k : Key) (p : Place) : Type 0 where
   pub last : chunk.last ≡ true
   pub key : chunk.key ≡ k
 
--- the index of an open file, and a place that may be kept of it
-pub record IsOpenAt (is_known : Bool) (file : List ℕ) (i : Index) (kept : Option Place) : Type 0 where
+-- the index of an open file, and places that may be kept of it
+pub record IsOpenAt (is_known : Bool) (file : List ℕ) (i : Index) (walked got : Option Place) : Type 0 where
   pub index : IsIndexOf is_known file i
-  pub passed : IfSome kept (MayBeKept is_known file (length i.starts))
+  pub passed : IfSome walked (MayBeKept is_known file (length i.starts))
+  pub found : IfSome got (MayBeKept is_known file (length i.starts))
 
 -- ---- the record that was begun
 

@@ -15,10 +15,10 @@ division_size b = if nat_lt b 0x80 then 1 else if nat_lt b 0xC0 then 2 else if n
 abbrev pub LabelAhead : List ℕ → ℕ → Type 0
 LabelAhead bytes at = (l : Label × ℕ) → label_in bytes ≡ Some l → (n : ℕ) × (ds : List ℕ × ℕ) × (divisions_in n (drop at bytes) ≡ Some ds) × (l.1 ≡ at + ds.1)
 
--- the entry at a place of these bytes, if a place is named
-abbrev pub entry_there : List ℕ → Option ℕ → Option Entry
-entry_there bytes None = None
-entry_there bytes (Some n) = option_map (λ e. e.0) (entry_in (drop n bytes))
+-- the entry at a place of these bytes, if a place is named; else this one
+abbrev pub entry_there : List ℕ → Option Entry → Option ℕ → Option Entry
+entry_there bytes before None = before
+entry_there bytes before (Some n) = option_map (λ e. e.0) (entry_in (drop n bytes))
 
 -- these are the bytes of a key, by which it sorts among those of entries
 pub record SortsAs (k : Key) (bytes : List ℕ) : Type 0 where

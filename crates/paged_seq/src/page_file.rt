@@ -1,7 +1,7 @@
 //! The pages of a file, read through a pool.
 ghost use Rattle.std.specs.Prelude.{◌≡◌, ◌≤◌, ◌<◌, ◌+◌, ◌*◌, ◌^◌, Some, None, List, length, drop, true, is_some, option_map, IsTrue, IsSome, IfOk, IfSome, OnOk};
 ghost use Rattle.outside_traits.specs.Faults.{HasCause, failed};
-ghost use Rattle.page_store.specs.Pages.{ArePagesOf, KeepsPages, is_kept, page_of};
+ghost use Rattle.page_store.specs.Pages.{ArePagesOf, IsAfterAnswer, IsFilled, is_kept, page_of};
 ghost use Rattle.node_records.specs.Records.{record_bytes, record_of};
 ghost use Rattle.node_pages.specs.PageFiles.{IsIndex, file_page};
 ghost use Rattle.node_seq.specs.declared.node_read.SeqError.TheVariants.{DiskFault};
@@ -11,8 +11,7 @@ ghost use Rattle.paged_seq.specs.PagedMaps.{chunks_found, chunks_of_entry, recor
 ghost use Rattle.paged_seq.specs.Places.{HasArrived, HasRead, IsBehind, IsFull, IsPlace, MayBeKept, Parts, begun_record, passes, rest_at, steps_left};
 
 use crate::place::Place;
-use crate::search::{COUNT_BYTES, advance, pages_before, seek};
-use byteorder::{BigEndian, ByteOrder};
+use crate::search::{advance, first_place, may_go_on, pages_before, seek};
 use dewey_labels::{List, NoMemory};
 use node_pages::PageStart;
 use node_records::{Entry, read_record};
@@ -104,10 +103,8 @@ impl<P: Disk + Drop> PageFile<P> {
     /// Puts a page of the file among those that are kept.
     pub fn fill(&mut self, alloc: Global, page: u32) -> Result<(), SeqError>
         requires within { IsTrue P.is_known → length (page_of page (P.history self.old.disk).now.reads) ≡ 8_192 }
-        ensures there { OnOk result (is_kept page self.new.pool ≡ true) }
-        ensures others { KeepsPages page self.old.pool result self.new.pool }
-        ensures reads { self.new.pool.reads ≤ self.old.pool.reads + 1 }
-        ensures most { self.new.pool.most ≡ self.old.pool.most }
+        ensures filled { OnOk result (IsFilled page self.old.pool self.new.pool) }
+        ensures after { IsAfterAnswer page self.old.pool result self.new.pool }
         ensures same { IsTrue P.is_known → P.history self.new.disk ≡ P.history self.old.disk }
         ensures cause { HasCause DiskFault (P.faults self.old.disk) (P.faults self.new.disk) result }
     {
@@ -128,15 +125,18 @@ impl<P: Disk + Drop> PageFile<P> {
     }
 
     /// The place before the first entry that stands at the key or beyond it; only beyond it, where `beyond` says so. `starts` are those of the data pages.
+    /// The search of a page goes on at the place that was kept, where that is on it and the entry before it doesn't pass.
     pub fn find(
         &mut self,
         alloc: Global,
         starts: &[PageStart],
+        passed: Option<Place>,
         key: &Key,
         beyond: bool,
     ) -> Result<Place, SeqError>
         requires few { length starts.now < 2 ^ 32 }
         requires index { IsTrue P.is_known → IsIndex (file_page (P.history self.old.disk).now.reads) starts.now }
+        requires passed { IfSome passed (MayBeKept P.is_known (P.history self.old.disk).now.reads (length starts.now)) }
         ensures within { IfOk result (λ p. p.at ≤ 8_192) }
         ensures parts { IfOk result (λ p. IsTrue P.is_known
             → Parts (file_page (P.history self.old.disk).now.reads) (length starts.now) (passes key.now beyond) p) }
@@ -154,7 +154,12 @@ impl<P: Disk + Drop> PageFile<P> {
         let Some(bytes) = self.frame(page) else {
             unreachable!()
         };
-        Ok(seek(alloc, page, bytes, key, beyond)?)
+        match passed {
+            Some(place) if may_go_on(&place, page, key, beyond) => {
+                Ok(seek(alloc, bytes, place, key, beyond)?)
+            }
+            _ => Ok(seek(alloc, bytes, first_place(page, bytes), key, beyond)?),
+        }
     }
 
     /// Goes on to the next page where a place is behind the last entry of its own, and says whether an entry stands there.
@@ -193,12 +198,7 @@ impl<P: Disk + Drop> PageFile<P> {
         let Some(bytes) = self.frame(page) else {
             unreachable!()
         };
-        *place = Place {
-            page,
-            at: COUNT_BYTES,
-            left: BigEndian::read_u16(bytes),
-            before: None,
-        };
+        *place = first_place(page, bytes);
         Ok(place.left > 0)
     }
 
@@ -284,14 +284,18 @@ impl<P: Disk + Drop> PageFile<P> {
 
 impl<P: Disk + Drop> PageFile<P> {
     /// The record at a key. At most two pages are read, and one a chunk of the record.
+    /// It is looked for from the place on that was kept, where that is on its page and not behind it. Kept is the place behind what was read.
     pub fn record_at(
         &mut self,
         alloc: Global,
         starts: &[PageStart],
+        passed: &mut Option<Place>,
         key: &Key,
     ) -> Result<Option<Record>, SeqError>
         requires few { length starts.now < 2 ^ 32 }
         requires index { IsTrue P.is_known → IsIndex (file_page (P.history self.old.disk).now.reads) starts.now }
+        requires passed { IfSome passed.old (MayBeKept P.is_known (P.history self.old.disk).now.reads (length starts.now)) }
+        ensures passed { IfSome passed.new (MayBeKept P.is_known (P.history self.old.disk).now.reads (length starts.now)) }
         ensures value { IfOk result (λ found. IsTrue P.is_known
             → found ≡ get key.now (records_of (file_page (P.history self.old.disk).now.reads) (length starts.now))) }
         ensures reads { IfOk result (λ found. IsTrue P.is_known → self.new.pool.reads ≤ self.old.pool.reads + 2 + chunks_found found) }
@@ -299,7 +303,7 @@ impl<P: Disk + Drop> PageFile<P> {
         ensures same { IsTrue P.is_known → P.history self.new.disk ≡ P.history self.old.disk }
         ensures cause { HasCause DiskFault (P.faults self.old.disk) (P.faults self.new.disk) result }
     {
-        let mut place = self.find(alloc, starts, key, false)?;
+        let mut place = self.find(alloc, starts, passed.take(), key, false)?;
         if !self.step(alloc, starts, &mut place)? {
             return Ok(None);
         }
@@ -307,13 +311,15 @@ impl<P: Disk + Drop> PageFile<P> {
             return Ok(None);
         };
         if !entry.key.cmp(key).is_eq() {
+            *passed = Some(place);
             return Ok(None);
         }
         let found = self.rest_of_record(alloc, starts, &mut place)?;
+        *passed = place_behind(&found, place);
         Ok(found)
     }
 
-    /// The place before the first entry beyond the key. The one that is kept is it where the key's record ends there; another one is looked for.
+    /// The place before the first entry beyond the key. The one that is kept is it where the key's record ends there; another one is looked for, from there on where it may be.
     fn place_above(
         &mut self,
         alloc: Global,
@@ -334,12 +340,12 @@ impl<P: Disk + Drop> PageFile<P> {
     {
         match passed {
             Some(place) if place.ends_record(key) => Ok(place),
-            _ => self.find(alloc, starts, key, true),
+            other => self.find(alloc, starts, other, key, true),
         }
     }
 
     /// The entry with the least key above a key. At most three pages are read, and one a chunk of the record.
-    /// It goes on at the place behind the record that was answered last, where the key is that one's.
+    /// It goes on at the place behind the record that was answered last, where the key is that one's, or beyond it and looked for on the same page.
     pub fn entry_above(
         &mut self,
         alloc: Global,
@@ -392,13 +398,14 @@ impl<P: Disk + Drop> PageFile<P> {
         ensures same { IsTrue P.is_known → P.history self.new.disk ≡ P.history self.old.disk }
         ensures cause { HasCause DiskFault (P.faults self.old.disk) (P.faults self.new.disk) result }
     {
-        let place = self.find(alloc, starts, key, false)?;
+        let place = self.find(alloc, starts, None, key, false)?;
         match key_of(place.before) {
             Some(at) => {
                 if !at.cmp(key).is_lt() {
                     return Ok(None);
                 }
-                let found = self.record_at(alloc, starts, &at)?;
+                let mut unkept = None;
+                let found = self.record_at(alloc, starts, &mut unkept, &at)?;
                 Ok(at_key(at, found))
             }
             None => Ok(None),

@@ -1,11 +1,9 @@
 //! Looking for a key: among the starts of pages, and on one page.
-ghost use Rattle.std.specs.Prelude.{◌≡◌, ◌≤◌, ◌<◌, ◌+◌, ℕ, List, length, take, drop, Some, IsTrue, IfOk, IfSome, OnOk};
+ghost use Rattle.std.specs.Prelude.{◌≡◌, ◌≤◌, ◌<◌, ◌+◌, ℕ, length, take, drop, Some, IsTrue, IfOk, IfSome, OnOk};
 ghost use Rattle.node_records.specs.Entries.{entry_in};
 ghost use Rattle.node_records.specs.Keys.{key_bytes};
 ghost use Rattle.node_records.specs.declared.entries.Entry.{Entry};
-ghost use Rattle.node_pages.specs.EntryForm.{entry_read};
-ghost use Rattle.node_pages.specs.Reading.{page_in};
-ghost use Rattle.paged_seq.specs.Places.{Advances, HasFound, IsFull, LastFails, NextPasses, comes, passes};
+ghost use Rattle.paged_seq.specs.Places.{Advances, FindsFrom, IsFull, LastFails, MayGoOn, NextPasses, comes, first_place, passes};
 ghost use Rattle.paged_seq.specs.Sizes.{SortsAs, entry_there};
 
 use crate::place::Place;
@@ -19,7 +17,7 @@ use std::cmp::Ordering;
 use tree_model::Key;
 
 /// How many bytes the count before a page's entries has.
-pub(crate) const COUNT_BYTES: usize = 2;
+const COUNT_BYTES: usize = 2;
 
 /// Whether what compares so with the key that is looked for stands there or beyond it; only beyond it, where `beyond` says so.
 fn comes(order: Ordering, beyond: bool) -> bool
@@ -59,6 +57,29 @@ pub(crate) fn pages_before(starts: &[PageStart], key: &Key, beyond: bool) -> usi
     low
 }
 
+/// The place before the first entry of a page.
+pub(crate) fn first_place(page: u32, bytes: &[u8]) -> Place
+    requires count { 2 ≤ length bytes.now }
+    ensures { result ≡ first_place page bytes.now }
+{
+    Place {
+        page,
+        at: COUNT_BYTES,
+        left: BigEndian::read_u16(bytes),
+        before: None,
+    }
+}
+
+/// Whether the search of a page may go on at this place: it is on the page, behind an entry that doesn't pass.
+pub(crate) fn may_go_on(place: &Place, page: u32, key: &Key, beyond: bool) -> bool
+    ensures { IsTrue result → MayGoOn page (passes key.now beyond) place.now }
+{
+    match &place.before {
+        Some(chunk) => place.page == page && !passes(&chunk.key, key, beyond),
+        None => false,
+    }
+}
+
 /// The bytes of a key, by which it sorts among those of entries; None where its name has the character U+0000, as no entry's has.
 fn sorting_bytes(alloc: Global, key: &Key) -> Result<Option<List<u8>>, NoMemory>
     ensures { IfOk result (λ found. IfSome found (SortsAs key.now)) }
@@ -95,13 +116,18 @@ fn passes_there(
     Ok(comes(at.cmp(&sorting.as_slice()), beyond))
 }
 
-/// The entry at this place of the bytes, if a place is named.
-fn entry_there(alloc: Global, bytes: &[u8], at: Option<usize>) -> Result<Option<Entry>, NoMemory>
+/// The entry at this place of the bytes, if a place is named; else the one before.
+fn entry_there(
+    alloc: Global,
+    bytes: &[u8],
+    before: Option<Entry>,
+    at: Option<usize>,
+) -> Result<Option<Entry>, NoMemory>
     requires within { IfSome at (λ n. n ≤ length bytes.now) }
-    ensures { IfOk result (λ found. found ≡ entry_there bytes.now at) }
+    ensures { IfOk result (λ found. found ≡ entry_there bytes.now before at) }
 {
     let Some(at) = at else {
-        return Ok(None);
+        return Ok(before);
     };
     let (_, rest) = bytes.split_at(at);
     match WholeEntries::read(alloc, rest, &None)? {
@@ -110,22 +136,23 @@ fn entry_there(alloc: Global, bytes: &[u8], at: Option<usize>) -> Result<Option<
     }
 }
 
-/// The place on a page before the first entry that stands at the key or beyond it. It passes over the entries before that one by their bytes, and reads the last of them.
+/// The place on a page, from `start` on, before the first entry that stands at the key or beyond it. It passes over the entries before that one by their bytes, and reads the last of them.
 pub(crate) fn seek(
     alloc: Global,
-    page: u32,
     bytes: &[u8],
+    start: Place,
     key: &Key,
     beyond: bool,
 ) -> Result<Place, NoMemory>
     requires whole { length bytes.now ≡ 8_192 }
-    ensures found { IfOk result (λ p. (es : List Entry) → page_in entry_read bytes.now ≡ Some es → HasFound (passes key.now beyond) bytes.now es p) }
-    ensures page { IfOk result (λ p. p.page ≡ page) }
+    requires start { start.at ≤ 8_192 }
+    ensures found { IfOk result (FindsFrom (passes key.now beyond) bytes.now start) }
+    ensures page { IfOk result (λ p. p.page ≡ start.page) }
     ensures within { IfOk result (λ p. p.at ≤ 8_192) }
 {
     let sorting = sorting_bytes(alloc, key)?;
-    let mut at = COUNT_BYTES;
-    let mut left = BigEndian::read_u16(bytes);
+    let mut at = start.at;
+    let mut left = start.left;
     let mut passed = None;
     while left > 0 {
         let (_, rest) = bytes.split_at(at);
@@ -139,9 +166,9 @@ pub(crate) fn seek(
         at += size;
         left -= 1;
     }
-    let before = entry_there(alloc, bytes, passed)?;
+    let before = entry_there(alloc, bytes, start.before, passed)?;
     Ok(Place {
-        page,
+        page: start.page,
         at,
         left,
         before,

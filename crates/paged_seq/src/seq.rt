@@ -33,6 +33,8 @@ pub struct PagedSeq<P: Disk + Drop> {
     starts: List<PageStart>,
     /// Behind the record that was answered last by `entry_above`: a walk goes on there.
     passed: Option<Place>,
+    /// Behind the record that was answered last by `record_at`, or the first entry beyond the key: a key further on is looked for from there.
+    found: Option<Place>,
 }
 
 impl<P: Disk + Drop> Model for PagedSeq<P> {
@@ -43,7 +45,7 @@ impl<P: Disk + Drop> Model for PagedSeq<P> {
 
     ghost view = { λ s. record { disk = s.file.disk; pool = s.file.pool; index = index_at s.base s.starts } };
 
-    ghost invariant = { λ s. IsOpenAt P.is_known (P.history s.file.disk).now.reads (index_at s.base s.starts) s.passed };
+    ghost invariant = { λ s. IsOpenAt P.is_known (P.history s.file.disk).now.reads (index_at s.base s.starts) s.passed s.found };
 }
 
 impl<P: Disk + Drop> PagedSeq<P> {
@@ -56,9 +58,9 @@ impl<P: Disk + Drop> PagedSeq<P> {
         // Damaged is a file of which `contents_of_file` is a page, the first that breaks a rule; the place is where it begins.
         ensures reason { IfErr result (λ refused. HasReason (BreaksPages P.is_known (P.history disk).now.reads)
             (FaultCounted (P.faults disk) (P.faults refused.disk)) refused.fault) }
-        // The rules are those of one page each: that page breaks one, no page before it does, and in a file that opens none does.
-        ensures first { IfErr result (λ refused. IfDamagedAtFirst P.is_known (P.history disk).now.reads refused.fault) }
-        ensures whole { OnOk result (IsTrue P.is_known → AllPagesKeepRules (P.history disk).now.reads) }
+        // The rules are those of one page each: in a file that opens none breaks one; else that page breaks one, and no page before it does.
+        ensures rules { MatchResult result (λ _. IsTrue P.is_known → AllPagesKeepRules (P.history disk).now.reads)
+            (λ refused. IfDamagedAtFirst P.is_known (P.history disk).now.reads refused.fault) }
         ensures same { IsTrue P.is_known
             → MatchResult result (λ seq. P.history seq.disk ≡ P.history disk) (λ refused. P.history refused.disk ≡ P.history disk) }
         ensures most { IfOk result (λ seq. seq.pool.most ≡ pool.most) }
@@ -74,6 +76,7 @@ impl<P: Disk + Drop> PagedSeq<P> {
                 base,
                 starts,
                 passed: None,
+                found: None,
             }),
             Err(fault) => {
                 let (disk, pool) = file.into_parts();
@@ -130,7 +133,9 @@ impl<P: Disk + Drop> PagedSeq<P> {
         ensures index { self.new.index ≡ self.old.index }
         ensures cause { HasCause DiskFault (P.faults self.old.disk) (P.faults self.new.disk) result }
     {
-        let found = self.file.record_at(alloc, self.starts.as_slice(), key);
+        let found = self
+            .file
+            .record_at(alloc, self.starts.as_slice(), &mut self.found, key);
         found
     }
 

@@ -182,6 +182,25 @@ fn a_walk_reads_each_page_once(rt: HostRuntime) -> Result<(), Fail> {
     Ok(())
 }
 
+/// Last divisions of keys that are asked above one behind the other: near and far, on a page and beyond it, within the long text and behind it, and back.
+const ASKED: [u32; 16] = [
+    1001, 1003, 1005, 1011, 1013, 1051, 1049, 1119, 1121, 1123, 1131, 1009, 1201, 1239, 1241, 999,
+];
+
+#[test]
+fn a_step_from_any_key_leads_where_it_does_in_memory(rt: HostRuntime) -> Result<(), Fail> {
+    let alloc = rt.alloc();
+    for frames in 1..=2 {
+        let mut both = beside(alloc, long_text(alloc)?, frames)?;
+        for &last in &ASKED {
+            let at = key(alloc, &[1, 1001, last], "")?;
+            let step = take_step(alloc, &mut both.seq, &mut both.map, &at, true)?;
+            assert_eq!(rt; is_apart(&step), false, "above {last} with {frames} frames");
+        }
+    }
+    Ok(())
+}
+
 /// Whether both maps have the same record at a key.
 fn find_same<S: NodeRead, T: NodeRead>(
     alloc: Global,

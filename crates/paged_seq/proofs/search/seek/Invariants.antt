@@ -1,7 +1,7 @@
-use Rattle.std.proofs.Common.{◌≡◌, ◌≤◌, List, length, Some, IfSome}
+use Rattle.std.proofs.Common.{◌≡◌, ◌≤◌, ℕ, List, drop, length, Some, IfSome}
 use Rattle.node_records.specs.declared.entries.Entry.{Entry}
 use Rattle.node_pages.specs.EntryForm.{entry_read}
-use Rattle.node_pages.specs.Reading.{page_in}
+use Rattle.node_pages.specs.Reading.{items_in}
 use Rattle.paged_seq.specs.Places.{HasPassed, passes, place_at}
 use Rattle.paged_seq.specs.Sizes.{SortsAs, entry_there}
 use Rattle.paged_seq.proofs.search.seek.Given as goal
@@ -11,7 +11,8 @@ invariant-loop-left l = record {
   within : l.at ≤ 8_192;
   sorting : IfSome l.sorting (SortsAs l.key);
   back : IfSome l.passed (λ n. n ≤ length l.bytes);
-  passed : (es : List Entry) → page_in entry_read l.bytes ≡ Some es → HasPassed (passes l.key l.beyond) l.bytes es (place_at l.page l.at l.left (entry_there l.bytes l.passed));
+  passed : (es : List Entry) (rest : List ℕ) → items_in entry_read l.start.left l.start.before (drop l.start.at l.bytes) ≡ Some (es, rest)
+      → HasPassed (passes l.key l.beyond) l.bytes l.start.before es (place_at l.start.page l.at l.left (entry_there l.bytes l.start.before l.passed));
 }
 
 abbrev pub decreases-loop-left : goal.decreases-loop-left

@@ -1,9 +1,10 @@
-use Rattle.std.proofs.Common.{◌≡◌, ◌+◌, Bool, None, length, refl, sym, ap, subst, ◌∙◌, arith}
+use Rattle.std.proofs.Common.{◌≡◌, ◌+◌, Bool, length, sym, ap, subst, ◌∙◌, arith}
 use Rattle.std.proofs.lemmas.Bool.{lt-ltb}
 use Rattle.outside_traits.specs.Moments.{History}
 use Rattle.page_store.specs.Pages.{page_of}
 use Rattle.node_pages.specs.PageFiles.{file_page}
-use Rattle.paged_seq.specs.Places.{HasArrived, place_at, rest_at}
+use Rattle.paged_seq.specs.Places.{HasArrived, rest_at}
+use Rattle.paged_seq.specs.declared.place.Place.{Place}
 use Rattle.paged_seq.proofs.PlaceLaws.{arrived_here, began, data_whole}
 use Rattle.paged_seq.proofs.page_file.PageFile.arrive.Goals as goal
 
@@ -30,20 +31,22 @@ returns-clause-arrived g c known =
     let page = file_page (g.P.Disk.history c.args.self.now.disk).now.reads in
     let count = length c.args.starts.now in
     let p = c.args.place.now in
-    let q = place_at (p.page + 1) 2 c.read_u16.result None in
+    let q = c.first_place.result in
+    let is = c.first_place.ensures in
     let none = c.if-place-gt0.false in
     let less = c.if-place-starts.false in
     let same : c.in-Some.bytes.now ≡ page (p.page + 1) = c.in-Some.ensures.page known ∙ ap (λ (h : History). page_of (p.page + 1) h.now.reads) (c.fill-2.ensures.same known) in
-    let b = began page count p q c.in-Some.bytes.now (c.requires.index known).each (omega (arith, none)) (omega (arith, less)) refl same refl c.read_u16.ensures refl in
-    subst (λ (t : Bool). HasArrived (rest_at page count p) t (rest_at page count q)) (sym (lt-ltb 0 c.read_u16.result b.some)) b.arrived
+    let b = began page count p q c.in-Some.bytes.now (c.requires.index known).each (omega (arith, none)) (omega (arith, less)) (ap (λ (x : Place). x.page) is) same (ap (λ (x : Place). x.at) is) (ap (λ (x : Place). x.left) is) (ap (λ (x : Place). x.before) is) in
+    subst (λ (t : Bool). HasArrived (rest_at page count p) t (rest_at page count q)) (sym (lt-ltb 0 q.left b.some)) b.arrived
 
 pub returns-clause-place : goal.returns-clause-place
 returns-clause-place g c known =
     let page = file_page (g.P.Disk.history c.args.self.now.disk).now.reads in
     let count = length c.args.starts.now in
     let p = c.args.place.now in
-    let q = place_at (p.page + 1) 2 c.read_u16.result None in
+    let q = c.first_place.result in
+    let is = c.first_place.ensures in
     let none = c.if-place-gt0.false in
     let less = c.if-place-starts.false in
     let same : c.in-Some.bytes.now ≡ page (p.page + 1) = c.in-Some.ensures.page known ∙ ap (λ (h : History). page_of (p.page + 1) h.now.reads) (c.fill-2.ensures.same known) in
-    (began page count p q c.in-Some.bytes.now (c.requires.index known).each (omega (arith, none)) (omega (arith, less)) refl same refl c.read_u16.ensures refl).place
+    (began page count p q c.in-Some.bytes.now (c.requires.index known).each (omega (arith, none)) (omega (arith, less)) (ap (λ (x : Place). x.page) is) same (ap (λ (x : Place). x.at) is) (ap (λ (x : Place). x.left) is) (ap (λ (x : Place). x.before) is)).place

@@ -22,14 +22,14 @@ returns-in-Err-clause-reason g c =
     (λ counted. subst (λ (f : ℕ). FaultCounted (g.P.Disk.faults c.args.disk) f) (λ i. g.P.Disk.faults (sym c.into_parts-disk.ensures.disk i)) (subst (λ (f : ℕ). FaultCounted f (g.P.Disk.faults c.read_index.new.file.disk)) (λ i. g.P.Disk.faults (c.new-file.ensures.disk i)) counted))
     c.in-Err.fault c.in-Err.ensures.reason
 
-pub returns-in-Ok-clause-whole : goal.returns-in-Ok-clause-whole
-returns-in-Ok-clause-whole g c known =
+pub returns-in-Ok-clause-rules : goal.returns-in-Ok-clause-rules
+returns-in-Ok-clause-rules g c known =
     let file = (g.P.Disk.history c.args.disk).now.reads in
     let index = index_at c.in-Ok.base c.in-Ok.starts in
     all_kept file (file_entries file) index.base (open_contents file index ((λ i. index_of_file (g.P.Disk.history (sym c.new-file.ensures.disk i)).now.reads) ∙ c.in-Ok.ensures.index known))
 
-pub returns-in-Err-clause-first : goal.returns-in-Err-clause-first
-returns-in-Err-clause-first g c =
+pub returns-in-Err-clause-rules : goal.returns-in-Err-clause-rules
+returns-in-Err-clause-rules g c =
     let file = (g.P.Disk.history c.args.disk).now.reads in
     reason_on (λ n. IsTrue g.P.Disk.is_known → index_of_file (g.P.Disk.history c.new-file.result.disk).now.reads ≡ Err n) (λ n. IsTrue g.P.Disk.is_known → IsFirstBroken file n)
     (FaultCounted (g.P.Disk.faults c.new-file.result.disk) (g.P.Disk.faults c.read_index.new.file.disk)) (Unit {0})
