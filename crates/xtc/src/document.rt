@@ -23,7 +23,7 @@ ghost use Rattle.xtc.specs.Documents.{element_in, put_asks};
 ghost use Rattle.xtc.specs.TopCall.{IsWhole, WroteWhole, tx_limit, whole_limit};
 ghost use Rattle.xtc.specs.inside.Asking.{all_asks, AreValidAsks, DocumentDone, IfJudged, InputDone, IsReadElement, IsStop, IsQuiet, IsUnwritten, IsWriteEnd};
 ghost use Rattle.xtc.specs.StoreMachine.{pages_of, told};
-ghost use Rattle.xtc.specs.inside.CommandRuns.{RunsCommand};
+ghost use Rattle.xtc.specs.inside.CommandRuns.{RunsCommand, disks_of, input_of, output_of};
 
 use crate::answers::label_line;
 use crate::status::Status;
@@ -58,17 +58,11 @@ pub fn run_put<S: Source, K: Sink, J: Disk, P: Disk + Drop>(
 ) -> Finish<J, P>
     requires next { TakesBehind store.journal store.number }
     ensures { (every : ℕ) → RunsCommand J.is_known P.is_known (told P.is_known P.history store.base) store.number (put_command name.now) every result.status
-        (record { left = S.left source.old; given = S.given source.old; asked = S.asked source.old; faults = S.faults source.old })
-        (record { left = S.left source.new; given = S.given source.new; asked = S.asked source.new; faults = S.faults source.new })
-        (record { held = K.held sink.old; faults = K.faults sink.old }) (record { held = K.held sink.new; faults = K.faults sink.new })
-        (record {
-          files = pair_of store.journal.history (pages_of P.history store.base);
-          faults = record { journal = store.journal.faults; pages = P.faults store.base.base.disk };
-        })
-        (record {
-          files = pair_of (J.history result.journal) (P.history result.pages);
-          faults = record { journal = J.faults result.journal; pages = P.faults result.pages };
-        }) }
+        (input_of S.left S.given S.asked S.faults source.old)
+        (input_of S.left S.given S.asked S.faults source.new)
+        (output_of K.held K.faults sink.old) (output_of K.held K.faults sink.new)
+        (disks_of (pair_of store.journal.history (pages_of P.history store.base)) store.journal.faults (P.faults store.base.base.disk))
+        (disks_of (pair_of (J.history result.journal) (P.history result.pages)) (J.faults result.journal) (P.faults result.pages)) }
 {
     let OpenStore {
         base,

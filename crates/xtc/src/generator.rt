@@ -25,7 +25,7 @@ ghost use Rattle.xtc.specs.ReadLines.{line_in};
 ghost use Rattle.xtc.specs.ScriptLine.{line_of};
 ghost use Rattle.xtc.specs.StoreMachine.{HasRested, faults_of, file_in, file_of, pages_of, told};
 ghost use Rattle.xtc.specs.inside.Asking.{IsQuiet};
-ghost use Rattle.xtc.specs.inside.CommandRuns.{HasTree, Input, RunsCommand};
+ghost use Rattle.xtc.specs.inside.CommandRuns.{HasTree, Input, RunsCommand, disks_of, output_of};
 ghost use Rattle.xtc.specs.inside.Counting.{AskedLine, FromState, GoesOn, IsStopIf, LeftPages, RanLines};
 ghost use Rattle.xtc.specs.inside.Generating.{DoneOverFiles, FromTree, opened_with};
 ghost use Rattle.xtc.specs.inside.Renewing.{ReadsGroups, counts_in, files_of, kept};
@@ -68,15 +68,9 @@ pub fn run_gen<K: Sink, J: Disk, P: Disk + Drop>(
     requires tree { IsTrue P.is_known → HasTree (told P.is_known P.history store.base) }
     ensures { (input : Input) → RunsCommand J.is_known P.is_known (told P.is_known P.history store.base) store.number
         (gen_command seed count) every result.status input input
-        (record { held = K.held sink.old; faults = K.faults sink.old }) (record { held = K.held sink.new; faults = K.faults sink.new })
-        (record {
-          files = pair_of store.journal.history (pages_of P.history store.base);
-          faults = record { journal = store.journal.faults; pages = P.faults store.base.base.disk };
-        })
-        (record {
-          files = pair_of (J.history result.journal) (P.history result.pages);
-          faults = record { journal = J.faults result.journal; pages = P.faults result.pages };
-        }) }
+        (output_of K.held K.faults sink.old) (output_of K.held K.faults sink.new)
+        (disks_of (pair_of store.journal.history (pages_of P.history store.base)) store.journal.faults (P.faults store.base.base.disk))
+        (disks_of (pair_of (J.history result.journal) (P.history result.pages)) (J.faults result.journal) (P.faults result.pages)) }
 {
     let OpenStore {
         base,

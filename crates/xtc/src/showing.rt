@@ -18,7 +18,7 @@ ghost use Rattle.xtc.specs.Documents.{call_of};
 ghost use Rattle.xtc.specs.StoreMachine.{pages_of, told};
 ghost use Rattle.xtc.specs.TopCall.{tx_limit};
 ghost use Rattle.xtc.specs.inside.Asking.{DocumentDone, IsStop};
-ghost use Rattle.xtc.specs.inside.CommandRuns.{Input, RunsCommand};
+ghost use Rattle.xtc.specs.inside.CommandRuns.{Input, RunsCommand, disks_of, output_of};
 ghost use Rattle.xtc.specs.inside.Showing.{AddsAnswer, AreLinesOf, IsHalt, IsLawful, said_line, Shows};
 ghost use Rattle.xtc.specs.inside.Stores.{Counts};
 
@@ -50,15 +50,9 @@ pub fn run_get<K: Sink, J: Disk, P: Disk + Drop>(
     ensures { (input : Input) (every : ℕ)
         → RunsCommand J.is_known P.is_known (told P.is_known P.history store.base) store.number (get_command name.now) every result.status
         input input
-        (record { held = K.held sink.old; faults = K.faults sink.old }) (record { held = K.held sink.new; faults = K.faults sink.new })
-        (record {
-          files = pair_of store.journal.history (pages_of P.history store.base);
-          faults = record { journal = store.journal.faults; pages = P.faults store.base.base.disk };
-        })
-        (record {
-          files = pair_of (J.history result.journal) (P.history result.pages);
-          faults = record { journal = J.faults result.journal; pages = P.faults result.pages };
-        }) }
+        (output_of K.held K.faults sink.old) (output_of K.held K.faults sink.new)
+        (disks_of (pair_of store.journal.history (pages_of P.history store.base)) store.journal.faults (P.faults store.base.base.disk))
+        (disks_of (pair_of (J.history result.journal) (P.history result.pages)) (J.faults result.journal) (P.faults result.pages)) }
 {
     let OpenStore {
         mut base,
@@ -81,15 +75,9 @@ pub fn run_query<K: Sink, J: Disk, P: Disk + Drop>(
     ensures { (input : Input) (every : ℕ)
         → RunsCommand J.is_known P.is_known (told P.is_known P.history store.base) store.number (query_command name.now path.now) every result.status
         input input
-        (record { held = K.held sink.old; faults = K.faults sink.old }) (record { held = K.held sink.new; faults = K.faults sink.new })
-        (record {
-          files = pair_of store.journal.history (pages_of P.history store.base);
-          faults = record { journal = store.journal.faults; pages = P.faults store.base.base.disk };
-        })
-        (record {
-          files = pair_of (J.history result.journal) (P.history result.pages);
-          faults = record { journal = J.faults result.journal; pages = P.faults result.pages };
-        }) }
+        (output_of K.held K.faults sink.old) (output_of K.held K.faults sink.new)
+        (disks_of (pair_of store.journal.history (pages_of P.history store.base)) store.journal.faults (P.faults store.base.base.disk))
+        (disks_of (pair_of (J.history result.journal) (P.history result.pages)) (J.faults result.journal) (P.faults result.pages)) }
 {
     let OpenStore {
         mut base,

@@ -221,7 +221,8 @@ fn rest<J: Disk, P: Disk + Drop>(
     ensures damaged { (place : Place) → result ≡ Err (halt.Damaged place) → IsTrue (is_positive checkpoints.old.every) × (IsTrue P.is_known → ⊥) }
     ensures files { IsTrue J.is_known → IsTrue P.is_known → (s : State StoreCall) → machine.Stands P.is_known P.history core.old s
         → StandFor s (files_of P.history (kept core.old journal.old checkpoints.old))
-        → LeftStanding s (files_of P.history (kept core.old journal.old checkpoints.old)) (files_of P.history (kept core.new journal.new checkpoints.new)) result }
+        → LeftStanding s (files_of P.history (kept core.old journal.old checkpoints.old))
+        (files_of P.history (kept core.new journal.new checkpoints.new)) result }
     ensures counts { DisksCountedWhere (result ≡ Err halt.DiskFault)
         (counts_in P.faults (kept core.old journal.old checkpoints.old)) (counts_in P.faults (kept core.new journal.new checkpoints.new)) }
 {

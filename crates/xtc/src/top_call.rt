@@ -12,7 +12,7 @@ ghost use Rattle.command_words.specs.Commands.{IsInRange, checkpoint_of, command
 ghost use Rattle.xtc.specs.Checkpoints.{every_of, is_positive, may_lose};
 ghost use Rattle.xtc.specs.StoreMachine.{pages_of, told};
 ghost use Rattle.xtc.specs.TopCall.{Leaves, IsSilent, TookInput, tx_limit};
-ghost use Rattle.xtc.specs.inside.CommandRuns.{HasTree, RunsCommand};
+ghost use Rattle.xtc.specs.inside.CommandRuns.{HasTree, RunsCommand, disks_of, input_of, output_of};
 ghost use Rattle.xtc.specs.inside.Renewing.{ReadsGroups};
 
 use crate::checkpoints::{Checkpoints, MakesCheckpoints, NoCheckpoints, SomeCheckpoints};
@@ -77,7 +77,8 @@ pub fn xtc<
 ) -> Finish<J, P>
     // What is read and written, and what a crash leaves now and at any moment before, by the status.
     ensures leaves { (read : List ℕ) × Gave (S.left source.old) (S.left source.new) read × (S.given source.new ≡ S.given source.old + length read)
-        × (IsTrue J.is_known → IsTrue P.is_known → Leaves tx_limit (command_of words.now.items) (every_of (checkpoint_of words.now.items)) result.status (record {
+        × (IsTrue J.is_known → IsTrue P.is_known
+        → Leaves tx_limit (command_of words.now.items) (every_of (checkpoint_of words.now.items)) result.status (record {
           read = read;
           asked = S.asked source.new - S.given source.old;
           left = S.left source.new;
@@ -99,7 +100,8 @@ pub fn xtc<
 
     // The cause of each status, and no fault that was counted at any other.
     ensures usage { (result.status ≡ Status.Usage → command_of words.now.items ≡ None)
-        × (command_of words.now.items ≡ None → ((result.status ≡ Status.Usage) ⊎ (result.status ≡ Status.NoMemory)) × (result.journal ≡ journal) × (result.pages ≡ pages)) }
+        × (command_of words.now.items ≡ None
+        → ((result.status ≡ Status.Usage) ⊎ (result.status ≡ Status.NoMemory)) × (result.journal ≡ journal) × (result.pages ≡ pages)) }
     ensures read { ReadCountedWhere (result.status ≡ Status.ReadFault) input_limit
         (S.faults source.old) (S.faults source.new) (S.given source.old) (S.given source.new) }
     ensures write { CountedWhere (result.status ≡ Status.WriteFault) (K.faults sink.old) (K.faults sink.new) }
@@ -175,17 +177,11 @@ fn run_command<
     requires synced { IsTrue P.is_known → IsAllSynced (pages_of P.history store.base) }
     requires tree { IsTrue P.is_known → HasTree (told P.is_known P.history store.base) }
     ensures { RunsCommand J.is_known P.is_known (told P.is_known P.history store.base) store.number (meant command.entry) every result.status
-        (record { left = S.left source.old; given = S.given source.old; asked = S.asked source.old; faults = S.faults source.old })
-        (record { left = S.left source.new; given = S.given source.new; asked = S.asked source.new; faults = S.faults source.new })
-        (record { held = K.held sink.old; faults = K.faults sink.old }) (record { held = K.held sink.new; faults = K.faults sink.new })
-        (record {
-          files = pair_of store.journal.history (pages_of P.history store.base);
-          faults = record { journal = store.journal.faults; pages = P.faults store.base.base.disk };
-        })
-        (record {
-          files = pair_of (J.history result.journal) (P.history result.pages);
-          faults = record { journal = J.faults result.journal; pages = P.faults result.pages };
-        }) }
+        (input_of S.left S.given S.asked S.faults source.old)
+        (input_of S.left S.given S.asked S.faults source.new)
+        (output_of K.held K.faults sink.old) (output_of K.held K.faults sink.new)
+        (disks_of (pair_of store.journal.history (pages_of P.history store.base)) store.journal.faults (P.faults store.base.base.disk))
+        (disks_of (pair_of (J.history result.journal) (P.history result.pages)) (J.faults result.journal) (P.faults result.pages)) }
 {
     match command {
         Command::Run => run_store(alloc, every, source, sink, store),
@@ -209,17 +205,11 @@ fn run_store<S: Source, K: Sink, J: Disk, P: Disk + Drop>(
     requires synced { IsTrue P.is_known → IsAllSynced (pages_of P.history store.base) }
     requires tree { IsTrue P.is_known → HasTree (told P.is_known P.history store.base) }
     ensures { RunsCommand J.is_known P.is_known (told P.is_known P.history store.base) store.number run every result.status
-        (record { left = S.left source.old; given = S.given source.old; asked = S.asked source.old; faults = S.faults source.old })
-        (record { left = S.left source.new; given = S.given source.new; asked = S.asked source.new; faults = S.faults source.new })
-        (record { held = K.held sink.old; faults = K.faults sink.old }) (record { held = K.held sink.new; faults = K.faults sink.new })
-        (record {
-          files = pair_of store.journal.history (pages_of P.history store.base);
-          faults = record { journal = store.journal.faults; pages = P.faults store.base.base.disk };
-        })
-        (record {
-          files = pair_of (J.history result.journal) (P.history result.pages);
-          faults = record { journal = J.faults result.journal; pages = P.faults result.pages };
-        }) }
+        (input_of S.left S.given S.asked S.faults source.old)
+        (input_of S.left S.given S.asked S.faults source.new)
+        (output_of K.held K.faults sink.old) (output_of K.held K.faults sink.new)
+        (disks_of (pair_of store.journal.history (pages_of P.history store.base)) store.journal.faults (P.faults store.base.base.disk))
+        (disks_of (pair_of (J.history result.journal) (P.history result.pages)) (J.faults result.journal) (P.faults result.pages)) }
 {
     if every == 0 {
         return run_lines(alloc, every, NoCheckpoints, source, sink, store);
@@ -241,17 +231,11 @@ fn run_lines<S: Source, K: Sink, J: Disk, P: Disk + Drop, C: MakesCheckpoints>(
     requires synced { IsTrue P.is_known → IsAllSynced (pages_of P.history store.base) }
     requires tree { IsTrue P.is_known → HasTree (told P.is_known P.history store.base) }
     ensures { RunsCommand J.is_known P.is_known (told P.is_known P.history store.base) store.number run every result.status
-        (record { left = S.left source.old; given = S.given source.old; asked = S.asked source.old; faults = S.faults source.old })
-        (record { left = S.left source.new; given = S.given source.new; asked = S.asked source.new; faults = S.faults source.new })
-        (record { held = K.held sink.old; faults = K.faults sink.old }) (record { held = K.held sink.new; faults = K.faults sink.new })
-        (record {
-          files = pair_of store.journal.history (pages_of P.history store.base);
-          faults = record { journal = store.journal.faults; pages = P.faults store.base.base.disk };
-        })
-        (record {
-          files = pair_of (J.history result.journal) (P.history result.pages);
-          faults = record { journal = J.faults result.journal; pages = P.faults result.pages };
-        }) }
+        (input_of S.left S.given S.asked S.faults source.old)
+        (input_of S.left S.given S.asked S.faults source.new)
+        (output_of K.held K.faults sink.old) (output_of K.held K.faults sink.new)
+        (disks_of (pair_of store.journal.history (pages_of P.history store.base)) store.journal.faults (P.faults store.base.base.disk))
+        (disks_of (pair_of (J.history result.journal) (P.history result.pages)) (J.faults result.journal) (P.faults result.pages)) }
 {
     let OpenStore {
         base,

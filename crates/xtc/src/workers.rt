@@ -16,7 +16,7 @@ ghost use Rattle.workers_replies.specs.Shown.{lines_in};
 ghost use Rattle.xtc.specs.Checkpoints.{may_lose};
 ghost use Rattle.xtc.specs.StoreMachine.{HasPages, pages_of, told};
 ghost use Rattle.xtc.specs.TopCall.{whole_limit};
-ghost use Rattle.xtc.specs.inside.CommandRuns.{HasTree, RunsCommand, StandSettled};
+ghost use Rattle.xtc.specs.inside.CommandRuns.{HasTree, RunsCommand, StandSettled, disks_of, input_of, output_of};
 ghost use Rattle.xtc.specs.inside.Renewing.{ReadsGroups};
 ghost use Rattle.xtc.specs.inside.Working.{HasCommits, IfWorked, InputWorked, IsBegun, IsNew, IsWorkersFault, IsWorkersStop, LeavesCommits, MayEnd, ScriptDone, counts_beside, files_beside};
 
@@ -68,17 +68,11 @@ pub fn run_workers<
     requires synced { IsTrue P.is_known → IsAllSynced (pages_of P.history store.base) }
     requires tree { IsTrue P.is_known → HasTree (told P.is_known P.history store.base) }
     ensures { RunsCommand J.is_known P.is_known (told P.is_known P.history store.base) store.number workers_command every result.status
-        (record { left = S.left source.old; given = S.given source.old; asked = S.asked source.old; faults = S.faults source.old })
-        (record { left = S.left source.new; given = S.given source.new; asked = S.asked source.new; faults = S.faults source.new })
-        (record { held = K.held sink.old; faults = K.faults sink.old }) (record { held = K.held sink.new; faults = K.faults sink.new })
-        (record {
-          files = pair_of store.journal.history (pages_of P.history store.base);
-          faults = record { journal = store.journal.faults; pages = P.faults store.base.base.disk };
-        })
-        (record {
-          files = pair_of (J.history result.journal) (P.history result.pages);
-          faults = record { journal = J.faults result.journal; pages = P.faults result.pages };
-        }) }
+        (input_of S.left S.given S.asked S.faults source.old)
+        (input_of S.left S.given S.asked S.faults source.new)
+        (output_of K.held K.faults sink.old) (output_of K.held K.faults sink.new)
+        (disks_of (pair_of store.journal.history (pages_of P.history store.base)) store.journal.faults (P.faults store.base.base.disk))
+        (disks_of (pair_of (J.history result.journal) (P.history result.pages)) (J.faults result.journal) (P.faults result.pages)) }
 {
     let OpenStore {
         base,

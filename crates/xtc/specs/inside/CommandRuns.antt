@@ -33,6 +33,18 @@ pub record Disks : Type 0 where
   pub files : Pair
   pub faults : Counts
 
+-- what is told of a source, by its members
+abbrev pub input_of : {S : Type 0} → (S → Option (List ℕ)) → (S → ℕ) → (S → ℕ) → (S → ℕ) → S → Input
+input_of left given asked faults source = record { left = left source; given = given source; asked = asked source; faults = faults source }
+
+-- of a sink
+abbrev pub output_of : {K : Type 0} → (K → Option (List ℕ)) → (K → ℕ) → K → Output
+output_of held faults sink = record { held = held sink; faults = faults sink }
+
+-- of two disks with these files, by the counts of their faults
+abbrev pub disks_of : Pair → ℕ → ℕ → Disks
+disks_of files journal pages = record { files = files; faults = record { journal = journal; pages = pages } }
+
 -- two files of which a crash leaves what a read gives stand for this tree and number
 pub record StandSettled (files : Pair) (t : Tree) (number : ℕ) : Type 0 where
   pub journal : IsAllSynced files.journal
