@@ -1,13 +1,11 @@
 //! A store with a journal behind a turn of its own.
-ghost use Rattle.std.specs.Prelude.{◌≡◌, ◌≢◌, ◌<◌, ◌+◌, ℕ, [], ◌∷◌, false, true, max, None, IfOk, IfErr, IsTrue, slice_set};
+ghost use Rattle.std.specs.Prelude.{◌≡◌, ◌≢◌, ◌<◌, ℕ, [], ◌∷◌, false, true, max, None, IfOk, IfErr, slice_set};
 ghost use Rattle.call_contract.specs.Sessions.{live_in};
-ghost use Rattle.journal.specs.Groups.{is_next};
-ghost use Rattle.journal.specs.Views.{TakesGroups};
 ghost use Rattle.turn_lock.specs.Turns.{first_pass, HasAll, has_number};
-ghost use Rattle.shared_store.specs.Lists.{book_of, drained_in, SessionsFit};
+ghost use Rattle.shared_store.specs.Lists.{book_of, SessionsFit};
 ghost use Rattle.shared_store.specs.Sessions.{IsOpenedAs};
+ghost use Rattle.group_commit.specs.Asked.{IsDrained, IsWholeSession, TakesNextOf};
 ghost use Rattle.group_commit.specs.Closings.{IsAsTold};
-ghost use Rattle.group_commit.specs.Marks.{last_commit};
 ghost use Rattle.group_commit.specs.Members.{GoesOnIn, HasCommittedAll, HasMadeDurable, IsOf, joined, met, only_with, without_number};
 ghost use Rattle.group_commit.specs.declared.mark.Mark.TheVariants as mark;
 
@@ -64,17 +62,10 @@ impl<C: TreeCall + Drop, B: NodeRead + Drop, J: Disk> GroupCommit<C, B, J> {
         session: Session<C, B>,
         journal: Journal<J>,
     ) -> Result<(GroupCommit<C, B, J>, Member<C, B, J>), GroupFault<C, B, J>>
-        requires store { session.lock ≡ store }
-        requires all { HasAll session.has }
-        requires number { session.under ≢ 0 }
+        requires session { IsWholeSession store session }
+        requires drained { IsDrained session.seen }
+        requires takes { TakesNextOf session.seen journal }
 
-        // No commit waits to be drained, and the number 0 has no transaction.
-        requires drained { drained_in session.seen ≡ last_commit session.seen }
-        requires idle { live_in (book_of session.seen) 0 ≡ None }
-
-        // The journal takes the commit after the last one.
-        requires usable { TakesGroups journal }
-        requires next { IsTrue (is_next journal.last (last_commit session.seen + 1)) }
         ensures store { IfOk result (λ r. r.0.store ≡ store) }
         ensures session { IfOk result (λ r. r.1.session
             ≡ record { lock = session.lock; seen = session.seen; has = slice_set session.has 0 false; under = session.under }) }

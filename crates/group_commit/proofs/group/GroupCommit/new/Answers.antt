@@ -10,7 +10,7 @@ use Rattle.group_commit.proofs.Grouping.{first_member, longer_self, zero_back}
 use Rattle.group_commit.proofs.group.GroupCommit.new.Goals as goal
 
 pub split-drainer-requires-clause-number : goal.split-drainer-requires-clause-number
-split-drainer-requires-clause-number g c = (c.requires.all 0 (lit< tt), c.requires.number)
+split-drainer-requires-clause-number g c = (c.requires.session.all 0 (lit< tt), c.requires.session.number)
 
 -- `Scribe::new`'s conditions: the session as it was, by `Snapshot::of`, and the one that drains, by `given` of the split
 pub new-requires-clause-drainer : goal.new-requires-clause-drainer
@@ -31,7 +31,7 @@ invariant_of-result g c =
 pub join-requires-clause-store : goal.join-requires-clause-store
 join-requires-clause-store g c =
     let is = c.into_parts-journal.ensures.drainer ∙ (ap (λ (v : ScribeView _ _). v.drainer) (c.in-Err.ensures.err ∙ c.new.ensures) ∙ c.split-drainer.ensures.given) in
-    (ap (λ (v : SessionView _ _). v.lock) c.split-drainer.ensures.kept ∙ c.requires.store, ap (λ (v : SessionView _ _). v.lock) is ∙ c.requires.store)
+    (ap (λ (v : SessionView _ _). v.lock) c.split-drainer.ensures.kept ∙ c.requires.session.lock, ap (λ (v : SessionView _ _). v.lock) is ∙ c.requires.session.lock)
 
 -- both pieces come back, and are one session again
 pub join-requires-clause-ended : goal.join-requires-clause-ended
@@ -39,7 +39,7 @@ join-requires-clause-ended g c =
     let back = c.into_parts-journal.ensures.drainer in
     let given = c.split-drainer.ensures.given in
     let is = back ∙ (ap (λ (v : ScribeView _ _). v.drainer) (c.in-Err.ensures.err ∙ c.new.ensures) ∙ given) in
-    subst (λ (v : SessionView _ _). live_in (book_of v.seen) v.under ≡ None) (sym is) c.requires.idle
+    subst (λ (v : SessionView _ _). live_in (book_of v.seen) v.under ≡ None) (sym is) c.requires.drained.idle
 
 pub returns-in-Err-clause-err : goal.returns-in-Err-clause-err
 returns-in-Err-clause-err g c =
@@ -50,6 +50,6 @@ returns-in-Err-clause-err g c =
       refl,
       joined
           ∙ ((λ i. record { lock = (kept i).lock; seen = longer (kept i).seen (is i).seen; has = merged (kept i).has (is i).has; under = (kept i).under })
-          ∙ (λ i. record { lock = first.lock; seen = longer_self first.seen i; has = zero_back first.has c.requires.all i; under = first.under })),
+          ∙ (λ i. record { lock = first.lock; seen = longer_self first.seen i; has = zero_back first.has c.requires.session.all i; under = first.under })),
       c.into_parts-journal.ensures.journal ∙ ap (λ (v : ScribeView _ _). v.journal) (c.in-Err.ensures.err ∙ c.new.ensures),
     )
