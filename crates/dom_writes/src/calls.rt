@@ -1,16 +1,10 @@
 //! All changing calls in one.
-ghost use Rattle.std.specs.Prelude.{◌≡◌, [], false, OnErr, ◌≤◌, ◌+◌, IfSome};
-ghost use Rattle.tree_model.specs.Changes.{differences};
-ghost use Rattle.tree_model.specs.DomCalls.{dom};
-ghost use Rattle.tree_model.specs.Fragments.{IsValid};
-ghost use Rattle.tree_model.specs.Tree.{map_of};
-ghost use Rattle.tree_changes.specs.ValidCalls.{fragment_brought};
+ghost use Rattle.std.specs.Prelude.{◌≡◌, OnErr, ◌≤◌, ◌+◌, IfSome};
 ghost use Rattle.node_seq.specs.ChangeLists.{IsChangeList};
-ghost use Rattle.node_seq.specs.Trees.{OnTree};
 ghost use Rattle.outside_traits.specs.Faults.{HasCause};
 ghost use Rattle.dom_reads.specs.ReadCounts.{ReadsOfTree};
+ghost use Rattle.dom_writes.specs.Changing.{AnswersAsDom, MayChange};
 ghost use Rattle.dom_writes.specs.ReadCounts.{few_reads, most_reads_of_change};
-ghost use Rattle.dom_reads.specs.Reading.{is_reading};
 
 use crate::attributes::{remove_attr, rename, set_attr};
 use crate::content::set_text;
@@ -33,11 +27,8 @@ pub fn dom_write<S: NodeRead>(
     seq: &mut S,
     out: &mut Changes,
 ) -> Result<Reply, SeqError>
-    requires empty { out.old ≡ [] }
-    requires changing { is_reading call.now ≡ false }
-    requires fragment { IsValid (fragment_brought call.now) }
-    ensures reply { OnTree (S.contents seq.old) result (λ t reply. reply ≡ (dom call.now t).0) }
-    ensures changes { OnTree (S.contents seq.old) result (λ t _. out.new ≡ differences (map_of t) (map_of (dom call.now t).1)) }
+    requires may_change { MayChange out.old call.now }
+    ensures answers { AnswersAsDom (S.contents seq.old) call.now result out.new }
     ensures rise { IsChangeList out.new }
     ensures err { OnErr result (out.new ≡ out.old) }
     ensures unchanged { S.unchanged seq.old seq.new }

@@ -10,6 +10,7 @@ ghost use Rattle.tree_model.specs.Tree.{entries_of, map_of};
 ghost use Rattle.node_seq.specs.ChangeLists.{IsChangeList};
 ghost use Rattle.node_seq.specs.Trees.{OnTree};
 ghost use Rattle.outside_traits.specs.Faults.{HasCause};
+ghost use Rattle.dom_writes.specs.Changing.{MayBring};
 ghost use Rattle.dom_writes.specs.inside.NewDocuments as new_documents;
 ghost use Rattle.dom_writes.specs.inside.NewPlaces.{answer};
 
@@ -34,8 +35,7 @@ pub fn create<S: NodeRead>(
     seq: &mut S,
     out: &mut Changes,
 ) -> Result<Reply, SeqError>
-    requires empty { out.old ≡ [] }
-    requires fragment { IsValid (plain_or_none (option_map (λ f. f.now) fragment)) }
+    requires may_bring { MayBring out.old (plain_or_none (option_map (λ f. f.now) fragment)) }
     ensures reply { OnTree (S.contents seq.old) result (λ t reply.
         reply ≡ (documents.create name.now (plain_or_none (option_map (λ f. f.now) fragment.entry)) t).0) }
     ensures changes { OnTree (S.contents seq.old) result (λ t _.

@@ -8,6 +8,7 @@ ghost use Rattle.tree_model.specs.Tree.{map_of};
 ghost use Rattle.node_seq.specs.ChangeLists.{IsChangeList};
 ghost use Rattle.node_seq.specs.Trees.{OnTree};
 ghost use Rattle.outside_traits.specs.Faults.{HasCause};
+ghost use Rattle.dom_writes.specs.Changing.{MayBring};
 ghost use Rattle.dom_writes.specs.inside.NewPlaces.{SuitsOrRefused, answer, changes};
 
 use crate::grafts::graft_changes;
@@ -27,8 +28,7 @@ pub fn append<S: NodeRead>(
     seq: &mut S,
     out: &mut Changes,
 ) -> Result<Reply, SeqError>
-    requires empty { out.old ≡ [] }
-    requires fragment { IsValid (plain fragment.now) }
+    requires may_bring { MayBring out.old (plain fragment.now) }
     ensures reply { OnTree (S.contents seq.old) result (λ t reply. reply ≡ (placing.append at.now (plain fragment.now) t).0) }
     ensures changes { OnTree (S.contents seq.old) result (λ t _. out.new ≡ differences (map_of t) (map_of (placing.append at.now (plain fragment.now) t).1)) }
     ensures rise { IsChangeList out.new }
@@ -106,8 +106,7 @@ pub fn insert<S: NodeRead>(
     seq: &mut S,
     out: &mut Changes,
 ) -> Result<Reply, SeqError>
-    requires empty { out.old ≡ [] }
-    requires fragment { IsValid (plain fragment.now) }
+    requires may_bring { MayBring out.old (plain fragment.now) }
     ensures reply { OnTree (S.contents seq.old) result (λ t reply.
         reply ≡ (placing.insert at.now (option_map (λ l. l.now) before.entry) (plain fragment.now) t).0) }
     ensures changes { OnTree (S.contents seq.old) result (λ t _.

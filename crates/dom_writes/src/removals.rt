@@ -8,6 +8,7 @@ ghost use Rattle.node_seq.specs.ChangeLists.{IsChangeList};
 ghost use Rattle.node_seq.specs.Trees.{OnTree};
 ghost use Rattle.outside_traits.specs.Faults.{HasCause};
 ghost use Rattle.dom_reads.specs.ReadCounts.{ReadsOfTree};
+ghost use Rattle.dom_writes.specs.Changing.{MayBring};
 ghost use Rattle.dom_writes.specs.ReadCounts.{removal_reads, replace_reads};
 ghost use Rattle.dom_writes.specs.inside.NewPlaces.{SuitsOrRefused};
 ghost use Rattle.dom_writes.specs.inside.Outcomes.{parent_of, placed_instead, reply_and_changes};
@@ -83,8 +84,7 @@ pub fn replace<S: NodeRead>(
     seq: &mut S,
     out: &mut Changes,
 ) -> Result<Reply, SeqError>
-    requires empty { out.old ≡ [] }
-    requires fragment { IsValid (plain fragment.now) }
+    requires may_bring { MayBring out.old (plain fragment.now) }
     ensures reply { OnTree (S.contents seq.old) result (λ t reply. reply ≡ (placing.replace at.now old.now (plain fragment.now) t).0) }
     ensures changes { OnTree (S.contents seq.old) result (λ t _.
         out.new ≡ differences (map_of t) (map_of (placing.replace at.now old.now (plain fragment.now) t).1)) }

@@ -11,5 +11,5 @@ pub returns-clause-changes : goal.returns-clause-changes
 returns-clause-changes g c = λ t stands.
     let p = c.args.at.now in
     c.in_ok-put_fragment.ensures.changes
-    ∙ insert_changes p c.in-Some.child.now c.args.fragment.now t c.in_ok-place.place stands.valid c.requires.fragment c.in_ok-place.ensures.suits (c.in_ok-place.ensures.place t stands)
+    ∙ insert_changes p c.in-Some.child.now c.args.fragment.now t c.in_ok-place.place stands.valid c.requires.may_bring.fragment c.in_ok-place.ensures.suits (c.in_ok-place.ensures.place t stands)
     ∙ ap (λ (o : Option (Bor Label)). differences (map_of t) (map_of (insert p (option_map (λ l. l.now) o) (plain c.args.fragment.now) t).1)) (sym c.in-Some.is)
