@@ -1,14 +1,17 @@
 -- What a checkpoint leaves of a store (docs/FILE_FORMAT.md, "Checkpoints").
-use Rattle.std.specs.Prelude.{◌≡◌, ◌≤◌, ◌⊎◌, ℕ, Bool, IsTrue, List, [], Some, Result, Ok, Err, OnOk}
+use Rattle.std.specs.Prelude.{◌≡◌, ◌≤◌, ◌⊎◌, ℕ, Bool, IsTrue, List, [], Option, Some, Result, Ok, Err, OnOk}
 use Rattle.outside_traits.specs.DiskPairs.{Pair}
 use Rattle.outside_traits.specs.Faults.{FaultCounted}
 use Rattle.outside_traits.specs.Moments.{History, IsAllSynced}
-use Rattle.tree_model.specs.Tree.{Tree}
+use Rattle.tree_model.specs.Entries.{Entries}
+use Rattle.tree_model.specs.Tree.{Tree, map_of}
+use Rattle.node_seq.specs.Trees.{StandsFor}
 use Rattle.node_seq.specs.declared.node_read.SeqError.{SeqError}
 use Rattle.node_seq.specs.declared.node_read.SeqError.TheVariants.{DiskFault, NoMemory}
 use Rattle.node_pages.specs.declared.cut.Cut.{Cut}
 use Rattle.node_pages.specs.declared.cut.Cut.TheVariants.{Pages, TooMany}
-use Rattle.journal.specs.Groups.{only_commits}
+use Rattle.node_pages.specs.PageFiles.{contents_of_file}
+use Rattle.journal.specs.Groups.{is_last, only_commits}
 use Rattle.journal.specs.Heads.{first_gate}
 use Rattle.journal.specs.Journals.{read}
 use Rattle.journal.specs.Views.{JournalView, TakesGroups}
@@ -16,6 +19,12 @@ use Rattle.store_contents.specs.Contents.{Contents, contents_of_files}
 use Rattle.store_contents.specs.StoredTrees.{StandFor}
 use Rattle.checkpoint.specs.declared.made.Made.{Made}
 use Rattle.checkpoint.specs.declared.made.Made.TheVariants.{Yes, No}
+
+-- the journal may be used, the commit with this number is its last one, and all of known pages is synced
+pub record MayCheckpoint (pages_known : Bool) (number : ℕ) (journal : JournalView) (pages : History) : Type 0 where
+  pub usable : TakesGroups journal
+  pub last : IsTrue (is_last journal.last number)
+  pub synced : IsTrue pages_known → IsAllSynced pages
 
 -- whether a checkpoint is made, by the cut of its tree
 abbrev pub made_of : Cut → Made
@@ -29,6 +38,11 @@ pub record IsCleared (is_known : Bool) (number : ℕ) (journal : JournalView) : 
   pub gate : journal.gate ≡ first_gate
   pub none : IsTrue is_known → read journal.history.now.reads ≡ Ok (only_commits [])
   pub synced : IsTrue is_known → IsAllSynced journal.history
+
+-- the tree of this map is in the pages alone, with this number: known pages hold exactly it, and the journal has no group
+pub record IsInPages (journal_known pages_known : Bool) (map : Option Entries) (number : ℕ) (journal : JournalView) (file : History) : Type 0 where
+  pub cleared : IsCleared journal_known number journal
+  pub pages : IsTrue pages_known → (t : Tree) → StandsFor map t → contents_of_file file.now.reads ≡ Ok (map_of t, number)
 
 -- ---- what the files stand for
 

@@ -11,7 +11,7 @@ ghost use Rattle.journal.specs.Views.{TakesGroups};
 ghost use Rattle.store_contents.specs.Contents.{contents_of_files};
 ghost use Rattle.node_seq.specs.declared.node_read.SeqError.TheVariants as seq;
 ghost use Rattle.checkpoint.specs.inside.Phases.{HasTwoCauses, IsCutOf, stored};
-ghost use Rattle.checkpoint.specs.Checkpoints.{HasOneCause, IsCleared, IsSettledAs, IsUnwritten, OpenAs, SameUnwritten, StandAs, counts_of, made_of};
+ghost use Rattle.checkpoint.specs.Checkpoints.{HasOneCause, IsCleared, IsInPages, IsSettledAs, IsUnwritten, MayCheckpoint, OpenAs, SameUnwritten, StandAs, counts_of, made_of};
 ghost use Rattle.checkpoint.specs.declared.made.Made.TheVariants.{Yes};
 
 use crate::images_body::images_body;
@@ -35,15 +35,11 @@ pub fn checkpoint<J: Disk, P: Disk, S: NodeRead>(
     seq: &mut S,
     number: u32,
 ) -> Result<Made, SeqError>
-    requires usable { TakesGroups journal.old }
-    requires last { IsTrue (is_last journal.old.last number) }
-    requires synced { IsTrue P.is_known → IsAllSynced (P.history pages.old) }
+    requires { MayCheckpoint P.is_known number journal.old (P.history pages.old) }
 
     // It is made but where the tree takes too many pages. Then the pages alone hold the tree with its number, and the journal no group.
     ensures made { OnTree (S.contents seq.old) result (λ t made. made ≡ made_of (cut_of number (data_of (map_of t)))) }
-    ensures cleared { result ≡ Ok Yes → IsCleared J.is_known number journal.new }
-    ensures pages { result ≡ Ok Yes → IsTrue P.is_known → (t : Tree) → StandsFor (S.contents seq.old) t
-        → contents_of_file (P.history pages.new).now.reads ≡ Ok (map_of t, number) }
+    ensures moved { result ≡ Ok Yes → IsInPages J.is_known P.is_known (S.contents seq.old) number journal.new (P.history pages.new) }
 
     // Where the files stood for the tree with this number, a crash at any moment leaves files that do, after an error too; after Ok all is synced again.
     ensures phases { IsTrue J.is_known → IsTrue P.is_known → (t : Tree) → StandsFor (S.contents seq.old) t

@@ -13,11 +13,8 @@ use Rattle.checkpoint.proofs.checkpoint_call.checkpoint.Goals as goal
 pub returns-in_err-cut-clause-made : goal.returns-in_err-cut-clause-made
 returns-in_err-cut-clause-made g c = not_ok _ c.from_residual.result c.in_err-cut.field-0.0 c.from_residual.ensures.1
 
-pub returns-in_err-cut-clause-cleared : goal.returns-in_err-cut-clause-cleared
-returns-in_err-cut-clause-cleared g c = λ e. absurd (never_ok c.from_residual.result c.in_err-cut.field-0.0 _ c.from_residual.ensures.1 e)
-
-pub returns-in_err-cut-clause-pages : goal.returns-in_err-cut-clause-pages
-returns-in_err-cut-clause-pages g c = λ e. absurd (never_ok c.from_residual.result c.in_err-cut.field-0.0 _ c.from_residual.ensures.1 e)
+pub returns-in_err-cut-clause-moved : goal.returns-in_err-cut-clause-moved
+returns-in_err-cut-clause-moved g c = λ e. absurd (never_ok c.from_residual.result c.in_err-cut.field-0.0 _ c.from_residual.ensures.1 e)
 
 pub returns-in_err-cut-clause-phases : goal.returns-in_err-cut-clause-phases
 returns-in_err-cut-clause-phases g c tj tp t stands settled = none (StandAs t c.args.number) (pair_of c.args.journal.now.history (g.P.Disk.history c.args.pages.now))
@@ -36,11 +33,11 @@ returns-in_err-cut-clause-cause g c = map_refused c.cut_pages.result c.from_resi
 pub returns-in-Ok-clause-made : goal.returns-in-Ok-clause-made
 returns-in-Ok-clause-made g c = λ t stands. ap made_of (sym c.in-Pages.is ∙ c.in_ok-cut.ensures.tree t stands)
 
-pub returns-in-Ok-clause-cleared : goal.returns-in-Ok-clause-cleared
-returns-in-Ok-clause-cleared g c = λ _. c.in-Ok.ensures.cleared
-
-pub returns-in-Ok-clause-pages : goal.returns-in-Ok-clause-pages
-returns-in-Ok-clause-pages g c = λ _ tp t stands. c.in-Ok.ensures.pages tp t (record { valid = stands.valid; is = sym (c.in_ok-cut.ensures.tree t stands) ∙ c.in-Pages.is })
+pub returns-in-Ok-clause-moved : goal.returns-in-Ok-clause-moved
+returns-in-Ok-clause-moved g c = λ _. record {
+  cleared = c.in-Ok.ensures.cleared;
+  pages = λ tp t stands. c.in-Ok.ensures.pages tp t (record { valid = stands.valid; is = sym (c.in_ok-cut.ensures.tree t stands) ∙ c.in-Pages.is });
+}
 
 pub returns-in-Ok-clause-phases : goal.returns-in-Ok-clause-phases
 returns-in-Ok-clause-phases g c tj tp t stands settled =
@@ -72,11 +69,8 @@ returns-in-Ok-clause-cause g c = none_rose Yes c.args.journal.now.faults c.write
 pub returns-in-Err-clause-made : goal.returns-in-Err-clause-made
 returns-in-Err-clause-made g c = tt
 
-pub returns-in-Err-clause-cleared : goal.returns-in-Err-clause-cleared
-returns-in-Err-clause-cleared g c = λ e. cc
-
-pub returns-in-Err-clause-pages : goal.returns-in-Err-clause-pages
-returns-in-Err-clause-pages g c = λ e. cc
+pub returns-in-Err-clause-moved : goal.returns-in-Err-clause-moved
+returns-in-Err-clause-moved g c = λ e. cc
 
 pub returns-in-Err-clause-phases : goal.returns-in-Err-clause-phases
 returns-in-Err-clause-phases g c tj tp t stands settled =
@@ -99,11 +93,8 @@ returns-in-Err-clause-cause g c = disks_refused c.write_cut.result c.in-Err.faul
 pub returns-in-TooMany-clause-made : goal.returns-in-TooMany-clause-made
 returns-in-TooMany-clause-made g c = λ t stands. ap made_of (sym c.in-TooMany.is ∙ c.in_ok-cut.ensures.tree t stands)
 
-pub returns-in-TooMany-clause-cleared : goal.returns-in-TooMany-clause-cleared
-returns-in-TooMany-clause-cleared g c = λ e. cc
-
-pub returns-in-TooMany-clause-pages : goal.returns-in-TooMany-clause-pages
-returns-in-TooMany-clause-pages g c = λ e. cc
+pub returns-in-TooMany-clause-moved : goal.returns-in-TooMany-clause-moved
+returns-in-TooMany-clause-moved g c = λ e. cc
 
 pub returns-in-TooMany-clause-phases : goal.returns-in-TooMany-clause-phases
 returns-in-TooMany-clause-phases g c tj tp t stands settled = none (StandAs t c.args.number) (pair_of c.args.journal.now.history (g.P.Disk.history c.args.pages.now))
