@@ -4,6 +4,7 @@ use Rattle.std.specs.List.{AllByRecursion}
 use Rattle.std.specs.Prelude.{Result}
 use Rattle.outside_traits.specs.DiskPairs.{Pair, PairsLeave, pair_of}
 use Rattle.outside_traits.specs.Moments.{History, IsAllSynced}
+use Rattle.outside_traits.proofs.PairLaws.{none}
 use Rattle.tree_model.specs.declared.key.Key.{Key}
 use Rattle.tree_model.specs.declared.record.Record.{Record}
 use Rattle.tree_model.specs.Entries.{Entries}
@@ -26,13 +27,14 @@ use Rattle.call_contract.proofs.SessionBooks.{number_told}
 use Rattle.tx_core.specs.Cores.{CoreView, over, state_from, with_committed}
 use Rattle.checkpoint.specs.Bases.{IsUnchanged, contents_of, is_paged}
 use Rattle.checkpoint.specs.Checkpoints.{IsCleared, OpenAs}
-use Rattle.checkpoint.specs.Renewals.{InState, IsSettledWith, committed_in, last_number, pages_of}
+use Rattle.checkpoint.specs.Renewals.{InState, IsSettledWith, StandThroughout, committed_in, last_number, pages_of}
 use Rattle.checkpoint.specs.declared.base.Base.{Base}
 use Rattle.checkpoint.specs.declared.base.Base.TheVariants.{Paged, Copied}
+use Rattle.checkpoint.specs.declared.renew_fault.RenewFault.{RenewFault}
 use Rattle.checkpoint.specs.inside.Phases.{stored}
 use Rattle.checkpoint.specs.inside.Renewing.{HoldsTree}
 use Rattle.checkpoint.proofs.CutLaws.{cleared_opens}
-use Rattle.checkpoint.proofs.RenewAnswers.{rebased}
+use Rattle.checkpoint.proofs.RenewAnswers.{always, rebased}
 
 -- ---- the core's state
 
@@ -96,6 +98,13 @@ pub copied_over : {C P : Type 0} (v w x : CoreView C (Base P)) (copy : Entries) 
 copied_over v w x copy count read taken = over_twice v w x (read_over v w read) (rebased w x (Copied copy count) taken)
 
 -- ---- what the disks stand for, with the number of the last commit
+
+-- where nothing was written
+pub stand_unwritten : {A P : Type 0} (contents : Contents) (r : Result A (RenewFault P)) (j p q : History) → q ≡ p → StandThroughout contents r (pair_of j p) (pair_of j q)
+stand_unwritten contents r j p q same = subst (λ (h : History). StandThroughout contents r (pair_of j p) (pair_of j h)) (sym same) (record {
+  phases = λ settled. none (OpenAs contents) (pair_of j p);
+  settled = always r (IsSettledWith contents (pair_of j p) → IsSettledWith contents (pair_of j p)) (λ settled. settled);
+})
 
 module _ {C P : Type 0} (v x : CoreView C (Base P)) (m : CallMeaning C) (contents : Base P → Option Entries) (copied : x ≡ with_committed (over v x.base) x.committed) (number : ℕ)
     (t : Tree) (opened : StandsFor (contents v.opening) t) (is_number : number ≡ (state_from m t v).number) where

@@ -1,6 +1,6 @@
 -- What a checkpoint under a core leaves of the core, the journal and the pages (docs/FILE_FORMAT.md, "Checkpoints").
-use Rattle.std.specs.Prelude.{◌≡◌, ◌≤◌, ◌⊎◌, ℕ, ◌+◌, Bool, IsTrue, [], Option, is_none, option_map, unwrap_or, Result, Ok, Err, IfErr, OnOk}
-use Rattle.outside_traits.specs.DiskPairs.{Pair}
+use Rattle.std.specs.Prelude.{◌≡◌, ◌≤◌, ◌⊎◌, ℕ, ◌+◌, Bool, not, IsTrue, [], Option, is_none, is_some, option_map, unwrap_or, Result, Ok, Err, IfErr, OnOk}
+use Rattle.outside_traits.specs.DiskPairs.{Pair, PairsLeave}
 use Rattle.outside_traits.specs.Disks.{all_synced}
 use Rattle.outside_traits.specs.Faults.{FaultCounted}
 use Rattle.outside_traits.specs.Moments.{History, IsAllSynced}
@@ -9,15 +9,16 @@ use Rattle.tree_model.specs.Tree.{Tree, map_of}
 use Rattle.node_records.specs.declared.open_error.OpenError.TheVariants.{Damaged, DiskFault}
 use Rattle.node_records.specs.declared.open_error.Place.{Place}
 use Rattle.node_seq.specs.Trees.{StandsFor}
+use Rattle.node_pages.specs.PageFiles.{contents_of_file}
 use Rattle.journal.specs.Groups.{is_next}
 use Rattle.journal.specs.Views.{JournalView, TakesGroups}
 use Rattle.store_contents.specs.Contents.{Contents}
 use Rattle.call_contract.specs.Calls.{CallMeaning}
 use Rattle.call_contract.specs.Sessions.{commits_in}
 use Rattle.call_contract.specs.States.{State}
-use Rattle.tx_core.specs.Cores.{CoreView, next_number, state_from}
+use Rattle.tx_core.specs.Cores.{CoreView, next_number, over, state_from, with_committed}
 use Rattle.checkpoint.specs.Bases.{count_of, is_paged}
-use Rattle.checkpoint.specs.Checkpoints.{OpenAs}
+use Rattle.checkpoint.specs.Checkpoints.{IsCleared, OpenAs}
 use Rattle.checkpoint.specs.declared.base.Base.{Base}
 use Rattle.checkpoint.specs.declared.base.Base.TheVariants.{Paged, Copied}
 use Rattle.checkpoint.specs.declared.made.Made.{Made}
@@ -74,6 +75,22 @@ pub record IsSettledWith (contents : Contents) (pair : Pair) : Type 0 where
   pub opens : OpenAs contents pair.journal.now.reads pair.pages.now.reads
   pub journal_synced : IsAllSynced pair.journal
   pub pages_synced : IsAllSynced pair.pages
+
+-- of a core only the base changes, with what it and the layers make of the committed map; an error hands the pages out exactly where that base is a copy, and after Ok the next checkpoint may come
+pub record LeavesCore {A C P : Type 0} (is_known : Bool) (history : P → History) (old new : CoreView C (Base P)) (journal : JournalView) (result : Result A (RenewFault P)) : Type 0 where
+  pub state : new ≡ with_committed (over old new.base) new.committed
+  pub handed_out : IfErr result (λ refused. is_some refused.pages ≡ not (is_paged new.base))
+  pub again : OnOk result (MayRenew is_known history new journal)
+
+-- what a core has committed is in the pages alone, with the last commit's number: known pages hold exactly it, and the journal has no group
+pub record IsCommittedInPages {C B : Type 0} (m : CallMeaning C) (contents : B → Option Entries) (core : CoreView C B) (journal_known pages_known : Bool) (journal : JournalView) (file : History) : Type 0 where
+  pub cleared : IsCleared journal_known (last_number core) journal
+  pub pages : IsTrue pages_known → InState m contents core (λ s. contents_of_file file.now.reads ≡ Ok (map_of s.tree, s.number))
+
+-- where two disks stood for this map with this number, all synced: a crash at any moment leaves files that do, after an error too, and after Ok both do, all synced
+pub record StandThroughout {A P : Type 0} (contents : Contents) (result : Result A (RenewFault P)) (old new : Pair) : Type 0 where
+  pub phases : IsSettledWith contents old → PairsLeave (OpenAs contents) old new
+  pub settled : OnOk result (IsSettledWith contents old → IsSettledWith contents new)
 
 -- no checkpoint was made, or an error came while the core lay over its pages
 abbrev pub IsUnbegun : {P : Type 0} → Result Made (RenewFault P) → Type 0

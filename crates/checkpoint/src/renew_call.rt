@@ -1,5 +1,5 @@
 //! A checkpoint under a core whose sessions go on.
-ghost use Rattle.std.specs.Prelude.{◌≡◌, ◌≤◌, not, Some, Ok, Err, IsTrue, IfOk, IfErr, OnOk, is_some};
+ghost use Rattle.std.specs.Prelude.{◌≡◌, Some, Ok, Err, IsTrue, IfOk, OnOk};
 ghost use Rattle.outside_traits.specs.DiskPairs.{PairsLeave, pair_of};
 ghost use Rattle.outside_traits.specs.Faults.{HasCause};
 ghost use Rattle.outside_traits.specs.Moments.{IsAllSynced};
@@ -14,7 +14,7 @@ ghost use Rattle.store_contents.specs.Contents.{contents_of_files};
 ghost use Rattle.tx_core.specs.Cores.{over, with_committed};
 ghost use Rattle.checkpoint.specs.Bases.{IsUnchanged, contents_of, count_of, is_paged};
 ghost use Rattle.checkpoint.specs.Checkpoints.{IsCleared, OpenAs, SameUnwritten, made_of};
-ghost use Rattle.checkpoint.specs.Renewals.{DamagedOnly, HasDiskCause, InState, IsSettledWith, IsUnbegun, MayRenew, committed_in, faults_left, last_number, pages_left, pages_of};
+ghost use Rattle.checkpoint.specs.Renewals.{DamagedOnly, HasDiskCause, InState, IsCommittedInPages, IsUnbegun, LeavesCore, MayRenew, StandThroughout, committed_in, faults_left, pages_left, pages_of};
 ghost use Rattle.checkpoint.specs.declared.base.Base.TheVariants as base;
 ghost use Rattle.checkpoint.specs.declared.made.Made.TheVariants.{Yes};
 ghost use Rattle.checkpoint.specs.inside.Phases.{IsCutOf, stored};
@@ -50,25 +50,18 @@ pub fn renew<C: TreeCall + Drop, J: Disk, P: Disk + Drop>(
     requires { MayRenew P.is_known P.history core.old journal.old }
 
     // Of the core only the base changes, with what it and the layers make of the committed map; that stands for the committed tree as before (`is_legal`).
-    ensures state { core.new ≡ with_committed (over core.old core.new.base) core.new.committed }
-    ensures handed_out { IfErr result (λ refused. is_some refused.pages ≡ not (is_paged core.new.base)) }
-    ensures again { OnOk result (MayRenew P.is_known P.history core.new journal.new) }
+    ensures core { LeavesCore P.is_known P.history core.old core.new journal.new result }
 
     // It is made but where the tree takes too many pages. Then the pages alone hold what is committed, and the journal no group.
     ensures made { IfOk result (λ made. InState C.meaning (contents_of P.is_known P.history) core.old
         (λ s. made ≡ made_of (cut_of s.number (data_of (map_of s.tree))))) }
-    ensures cleared { result ≡ Ok Yes → IsCleared J.is_known (last_number core.old) journal.new }
-    ensures pages { result ≡ Ok Yes → IsTrue P.is_known → InState C.meaning (contents_of P.is_known P.history) core.old
-        (λ s. contents_of_file (pages_of P.history core.new.base).now.reads ≡ Ok (map_of s.tree, s.number)) }
+    ensures moved { result ≡ Ok Yes → IsCommittedInPages C.meaning (contents_of P.is_known P.history) core.old
+        J.is_known P.is_known journal.new (pages_of P.history core.new.base) }
 
     // Where the files stood for what is committed, a crash at any moment leaves files that do, after an error too; after Ok all is synced again.
-    ensures phases { IsTrue J.is_known → IsTrue P.is_known → InState C.meaning (contents_of P.is_known P.history) core.old
-        (λ s. IsSettledWith (committed_in s) (pair_of journal.old.history (pages_of P.history core.old.base))
-        → PairsLeave (OpenAs (committed_in s)) (pair_of journal.old.history (pages_of P.history core.old.base))
+    ensures files { IsTrue J.is_known → IsTrue P.is_known → InState C.meaning (contents_of P.is_known P.history) core.old
+        (λ s. StandThroughout (committed_in s) result (pair_of journal.old.history (pages_of P.history core.old.base))
         (pair_of journal.new.history (pages_left P.history result core.new.base))) }
-    ensures settled { OnOk result (IsTrue J.is_known → IsTrue P.is_known → InState C.meaning (contents_of P.is_known P.history) core.old
-        (λ s. IsSettledWith (committed_in s) (pair_of journal.old.history (pages_of P.history core.old.base))
-        → IsSettledWith (committed_in s) (pair_of journal.new.history (pages_of P.history core.new.base)))) }
 
     // Where none is made, and where the core lies over its pages after an error, nothing was written.
     ensures unwritten { IsUnbegun result

@@ -1,19 +1,26 @@
 -- What a checkpoint under a store's sessions leaves of its files.
-use Rattle.std.proofs.Common.{◌≡◌, Bool, refl, subst}
-use Rattle.std.specs.Prelude.{Option, None, Some, option_map, unwrap_or, Ok, Err}
+use Rattle.std.proofs.Common.{◌≡◌, Bool, true, refl, ap, subst}
+use Rattle.std.specs.Prelude.{Option, None, Some, option_map, unwrap_or, Result, Ok, Err}
 use Rattle.outside_traits.specs.DiskPairs.{Pair, PairsLeave}
 use Rattle.outside_traits.specs.Moments.{History}
+use Rattle.tree_model.specs.Tree.{map_of}
 use Rattle.node_records.specs.declared.open_error.OpenError.{OpenError}
+use Rattle.node_pages.specs.Cuts.{cut_of, data_of}
+use Rattle.node_pages.specs.PageFiles.{contents_of_file}
 use Rattle.checkpoint.specs.Bases.{contents_of}
-use Rattle.checkpoint.specs.Checkpoints.{OpenAs}
-use Rattle.checkpoint.specs.Renewals.{InState, IsSettledWith, committed_in, pages_of}
+use Rattle.checkpoint.specs.Checkpoints.{OpenAs, made_of}
+use Rattle.checkpoint.specs.Renewals.{InState, IsSettledWith, IsUnbegun, committed_in, pages_of}
 use Rattle.checkpoint.specs.declared.base.Base.{Base}
+use Rattle.checkpoint.specs.declared.made.Made.{Made}
+use Rattle.checkpoint.specs.declared.made.Made.TheVariants.{Yes, No}
+use Rattle.checkpoint.specs.declared.renew_fault.RenewFault.{RenewFault}
 use Rattle.call_contract.specs.States.{State}
 use Rattle.command_lines.specs.declared.command.StoreCall.{StoreCall}
 use Rattle.store_calls.specs.StoreCalls.{store_meaning}
 use Rattle.tx_core.specs.Cores.{CoreView}
+use Rattle.xtc.specs.Checkpoints.{is_made}
 use Rattle.xtc.specs.StoreMachine.{Stands, file_of}
-use Rattle.xtc.specs.inside.Renewing.{LeftStanding, StandFor}
+use Rattle.xtc.specs.inside.Renewing.{IsMadeAs, IsMadeWhere, LeftStanding, StandFor}
 
 -- the file that a base and pages that were handed out have between them
 pub file_left : {P : Type 0} (history : P → History) (base : Base P) (pages : Option P) → unwrap_or (option_map history pages) (pages_of history base) ≡ file_of history base pages
@@ -42,3 +49,13 @@ module _ {P : Type 0} (is_known : Bool) (history : P → History) (core : CoreVi
 
     pub left_by_error : (e : OpenError) → LeftStanding s old new (Err e)
     left_by_error e = record { any_moment = moments; at_end = tt }
+
+  -- where one was due the pages are what it has made of them
+  pub made_there : (old new : History) (made : Made) → InState store_meaning (contents_of is_known history) core (λ x. made ≡ made_of (cut_of x.number (data_of (map_of x.tree))))
+      → (◌≡◌ {A = Result Made (RenewFault P)} (Ok made) (Ok Yes) → InState store_meaning (contents_of is_known history) core (λ x. contents_of_file new.now.reads ≡ Ok (map_of x.tree, x.number)))
+      → (IsUnbegun {P = P} (Ok made) → new ≡ old) → IsMadeWhere true s old new
+  made_there old new Yes is pages same =
+      subst (λ (b : Bool). IsMadeAs b s old new) (ap is_made (in_state (λ x. Yes ≡ made_of (cut_of x.number (data_of (map_of x.tree)))) is))
+      (in_state (λ x. contents_of_file new.now.reads ≡ Ok (map_of x.tree, x.number)) (pages refl))
+  made_there old new (No count) is pages same =
+      subst (λ (b : Bool). IsMadeAs b s old new) (ap is_made (in_state (λ x. No count ≡ made_of (cut_of x.number (data_of (map_of x.tree)))) is)) (same tt)
