@@ -25,7 +25,8 @@ returns-in-Ok-clause-files g c = λ kj kp s stands files.
     let old_is : pair_of c.args.journal.now.history (pages_of history c.args.core.now.base) ≡ old = λ i. pair_of c.args.journal.now.history (file_of history c.args.core.now.base (sym c.requires.inside i)) in
     let new_is : pair_of c.renew.new.journal.history (pages_of history c.renew.new.core.base) ≡ new = λ i. pair_of c.renew.new.journal.history (file_of history c.renew.new.core.base (sym c.requires.inside i)) in
     subst (λ (x : Pair × Pair). LeftStanding {E = OpenError} s x.0 x.1 (Ok tt)) (λ i. (old_is i, new_is i))
-    (left_standing g.P.Disk.is_known history c.args.core.now s stands _ _ (λ t opened. (c.in-Ok.ensures.files kj kp t opened).phases) (subst (StandFor s) (sym old_is) files) (λ t opened. (c.in-Ok.ensures.files kj kp t opened).settled))
+    (left_standing g.P.Disk.is_known history c.args.core.now s stands (pair_of c.args.journal.now.history (pages_of history c.args.core.now.base)) (pair_of c.renew.new.journal.history (pages_of history c.renew.new.core.base))
+    (λ t opened. (c.in-Ok.ensures.files kj kp t opened).phases) (subst (StandFor s) (sym old_is) files) (λ t opened. (c.in-Ok.ensures.files kj kp t opened).settled))
 
 pub returns-then-same-clause-files : goal.returns-then-same-clause-files
 returns-then-same-clause-files g c = λ kj kp s stands files.
@@ -35,7 +36,9 @@ returns-then-same-clause-files g c = λ kj kp s stands files.
     let new_is : pair_of c.renew.new.journal.history (unwrap_or (option_map history c.in-Err.field-0.pages) (pages_of history c.renew.new.core.base)) ≡ pair_of c.renew.new.journal.history (file_of history c.renew.new.core.base c.in-Err.field-0.pages)
     = λ i. pair_of c.renew.new.journal.history (file_left history c.renew.new.core.base c.in-Err.field-0.pages i) in
     subst (λ (x : Pair × Pair). LeftStanding {E = OpenError} s x.0 x.1 (Err c.in-Err.field-0.fault)) (λ i. (old_is i, new_is i))
-    (left_by_error g.P.Disk.is_known history c.args.core.now s stands _ _ (λ t opened. (c.in-Err.ensures.files kj kp t opened).phases) (subst (StandFor s) (sym old_is) files) c.in-Err.field-0.fault)
+    (left_by_error g.P.Disk.is_known history c.args.core.now s stands (pair_of c.args.journal.now.history (pages_of history c.args.core.now.base))
+    (pair_of c.renew.new.journal.history (unwrap_or (option_map history c.in-Err.field-0.pages) (pages_of history c.renew.new.core.base)))
+    (λ t opened. (c.in-Err.ensures.files kj kp t opened).phases) (subst (StandFor s) (sym old_is) files) c.in-Err.field-0.fault)
 
 pub returns-else-same-clause-files : goal.returns-else-same-clause-files
 returns-else-same-clause-files g c = λ kj kp s stands files.
@@ -45,4 +48,6 @@ returns-else-same-clause-files g c = λ kj kp s stands files.
     let new_is : pair_of c.renew.new.journal.history (unwrap_or (option_map history c.in-Err.field-0.pages) (pages_of history c.renew.new.core.base)) ≡ pair_of c.renew.new.journal.history (file_of history c.renew.new.core.base c.in-Err.field-0.pages)
     = λ i. pair_of c.renew.new.journal.history (file_left history c.renew.new.core.base c.in-Err.field-0.pages i) in
     subst (λ (x : Pair × Pair). LeftStanding {E = OpenError} s x.0 x.1 (Err error.DiskFault)) (λ i. (old_is i, new_is i))
-    (left_by_error g.P.Disk.is_known history c.args.core.now s stands _ _ (λ t opened. (c.in-Err.ensures.files kj kp t opened).phases) (subst (StandFor s) (sym old_is) files) error.DiskFault)
+    (left_by_error g.P.Disk.is_known history c.args.core.now s stands (pair_of c.args.journal.now.history (pages_of history c.args.core.now.base))
+    (pair_of c.renew.new.journal.history (unwrap_or (option_map history c.in-Err.field-0.pages) (pages_of history c.renew.new.core.base)))
+    (λ t opened. (c.in-Err.ensures.files kj kp t opened).phases) (subst (StandFor s) (sym old_is) files) error.DiskFault)
