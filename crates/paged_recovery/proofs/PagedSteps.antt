@@ -34,6 +34,10 @@ pub ok_then : {T E : Type 0} (r : Result T E) (P Q : T → Type 0) → ((x : T) 
 ok_then (Ok x) P Q leads h = leads x h
 ok_then (Err e) P Q leads h = h
 
+pub ok_both : {T E : Type 0} (r : Result T E) (P Q R : T → Type 0) → ((x : T) → P x → Q x → R x) → IfOk r P → IfOk r Q → IfOk r R
+ok_both (Ok x) P Q R leads p q = leads x p q
+ok_both (Err e) P Q R leads p q = p
+
 pub err_then : {T E : Type 0} (r : Result T E) (P Q : E → Type 0) → ((x : E) → P x → Q x) → IfErr r P → IfErr r Q
 err_then (Ok x) P Q leads h = h
 err_then (Err e) P Q leads h = leads e h

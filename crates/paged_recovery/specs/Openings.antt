@@ -1,9 +1,10 @@
 -- What the opening of a store with pages leaves of its two disks (docs/FILE_FORMAT.md, "With pages").
-use Rattle.std.specs.Prelude.{◌≡◌, ◌⊎◌, ◌+◌, ℕ, Bool, true, if◌then◌else◌, IsTrue, List, [], ◌∷◌, ◌++◌, is_some, Ok, Err}
-use Rattle.outside_traits.specs.DiskPairs.{Pair, PairsHave}
+use Rattle.std.specs.Prelude.{◌≡◌, ◌⊎◌, ◌+◌, ℕ, Bool, true, if◌then◌else◌, IsTrue, List, [], ◌∷◌, ◌++◌, Option, Some, is_some, Ok, Err}
+use Rattle.outside_traits.specs.DiskPairs.{Pair, PairsHave, pair_of}
 use Rattle.outside_traits.specs.Disks.{Synced}
 use Rattle.outside_traits.specs.Moments.{History, IsAllSynced}
 use Rattle.tree_model.specs.Entries.{Entries}
+use Rattle.tree_model.specs.StoredTree.{IsStoredTree}
 use Rattle.node_records.specs.declared.open_error.Place.{Place}
 use Rattle.journal.specs.Groups.{is_next}
 use Rattle.journal.specs.Journals.{header, is_fresh, read}
@@ -36,6 +37,11 @@ pub record OpensPages (old new : Pair) (entries : Entries) (number : ℕ) : Type
   pub stood : contents_of_files old.journal.now.reads old.pages.now.reads ≡ Ok (record { entries = entries; number = number })
   pub stands : contents_of_files new.journal.now.reads new.pages.now.reads ≡ Ok (record { entries = entries; number = number })
   pub alone : StandForOne new.journal.now.reads new.pages.now.reads number
+
+-- this map, where it is known, is the one that known files stood for, and stand for now; and it is that of a valid tree
+pub record OpensMap (journal_known pages_known : Bool) (map : Option Entries) (old new : Pair) (number : ℕ) : Type 0 where
+  pub opens : IsTrue journal_known → IsTrue pages_known → (es : Entries) → map ≡ Some es → OpensPages old new es number
+  pub tree : (es : Entries) → map ≡ Some es → IsStoredTree es
 
 -- ---- a store that isn't opened
 
@@ -74,3 +80,8 @@ pub record AreReady (journal_known pages_known : Bool) (old new : Pair) : Type 0
   pub journal : IsTrue journal_known → IsAllSynced new.journal
   pub pages : IsTrue pages_known → IsAllSynced new.pages
   pub same : UnlessImages journal_known pages_known old.journal.now.reads (AreOpened journal_known pages_known old new)
+
+-- the files of a store are ready, and its journal takes the commit behind this number
+pub record IsReadyBehind (journal_known pages_known : Bool) (old : Pair) (journal : JournalView) (pages : History) (number : ℕ) : Type 0 where
+  pub synced : AreReady journal_known pages_known old (pair_of journal.history pages)
+  pub next : TakesBehind journal number

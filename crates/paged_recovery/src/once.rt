@@ -21,7 +21,7 @@ use std::alloc::Global;
 
 /// Opens a store, with so many pages kept in memory, unless images of pages are open in its journal: those are damage of the pages at 0 here.
 /// It begins with a sync of both disks. Nothing is written behind that but a new journal, where there is none yet.
-/// The clauses are those of `open_store`, but for images.
+/// The clauses say what those of `open_store` do, but for images.
 pub fn open_once<J: Disk, P: Disk + Drop>(
     alloc: Global,
     journal: J,

@@ -1,8 +1,6 @@
 // A store with pages is opened on its two disks, and a checkpoint that a crash broke off is finished.
-ghost use Rattle.std.specs.Prelude.{◌≡◌, ◌≤◌, Some, true, false, IsTrue, IfOk, IfErr, MatchResult};
+ghost use Rattle.std.specs.Prelude.{◌≡◌, ◌≤◌, true, false, IsTrue, IfOk, IfErr, MatchResult};
 ghost use Rattle.outside_traits.specs.DiskPairs.{pair_of};
-ghost use Rattle.tree_model.specs.Entries.{Entries};
-ghost use Rattle.tree_model.specs.StoredTree.{IsStoredTree};
 ghost use Rattle.node_records.specs.declared.open_error.File.TheVariants as files;
 ghost use Rattle.node_records.specs.declared.open_error.OpenError.TheVariants as errors;
 ghost use Rattle.outside_traits.specs.Moments.{IsAllSynced};
@@ -13,7 +11,7 @@ ghost use Rattle.paged_seq.specs.PagedMaps.{map_of_file};
 ghost use Rattle.store_contents.specs.Contents.{place_in};
 ghost use Rattle.store_contents.specs.StoredTrees.{LeaveWhatStood};
 ghost use Rattle.paged_recovery.specs.Causes.{OneRose, RiseOnlyAtFault};
-ghost use Rattle.paged_recovery.specs.Openings.{AreReady, HasImages, KeepsFiles, LeavesPagesUnopened, OpensPages, RefusesPages, TakesBehind, UnlessImages};
+ghost use Rattle.paged_recovery.specs.Openings.{IsReadyBehind, KeepsFiles, LeavesPagesUnopened, OpensMap, RefusesPages, UnlessImages};
 ghost use Rattle.paged_recovery.specs.inside.Over.{IsRefusedAt};
 
 use crate::fault::StoreFault;
@@ -50,17 +48,14 @@ pub fn open_store<J: Disk, P: Disk + Drop>(
     requires frames { (1 ≤ frames) × (frames ≤ 65_536) }
 
     // What base and layers make is the map that the files stood for, and stand for now; it is that of a valid tree, and of no other.
-    ensures opens { IfOk result (λ store. IsTrue J.is_known → IsTrue P.is_known → (es : Entries)
-        → contents_after store.layers.changes (map_of_file P.is_known (P.history store.base.disk).now.reads) ≡ Some es
-        → OpensPages (pair_of (J.history journal) (P.history pages)) (pair_of store.journal.history (P.history store.base.disk)) es store.number) }
-    ensures tree { IfOk result (λ store. (es : Entries)
-        → contents_after store.layers.changes (map_of_file P.is_known (P.history store.base.disk).now.reads) ≡ Some es → IsStoredTree es) }
+    ensures map { IfOk result (λ store. OpensMap J.is_known P.is_known
+        (contents_after store.layers.changes (map_of_file P.is_known (P.history store.base.disk).now.reads))
+        (pair_of (J.history journal) (P.history pages)) (pair_of store.journal.history (P.history store.base.disk)) store.number) }
     ensures frames { IfOk result (λ store. store.base.pool.most ≡ frames) }
 
     // A crash leaves what a read gives; without images a fresh journal has nine bytes, any other its own; the journal takes the number that follows.
-    ensures synced { IfOk result (λ store. AreReady J.is_known P.is_known
-        (pair_of (J.history journal) (P.history pages)) (pair_of store.journal.history (P.history store.base.disk))) }
-    ensures next { IfOk result (λ store. TakesBehind store.journal store.number) }
+    ensures ready { IfOk result (λ store. IsReadyBehind J.is_known P.is_known
+        (pair_of (J.history journal) (P.history pages)) store.journal (P.history store.base.disk) store.number) }
 
     // A crash at any moment of the call leaves files that stand for what such files stood for at its start, and so does one after an error.
     ensures any_moment { IsTrue J.is_known → IsTrue P.is_known → MatchResult result
@@ -126,15 +121,12 @@ fn open_refused<J: Disk, P: Disk + Drop>(
     requires frames { (1 ≤ frames) × (frames ≤ 65_536) }
     requires refused { IsTrue J.is_known → IsTrue P.is_known
         → IsRefusedAt (J.history journal).now.reads (P.history pages).now.reads (place_in files.Pages 0) }
-    ensures opens { IfOk result (λ store. IsTrue J.is_known → IsTrue P.is_known → (es : Entries)
-        → contents_after store.layers.changes (map_of_file P.is_known (P.history store.base.disk).now.reads) ≡ Some es
-        → OpensPages (pair_of (J.history journal) (P.history pages)) (pair_of store.journal.history (P.history store.base.disk)) es store.number) }
-    ensures tree { IfOk result (λ store. (es : Entries)
-        → contents_after store.layers.changes (map_of_file P.is_known (P.history store.base.disk).now.reads) ≡ Some es → IsStoredTree es) }
+    ensures map { IfOk result (λ store. OpensMap J.is_known P.is_known
+        (contents_after store.layers.changes (map_of_file P.is_known (P.history store.base.disk).now.reads))
+        (pair_of (J.history journal) (P.history pages)) (pair_of store.journal.history (P.history store.base.disk)) store.number) }
     ensures frames { IfOk result (λ store. store.base.pool.most ≡ frames) }
-    ensures synced { IfOk result (λ store. AreReady J.is_known P.is_known
-        (pair_of (J.history journal) (P.history pages)) (pair_of store.journal.history (P.history store.base.disk))) }
-    ensures next { IfOk result (λ store. TakesBehind store.journal store.number) }
+    ensures ready { IfOk result (λ store. IsReadyBehind J.is_known P.is_known
+        (pair_of (J.history journal) (P.history pages)) store.journal (P.history store.base.disk) store.number) }
     ensures any_moment { IsTrue J.is_known → IsTrue P.is_known → MatchResult result
         (λ store. LeaveWhatStood (pair_of (J.history journal) (P.history pages)) (pair_of store.journal.history (P.history store.base.disk)))
         (λ refused. LeavesPagesUnopened (pair_of (J.history journal) (P.history pages)) (pair_of (J.history refused.journal) (P.history refused.pages))) }
@@ -186,15 +178,12 @@ fn open_unfinished<J: Disk, P: Disk + Drop>(
     requires made { IsTrue J.is_known → is_fresh (J.history journal).now.reads ≡ false }
     requires refused { IsTrue J.is_known → IsTrue P.is_known
         → IsRefusedAt (J.history journal).now.reads (P.history pages).now.reads (place_in files.Pages 0) }
-    ensures opens { IfOk result (λ store. IsTrue J.is_known → IsTrue P.is_known → (es : Entries)
-        → contents_after store.layers.changes (map_of_file P.is_known (P.history store.base.disk).now.reads) ≡ Some es
-        → OpensPages (pair_of (J.history journal) (P.history pages)) (pair_of store.journal.history (P.history store.base.disk)) es store.number) }
-    ensures tree { IfOk result (λ store. (es : Entries)
-        → contents_after store.layers.changes (map_of_file P.is_known (P.history store.base.disk).now.reads) ≡ Some es → IsStoredTree es) }
+    ensures map { IfOk result (λ store. OpensMap J.is_known P.is_known
+        (contents_after store.layers.changes (map_of_file P.is_known (P.history store.base.disk).now.reads))
+        (pair_of (J.history journal) (P.history pages)) (pair_of store.journal.history (P.history store.base.disk)) store.number) }
     ensures frames { IfOk result (λ store. store.base.pool.most ≡ frames) }
-    ensures synced { IfOk result (λ store. AreReady J.is_known P.is_known
-        (pair_of (J.history journal) (P.history pages)) (pair_of store.journal.history (P.history store.base.disk))) }
-    ensures next { IfOk result (λ store. TakesBehind store.journal store.number) }
+    ensures ready { IfOk result (λ store. IsReadyBehind J.is_known P.is_known
+        (pair_of (J.history journal) (P.history pages)) store.journal (P.history store.base.disk) store.number) }
     ensures any_moment { IsTrue J.is_known → IsTrue P.is_known → MatchResult result
         (λ store. LeaveWhatStood (pair_of (J.history journal) (P.history pages)) (pair_of store.journal.history (P.history store.base.disk)))
         (λ refused. LeavesPagesUnopened (pair_of (J.history journal) (P.history pages)) (pair_of (J.history refused.journal) (P.history refused.pages))) }

@@ -28,7 +28,7 @@ use page_store::Pool;
 use paged_seq::PagedSeq;
 use std::alloc::Global;
 
-/// Opens a store whose files are synced. The clauses are those of `open_store`, from the synced files on.
+/// Opens a store whose files are synced. The clauses say what those of `open_store` do, from the synced files on.
 pub fn open_synced<J: Disk, P: Disk + Drop>(
     alloc: Global,
     journal: J,

@@ -29,21 +29,25 @@ open_unfinished-requires-clause-refused g c tj tp =
 
 -- ---- behind the syncs
 
-pub returns-else-fresh-clause-opens : goal.returns-else-fresh-clause-opens
-returns-else-fresh-clause-opens g c =
+pub returns-else-fresh-clause-map : goal.returns-else-fresh-clause-map
+returns-else-fresh-clause-map g c =
     let old = pair_of (g.J.Disk.history c.args.journal) (g.P.Disk.history c.args.pages) in
     let mid = pair_of (g.J.Disk.history c.look-looked.new.journal) (g.P.Disk.history c.look-looked.new.pages) in
-    ok_then c.open_unfinished.result _ _ (λ store opens tj tp es told.
-    opens_before old mid (pair_of store.journal.history (g.P.Disk.history store.base.disk)) es store.number (c.in-Ok.ensures.journal_synced tj) (c.in-Ok.ensures.pages_synced tp) (opens tj tp es told)) c.open_unfinished.ensures.opens
+    ok_then c.open_unfinished.result _ _ (λ store is. record {
+      opens = λ tj tp es told.
+          opens_before old mid (pair_of store.journal.history (g.P.Disk.history store.base.disk)) es store.number (c.in-Ok.ensures.journal_synced tj) (c.in-Ok.ensures.pages_synced tp) (is.opens tj tp es told);
+      tree = is.tree;
+    }) c.open_unfinished.ensures.map
 
-pub returns-else-fresh-clause-synced : goal.returns-else-fresh-clause-synced
-returns-else-fresh-clause-synced g c =
+pub returns-else-fresh-clause-ready : goal.returns-else-fresh-clause-ready
+returns-else-fresh-clause-ready g c =
     let old = pair_of (g.J.Disk.history c.args.journal) (g.P.Disk.history c.args.pages) in
     let mid = pair_of (g.J.Disk.history c.look-looked.new.journal) (g.P.Disk.history c.look-looked.new.pages) in
-    ok_then c.open_unfinished.result _ _ (λ store ready.
-    ready_from g.J.Disk.is_known g.P.Disk.is_known old mid (pair_of store.journal.history (g.P.Disk.history store.base.disk)) (λ tj tp. (c.in-Ok.ensures.journal_synced tj, c.in-Ok.ensures.pages_synced tp))
-    (λ rests opened. opened_before old mid (pair_of store.journal.history (g.P.Disk.history store.base.disk)) g.J.Disk.is_known g.P.Disk.is_known c.in-Ok.ensures.journal_synced c.in-Ok.ensures.pages_synced opened) ready)
-    c.open_unfinished.ensures.synced
+    ok_then c.open_unfinished.result _ _ (λ store ready. record {
+      synced = ready_from g.J.Disk.is_known g.P.Disk.is_known old mid (pair_of store.journal.history (g.P.Disk.history store.base.disk)) (λ tj tp. (c.in-Ok.ensures.journal_synced tj, c.in-Ok.ensures.pages_synced tp))
+          (λ rests opened. opened_before old mid (pair_of store.journal.history (g.P.Disk.history store.base.disk)) g.J.Disk.is_known g.P.Disk.is_known c.in-Ok.ensures.journal_synced c.in-Ok.ensures.pages_synced opened) ready.synced;
+      next = ready.next;
+    }) c.open_unfinished.ensures.ready
 
 pub returns-else-fresh-clause-any_moment : goal.returns-else-fresh-clause-any_moment
 returns-else-fresh-clause-any_moment g c tj tp =

@@ -12,13 +12,19 @@ use Rattle.paged_recovery.proofs.opening.open_store.Goals as goal
 
 -- ---- it was opened at once
 
-pub returns-in-Ok-clause-synced : goal.returns-in-Ok-clause-synced
-returns-in-Ok-clause-synced g c =
+pub returns-in-Ok-clause-map : goal.returns-in-Ok-clause-map
+returns-in-Ok-clause-map g c = record { opens = c.in-Ok.ensures.opens; tree = c.in-Ok.ensures.tree }
+
+pub returns-in-Ok-clause-ready : goal.returns-in-Ok-clause-ready
+returns-in-Ok-clause-ready g c =
     let opened = c.in-Ok.ensures.synced in
     record {
-      journal = λ tj. (opened.journal tj).synced;
-      pages = λ tp. opened.pages tp ∙ sym (ap (λ (s : DiskState). all_synced s.reads) (opened.pages tp));
-      same = λ tj tp none. opened;
+      synced = record {
+        journal = λ tj. (opened.journal tj).synced;
+        pages = λ tp. opened.pages tp ∙ sym (ap (λ (s : DiskState). all_synced s.reads) (opened.pages tp));
+        same = λ tj tp none. opened;
+      };
+      next = c.in-Ok.ensures.next;
     }
 
 -- ---- it was refused elsewhere
@@ -42,23 +48,29 @@ open_refused-requires-clause-refused g c tj tp =
     let there = refused_there (λ place. IsTrue g.J.Disk.is_known → IsTrue g.P.Disk.is_known → IsRefused old r place) _ c.in-Err.refused.fault (place_in Pages 0) (c.is_first_page.ensures.yes c.if-is_first_page.true) c.in-Err.ensures.reason tj tp in
     refused_at_after old r r there.journal there.pages (place_in Pages 0) there.refused
 
-pub returns-then-is_first_page-clause-opens : goal.returns-then-is_first_page-clause-opens
-returns-then-is_first_page-clause-opens g c =
+pub returns-then-is_first_page-clause-map : goal.returns-then-is_first_page-clause-map
+returns-then-is_first_page-clause-map g c =
     let old = pair_of (g.J.Disk.history c.args.journal) (g.P.Disk.history c.args.pages) in
     let r = pair_of (g.J.Disk.history c.in-Err.refused.journal) (g.P.Disk.history c.in-Err.refused.pages) in
-    ok_then c.open_refused.result _ _ (λ store opens tj tp es told.
-    let there = refused_there (λ place. IsTrue g.J.Disk.is_known → IsTrue g.P.Disk.is_known → IsRefused old r place) _ c.in-Err.refused.fault (place_in Pages 0) (c.is_first_page.ensures.yes c.if-is_first_page.true) c.in-Err.ensures.reason tj tp in
-    opens_before old r (pair_of store.journal.history (g.P.Disk.history store.base.disk)) es store.number there.journal there.pages (opens tj tp es told)) c.open_refused.ensures.opens
+    ok_then c.open_refused.result _ _ (λ store is. record {
+      opens = λ tj tp es told.
+          let there = refused_there (λ place. IsTrue g.J.Disk.is_known → IsTrue g.P.Disk.is_known → IsRefused old r place) _ c.in-Err.refused.fault (place_in Pages 0) (c.is_first_page.ensures.yes c.if-is_first_page.true) c.in-Err.ensures.reason tj tp in
+          opens_before old r (pair_of store.journal.history (g.P.Disk.history store.base.disk)) es store.number there.journal there.pages (is.opens tj tp es told);
+      tree = is.tree;
+    }) c.open_refused.ensures.map
 
-pub returns-then-is_first_page-clause-synced : goal.returns-then-is_first_page-clause-synced
-returns-then-is_first_page-clause-synced g c =
+pub returns-then-is_first_page-clause-ready : goal.returns-then-is_first_page-clause-ready
+returns-then-is_first_page-clause-ready g c =
     let old = pair_of (g.J.Disk.history c.args.journal) (g.P.Disk.history c.args.pages) in
     let r = pair_of (g.J.Disk.history c.in-Err.refused.journal) (g.P.Disk.history c.in-Err.refused.pages) in
     ok_then c.open_refused.result _ _ (λ store ready.
     let new = pair_of store.journal.history (g.P.Disk.history store.base.disk) in
-    ready_from g.J.Disk.is_known g.P.Disk.is_known old r new
-    (λ tj tp. let there = refused_there (λ place. IsTrue g.J.Disk.is_known → IsTrue g.P.Disk.is_known → IsRefused old r place) _ c.in-Err.refused.fault (place_in Pages 0) (c.is_first_page.ensures.yes c.if-is_first_page.true) c.in-Err.ensures.reason tj tp in (there.journal, there.pages))
-    (λ both opened. opened_before old r new g.J.Disk.is_known g.P.Disk.is_known (λ tj. both.0) (λ tp. both.1) opened) ready) c.open_refused.ensures.synced
+    record {
+      synced = ready_from g.J.Disk.is_known g.P.Disk.is_known old r new
+          (λ tj tp. let there = refused_there (λ place. IsTrue g.J.Disk.is_known → IsTrue g.P.Disk.is_known → IsRefused old r place) _ c.in-Err.refused.fault (place_in Pages 0) (c.is_first_page.ensures.yes c.if-is_first_page.true) c.in-Err.ensures.reason tj tp in (there.journal, there.pages))
+          (λ both opened. opened_before old r new g.J.Disk.is_known g.P.Disk.is_known (λ tj. both.0) (λ tp. both.1) opened) ready.synced;
+      next = ready.next;
+    }) c.open_refused.ensures.ready
 
 pub returns-then-is_first_page-clause-any_moment : goal.returns-then-is_first_page-clause-any_moment
 returns-then-is_first_page-clause-any_moment g c tj tp =

@@ -5,27 +5,32 @@ use Rattle.paged_recovery.specs.Causes.{OneRose, RiseOnlyAtFault}
 use Rattle.paged_recovery.proofs.AgainLaws.{had_images, never_refused, opens_finished, untouched_keeps, untouched_refuses}
 use Rattle.paged_recovery.proofs.AnswerLaws.{unless_of}
 use Rattle.paged_recovery.proofs.FinishLaws.{stood_on}
-use Rattle.paged_recovery.proofs.PagedSteps.{err_then, match_then, ok_then, pages_unopened, reason_leads}
+use Rattle.paged_recovery.proofs.PagedSteps.{err_then, match_then, ok_both, pages_unopened, reason_leads}
 use Rattle.paged_recovery.proofs.opening.open_unfinished.Goals as goal
 
 -- ---- the checkpoint was finished
 
-pub returns-in-Ok-clause-opens : goal.returns-in-Ok-clause-opens
-returns-in-Ok-clause-opens g c =
+pub returns-in-Ok-clause-map : goal.returns-in-Ok-clause-map
+returns-in-Ok-clause-map g c =
     let old = pair_of (g.J.Disk.history c.args.journal) (g.P.Disk.history c.args.pages) in
     let f = pair_of (g.J.Disk.history c.in-Ok.done.0) (g.P.Disk.history c.in-Ok.done.1) in
-    ok_then c.open_once.result _ _ (λ store opens tj tp es told.
-    opens_finished old f (pair_of store.journal.history (g.P.Disk.history store.base.disk)) (c.in-Ok.ensures.finished tj tp) es store.number (opens tj tp es told)) c.open_once.ensures.opens
+    ok_both c.open_once.result _ _ _ (λ store opens tree. record {
+      opens = λ tj tp es told. opens_finished old f (pair_of store.journal.history (g.P.Disk.history store.base.disk)) (c.in-Ok.ensures.finished tj tp) es store.number (opens tj tp es told);
+      tree = tree;
+    }) c.open_once.ensures.opens c.open_once.ensures.tree
 
-pub returns-in-Ok-clause-synced : goal.returns-in-Ok-clause-synced
-returns-in-Ok-clause-synced g c =
+pub returns-in-Ok-clause-ready : goal.returns-in-Ok-clause-ready
+returns-in-Ok-clause-ready g c =
     let old = pair_of (g.J.Disk.history c.args.journal) (g.P.Disk.history c.args.pages) in
     let f = pair_of (g.J.Disk.history c.in-Ok.done.0) (g.P.Disk.history c.in-Ok.done.1) in
-    ok_then c.open_once.result _ _ (λ store opened. record {
-      journal = λ tj. (opened.journal tj).synced;
-      pages = λ tp. opened.pages tp ∙ sym (ap (λ (s : DiskState). all_synced s.reads) (opened.pages tp));
-      same = λ tj tp none. absurd (had_images old f _ (c.in-Ok.ensures.finished tj tp) (c.requires.refused tj tp) none);
-    }) c.open_once.ensures.synced
+    ok_both c.open_once.result _ _ _ (λ store opened next. record {
+      synced = record {
+        journal = λ tj. (opened.journal tj).synced;
+        pages = λ tp. opened.pages tp ∙ sym (ap (λ (s : DiskState). all_synced s.reads) (opened.pages tp));
+        same = λ tj tp none. absurd (had_images old f _ (c.in-Ok.ensures.finished tj tp) (c.requires.refused tj tp) none);
+      };
+      next = next;
+    }) c.open_once.ensures.synced c.open_once.ensures.next
 
 pub returns-in-Ok-clause-any_moment : goal.returns-in-Ok-clause-any_moment
 returns-in-Ok-clause-any_moment g c tj tp =

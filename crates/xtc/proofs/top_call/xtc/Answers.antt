@@ -107,7 +107,7 @@ run_command-requires-clause-tree g c = λ _ _ kp.
     let told_is : told g.P.Disk.is_known history held ≡ contents_after store.layers.changes (map_of_file g.P.Disk.is_known (history store.base.disk).now.reads) =
     λ i. contents_after (c.new-base.ensures.layers i).changes (map_of_file g.P.Disk.is_known (history (c.new-base.ensures.base i).disk).now.reads) in
     let seen = known_map g.P.Disk.is_known kp store.layers.changes (history store.base.disk).now.reads in
-    let stored = c.in-Ok-open_store.ensures.tree seen.0 seen.1 in
+    let stored = c.in-Ok-open_store.ensures.map.tree seen.0 seen.1 in
     record { tree = stored.tree; stands = record { valid = stored.is_valid_tree; map = told_is ∙ seen.1 ∙ ap Some (sym stored.map) } }
 
 pub returns-in-Ok-open_store-clause-leaves : goal.returns-in-Ok-open_store-clause-leaves
@@ -130,14 +130,14 @@ returns-in-Ok-open_store-clause-leaves g c =
           let opened_pair : Pair = pair_of store.journal.history (history store.base.disk) in
           let same_pair : opening ≡ opened_pair = λ i. pair_of store.journal.history (history (base i).disk) in
           let seen = known_map g.P.Disk.is_known kp store.layers.changes (history store.base.disk).now.reads in
-          let opens = opened.opens kj kp seen.0 seen.1 in
-          let stored = opened.tree seen.0 seen.1 in
+          let opens = opened.map.opens kj kp seen.0 seen.1 in
+          let stored = opened.map.tree seen.0 seen.1 in
           let t = stored.tree in
           let stand : StandFor old.journal.now.reads old.pages.now.reads t store.number = record { is_valid_tree = stored.is_valid_tree; opens = opens.stood ∙ ap (λ es. Ok (record { entries = es; number = store.number })) (sym stored.map) } in
           let is : StandsFor (told g.P.Disk.is_known history held) t = record { valid = stored.is_valid_tree; map = told_is ∙ seen.1 ∙ ap Some (sym stored.map) } in
           let files : StandSettled opening t store.number = subst (λ (p : Pair). StandSettled p t store.number) (sym same_pair) (record {
-            journal = opened.synced.journal kj;
-            pages = opened.synced.pages kp;
+            journal = opened.ready.synced.journal kj;
+            pages = opened.ready.synced.pages kp;
             stand = record { is_valid_tree = stored.is_valid_tree; opens = opens.stands ∙ ap (λ es. Ok (record { entries = es; number = store.number })) (sym stored.map) };
           }) in
           let o : Outcome = record {
