@@ -1,6 +1,7 @@
 -- Commits by a line: one that is prepared, and one that is refused.
 use Rattle.std.proofs.Common.{◌≡◌, ◌≤◌, ℕ, true, false, List, [], ◌∷◌, ◌++◌, length, nat_lt, Option, Some, None, is_some, IsTrue, refl, sym, ap, ◌∙◌, arith}
 use Rattle.std.proofs.lemmas.Bool.Decides.{nat_tests}
+use Rattle.std.specs.Prelude.{◌<◌, Result, Ok, Err, IfOk, IfSome}
 use Rattle.tree_model.specs.Entries.{Entries}
 use Rattle.tree_model.specs.Tree.{Tree}
 use Rattle.node_records.specs.Changes.{changes_bytes}
@@ -18,7 +19,7 @@ use Rattle.tx_core.specs.Refusals.{call_refused, shown_prepare_error}
 use Rattle.tx_core.specs.declared.commits.Prepared.{Prepared}
 use Rattle.tx_core.specs.declared.errors.SessionError.{SessionError}
 use Rattle.tx_core.specs.declared.errors.SessionError.TheVariants.{IsWaiting, InTransaction, NoTransaction, TxLimit, CommitLimit, NoMemory}
-use Rattle.session_driver.specs.Driving.{shown_why, shown_of, HasDone}
+use Rattle.session_driver.specs.Driving.{shown_why, shown_of, HasDone, IsReadyToCommit}
 use Rattle.session_driver.specs.Lines.{after_line}
 use Rattle.session_driver.specs.Refusals.{refusal}
 use Rattle.session_driver.specs.declared.doing.Doing.{Doing}
@@ -39,6 +40,14 @@ module _ {C B : Type 0} where
 
   pub prepared_by : (old new : CoreView C B) (p : Option ℕ) → new ≡ record old { prepared = p } → new ≡ record old { prepared = new.prepared }
   prepared_by old new p e = e ∙ ap (λ (q : Option ℕ). record old { prepared = q }) (sym (ap (λ (v : CoreView C B). v.prepared) e))
+
+  -- what preparing tells of a commit is so of the line that asked for it, which had made room before
+  pub ready_commit : {E : Type 0} (old new : CoreView C B) (session : ℕ) (d : Doing C) (before roomy after : List LineReply) (capacity : ℕ) (r : Result (Option Prepared) E) → d ≡ doing.Commit → roomy ≡ before
+      → IfOk r (λ p. IfSome p (λ it. (new ≡ record old { prepared = Some session }) × IsPrepared old it)) → IfOk r (λ p. IfSome p (λ _. (after ≡ roomy) × (length after < capacity)))
+      → IfOk r (λ p. IfSome p (IsReadyToCommit old new session d before after capacity))
+  ready_commit old new session d before roomy after capacity (Ok (Some it)) is same made room = record { asked = is; core = made.0; commit = made.1; unsaid = room.0 ∙ same; room = room.1 }
+  ready_commit old new session d before roomy after capacity (Ok None) is same made room = tt
+  ready_commit old new session d before roomy after capacity (Err e) is same made room = tt
 
 module _ {C B : Type 0} (is_valid : C → Type 0) (m : CallMeaning C) (told : B → Option Entries) (old new : CoreView C B) (same : HasBookOf old new) (legal : Legal is_valid m told new) (s : ℕ) where
   -- what is prepared is no more than a commit may hold

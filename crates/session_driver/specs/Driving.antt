@@ -1,5 +1,5 @@
 -- What driving lines over a core does to it and to the lines written, by what the lines are to do (docs/PROFILE.md, "Lines of sessions").
-use Rattle.std.specs.Prelude.{◌≡◌, ℕ, Bool, true, false, List, [], ◌∷◌, ◌++◌, Option, Some, None, is_some, IsTrue}
+use Rattle.std.specs.Prelude.{◌≡◌, ◌<◌, ℕ, Bool, true, false, List, [], ◌∷◌, ◌++◌, length, Option, Some, None, is_some, IsTrue}
 use Rattle.call_contract.specs.Books.{Book}
 use Rattle.call_contract.specs.Calls.{CallMeaning}
 use Rattle.call_contract.specs.Sessions.{commits_in}
@@ -9,7 +9,7 @@ use Rattle.call_contract.specs.declared.events.Event.TheVariants.{Fail}
 use Rattle.command_lines.specs.declared.line_reply.LineReply.{LineReply}
 use Rattle.command_lines.specs.declared.line_reply.SessionRefusal.{SessionRefusal}
 use Rattle.command_lines.specs.declared.line_reply.SessionRefusal.TheVariants as refusal
-use Rattle.tx_core.specs.Commits.{HasChangesOf}
+use Rattle.tx_core.specs.Commits.{HasChangesOf, IsPrepared}
 use Rattle.tx_core.specs.Cores.{CoreView}
 use Rattle.tx_core.specs.Refusals.{begin_refused, call_refused, abort_refused}
 use Rattle.tx_core.specs.declared.commits.Prepared.{Prepared}
@@ -91,3 +91,19 @@ pub record HasBegun {C B : Type 0} (old new : CoreView C B) (before after : List
 abbrev pub IsDriven : {C B : Type 0} → CallMeaning C → State C → Asked C → CoreView C B → CoreView C B → List LineReply → List LineReply → Option Prepared → Type 0
 IsDriven m st line old new before after None = HasDone old new before after (after_line m st line) × (line.doing ≡ Commit → IsTrue (is_some (refusals.refusal m st line.session Commit)))
 IsDriven m st line old new before after (Some p) = (line.doing ≡ Commit) × (refusals.refusal m st line.session Commit ≡ None) × HasChangesOf m st line.session p
+
+-- ---- a commit between its preparing and its making
+
+-- the line is a commit that was prepared, and this it is: of it nothing is done yet, and there is room for its line
+pub record IsReadyToCommit {C B : Type 0} (old new : CoreView C B) (session : ℕ) (doing : Doing C) (before after : List LineReply) (capacity : ℕ) (p : Prepared) : Type 0 where
+  pub asked : doing ≡ Commit
+  pub core : new ≡ record old { prepared = Some session }
+  pub commit : IsPrepared old p
+  pub unsaid : after ≡ before
+  pub room : length after < capacity
+
+-- this is the session's commit, which was prepared in this core, and there is room for its line
+pub record MayFinishCommit {C B : Type 0} (core : CoreView C B) (session : ℕ) (p : Prepared) (lines : List LineReply) (capacity : ℕ) : Type 0 where
+  pub prepared : core.prepared ≡ Some session
+  pub commit : IsPrepared core p
+  pub room : length lines < capacity

@@ -15,7 +15,7 @@ ghost use Rattle.tx_core.specs.Cores.{state_from, with_entry, next_number};
 ghost use Rattle.tx_core.specs.declared.commits.Prepared.{Prepared};
 ghost use Rattle.tx_core.specs.declared.errors.SessionError.{SessionError};
 ghost use Rattle.tx_core.specs.declared.errors.CallError.TheVariants as call_error;
-ghost use Rattle.session_driver.specs.Driving.{HasGrown, HasDone, HasBegun, IsDriven, refused_by_book};
+ghost use Rattle.session_driver.specs.Driving.{HasGrown, HasDone, HasBegun, IsDriven, IsReadyToCommit, MayFinishCommit, refused_by_book};
 ghost use Rattle.session_driver.specs.Lines.{after_line};
 ghost use Rattle.session_driver.specs.Refusals.{refusal};
 ghost use Rattle.session_driver.specs.declared.doing.Doing.TheVariants as asked;
@@ -41,13 +41,11 @@ pub fn drive<C: TreeCall + Drop, B: NodeRead + Drop>(
 ) -> Result<Option<Prepared>, CallError>
     ensures line { IfOk result (λ p. (t : Tree) → StandsFor (B.contents core.old.opening) t
         → IsDriven C.meaning (state_from C.meaning t core.old) (record { session = session; doing = doing }) core.old core.new out.old.items out.new.items p) }
-    ensures prepared { IfOk result (λ p. IfSome p (λ prepared. (core.new ≡ record core.old { prepared = Some session }) × IsPrepared core.old prepared)) }
-    ensures room { IfOk result (λ p. IfSome p (λ _. (out.new.items ≡ out.old.items) × (length out.new.items < vec_capacity out.new))) }
+    ensures ready { IfOk result (λ p. IfSome p (IsReadyToCommit core.old core.new session doing out.old.items out.new.items (vec_capacity out.new))) }
     ensures begun { OnErr result ((t : Tree) → StandsFor (B.contents core.old.opening) t
         → HasBegun core.old core.new out.old.items out.new.items
         (after_line C.meaning (state_from C.meaning t core.old) (record { session = session; doing = doing }))) }
     ensures later { HasGrown core.old core.new out.old.items out.new.items }
-    ensures commit { IfOk result (λ p. IfSome p (λ _. doing ≡ asked.Commit)) }
     ensures refused { IfSome (refused_by_book core.old session doing) (λ why. IfOk result (λ p.
         (p ≡ None) × (core.new ≡ core.old) × (out.new.items ≡ out.old.items ++ Said session false (line_answer.Session why) ∷ []))) }
     ensures session { (why : SessionError) → result ≢ Err (call_error.Session why) }
@@ -74,9 +72,7 @@ pub fn finish_commit<C: TreeCall + Drop, B: NodeRead + Drop>(
     prepared: Prepared,
     out: &mut Vec<LineReply>,
 ) -> Result<(), CallError>
-    requires prepared { core.old.prepared ≡ Some session }
-    requires commit { IsPrepared core.old prepared }
-    requires room { length out.old.items < vec_capacity out.old }
+    requires may_finish { MayFinishCommit core.old session prepared out.old.items (vec_capacity out.old) }
     ensures line { IfOk result (λ _. (t : Tree) → StandsFor (B.contents core.old.opening) t
         → refusal C.meaning (state_from C.meaning t core.old) session asked.Commit ≡ None
         → HasDone core.old core.new out.old.items out.new.items
