@@ -19,13 +19,13 @@ use Rattle.call_contract.proofs.Appends.{commits_append}
 use Rattle.command_lines.specs.declared.line_reply.LineReply.{LineReply}
 use Rattle.tx_core.specs.Cores.{CoreView, over, state_from, next_number, with_entry}
 use Rattle.tx_core.specs.declared.commits.Prepared.{Prepared}
-use Rattle.session_driver.specs.Driving.{HasBegun, HasDone, HasGrown, IsDriven, with_entries}
+use Rattle.session_driver.specs.Driving.{HasBegun, HasDone, HasGrown, IsDriven, IsReadyToCommit, with_entries}
 use Rattle.session_driver.specs.Lines.{after_line}
 use Rattle.session_driver.specs.Progress.{Progress}
 use Rattle.session_driver.specs.Refusals.{refusal}
 use Rattle.session_driver.specs.declared.doing.Doing.{Doing}
 use Rattle.session_driver.specs.declared.doing.Doing.TheVariants.{Commit}
-use Rattle.durable_sessions.specs.Asked.{asked_from, GrowsByOne, TakesNext, LeadsTo, LeavesEither}
+use Rattle.durable_sessions.specs.Asked.{asked_from, DoesAsked, GoesOnByOne, GrowsByOne, TakesNext, LeadsTo, LeavesEither}
 use Rattle.durable_sessions.specs.Standing.{Stands}
 use Rattle.durable_sessions.specs.inside.Commits.{IsLegalCore, IsDue}
 use Rattle.durable_sessions.proofs.CommitLaws.{has_body, same_holds, commit_moments, commit_settles, follows}
@@ -101,6 +101,14 @@ module _ {C B : Type 0} (is_valid : C → Type 0) (m : CallMeaning C) (laws : Ca
       → (s : State C) → Stands m contents old s → said ≡ before ++ (asked_from m s session doing).lines
   done_lines session doing old new before said driven s stands = (line_done is_valid m laws contents (record { session = session; doing = doing }) old new before said (λ t opened. (driven t opened).0) s stands).lines
 
+  pub done_does : (is_known : Bool) (session : ℕ) (doing : Doing C) (old new : CoreView C B) (journal : JournalView) (before said : List LineReply) → DoneAtOnce session doing old new before said
+      → (s : State C) → Stands m contents old s → DoesAsked m contents is_known session doing old new journal journal before said s
+  done_does is_known session doing old new journal before said driven s stands = record {
+    state = done_leads is_known session doing old new journal.history before said driven s stands;
+    replies = done_lines session doing old new before said driven s stands;
+    book = ap (λ (v : CoreView C B). v.book) (driven stands.tree stands.opened).0.core ∙ ap (λ (st : State C). old.book ++ (asked_from m st session doing).book) stands.state;
+  }
+
   -- ---- a commit, whose group is appended to a journal that was given room for it
 
   pub commit_follows : (core : CoreView C B) (session : ℕ) (p : Prepared) (journal roomy : JournalView) (bytes : List ℕ) → IsDue m contents core session p → TakesNext core journal → roomy.last ≡ journal.last → bytes ≡ p.body
@@ -142,6 +150,21 @@ module _ {C B : Type 0} (is_valid : C → Type 0) (m : CallMeaning C) (laws : Ca
       → ((s : State C) → Stands m contents mid s → Q Commit s) → (s : State C) → Stands m contents old s → Q doing s
   by_commit Q session doing old mid before said p driven moved told s stands =
       subst (λ (d : Doing C). Q d s) (sym (asked_commit is_valid m laws contents session doing old mid before said p driven s stands)) (told s (same_stands is_valid m laws contents old mid s (same_book session old mid moved) stands))
+
+  pub commit_does : {A E : Type 0} (is_known : Bool) (session : ℕ) (doing : Doing C) (old mid new : CoreView C B) (journal journal_now : JournalView) (before said now : List LineReply) (capacity : ℕ) (p : Prepared) (r : Result A E)
+      → Driven session doing old mid before said (Some p) → IsReadyToCommit old mid session doing before said capacity p
+      → OnOk r ((s : State C) → Stands m contents mid s → LeadsTo m contents is_known journal.history new journal_now.history s (after s session Commit))
+      → OnOk r ((s : State C) → Stands m contents mid s → now ≡ said ++ (asked_from m s session Commit).lines)
+      → OnOk r ((s : State C) → Stands m contents mid s → new.book ≡ mid.book ++ (asked_from m s session Commit).book)
+      → OnOk r ((s : State C) → Stands m contents old s → DoesAsked m contents is_known session doing old new journal journal_now before now s)
+  commit_does is_known session doing old mid new journal journal_now before said now capacity p (Ok x) driven ready leads lines book =
+      by_commit (λ (d : Doing C) (s : State C). DoesAsked m contents is_known session d old new journal journal_now before now s) session doing old mid before said p driven ready.core
+      (λ s stands. record {
+        state = leads s stands;
+        replies = lines s stands ∙ ap (λ (r : List LineReply). r ++ (asked_from m s session Commit).lines) ready.unsaid;
+        book = book s stands ∙ ap (λ (v : CoreView C B). v.book ++ (asked_from m s session Commit).book) ready.core;
+      })
+  commit_does is_known session doing old mid new journal journal_now before said now capacity p (Err e) driven ready leads lines book = tt
 
   -- ---- what was begun
 
@@ -225,6 +248,11 @@ module _ {C B : Type 0} where
     one = h.one;
   }
 
+  pub commit_goes_on : {A E : Type 0} (session : ℕ) (old mid new : CoreView C B) (journal : JournalView) (r : Result A E) → mid ≡ record old { prepared = Some session }
+      → OnOk r (TakesNext new journal) → OnOk r (GrowsByOne mid new) → OnOk r (GoesOnByOne old new journal)
+  commit_goes_on session old mid new journal (Ok x) moved takes grown = record { takes = takes; grown = grown_over session old mid new moved grown }
+  commit_goes_on session old mid new journal (Err e) moved takes grown = tt
+
 -- the entries that a line makes
 module _ {C B : Type 0} (m : CallMeaning C) (contents : B → Option Entries) where
   pub done_book : (session : ℕ) (doing : Doing C) (old new : CoreView C B) (before after : List LineReply)
@@ -237,6 +265,33 @@ module _ {C B : Type 0} (m : CallMeaning C) (contents : B → Option Entries) wh
   -- a commit that is due isn't refused
   pub due_allowed : (core : CoreView C B) (session : ℕ) (p : Prepared) → IsDue m contents core session p → (t : Tree) → StandsFor (contents core.opening) t → refusal m (state_from m t core) session Commit ≡ None
   due_allowed core session p due t opened = due.allowed (state_from m t core) (record { tree = t; opened = opened; state = refl })
+
+-- ---- each of the facts of what was done
+
+module _ {A E C B : Type 0} (m : CallMeaning C) (contents : B → Option Entries) (is_known : Bool) (session : ℕ) (doing : Doing C) (old new : CoreView C B) (journal journal_now : JournalView) (before after : List LineReply) where
+  pub does_state : (r : Result A E) → OnOk r ((s : State C) → Stands m contents old s → DoesAsked m contents is_known session doing old new journal journal_now before after s)
+      → OnOk r ((s : State C) → Stands m contents old s → LeadsTo m contents is_known journal.history new journal_now.history s (asked_from m s session doing).state)
+  does_state (Ok x) does = λ s stands. (does s stands).state
+  does_state (Err e) does = tt
+
+  pub does_replies : (r : Result A E) → OnOk r ((s : State C) → Stands m contents old s → DoesAsked m contents is_known session doing old new journal journal_now before after s)
+      → OnOk r ((s : State C) → Stands m contents old s → after ≡ before ++ (asked_from m s session doing).lines)
+  does_replies (Ok x) does = λ s stands. (does s stands).replies
+  does_replies (Err e) does = tt
+
+  pub does_book : (r : Result A E) → OnOk r ((s : State C) → Stands m contents old s → DoesAsked m contents is_known session doing old new journal journal_now before after s)
+      → OnOk r ((s : State C) → Stands m contents old s → new.book ≡ old.book ++ (asked_from m s session doing).book)
+  does_book (Ok x) does = λ s stands. (does s stands).book
+  does_book (Err e) does = tt
+
+module _ {A E C B : Type 0} (old new : CoreView C B) (journal : JournalView) where
+  pub goes_takes : (r : Result A E) → OnOk r (GoesOnByOne old new journal) → OnOk r (TakesNext new journal)
+  goes_takes (Ok x) goes = goes.takes
+  goes_takes (Err e) goes = tt
+
+  pub goes_grown : (r : Result A E) → OnOk r (GoesOnByOne old new journal) → OnOk r (GrowsByOne old new)
+  goes_grown (Ok x) goes = goes.grown
+  goes_grown (Err e) goes = tt
 
 -- ---- nothing was begun, or the same over a core whose commit was prepared
 

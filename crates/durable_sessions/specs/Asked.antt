@@ -1,5 +1,5 @@
 -- What one thing that a session is asked leaves of the core and the journal.
-use Rattle.std.specs.Prelude.{◌≡◌, ◌≤◌, ◌++◌, ℕ, Bool, List, Option, IsTrue}
+use Rattle.std.specs.Prelude.{◌≡◌, ◌≢◌, ◌≤◌, ◌++◌, ℕ, Bool, List, Option, IsTrue}
 use Rattle.outside_traits.specs.Moments.{History, LeavesOnly}
 use Rattle.tree_model.specs.Entries.{Entries}
 use Rattle.journal.specs.Groups.{is_next}
@@ -9,10 +9,12 @@ use Rattle.call_contract.specs.Calls.{CallMeaning}
 use Rattle.call_contract.specs.Books.{Book}
 use Rattle.call_contract.specs.Sessions.{commits_in}
 use Rattle.call_contract.specs.States.{State}
+use Rattle.command_lines.specs.declared.line_reply.LineReply.{LineReply}
 use Rattle.tx_core.specs.Cores.{CoreView, next_number}
 use Rattle.session_driver.specs.Lines.{after_line}
 use Rattle.session_driver.specs.Progress.{Progress}
 use Rattle.session_driver.specs.declared.doing.Doing.{Doing}
+use Rattle.session_driver.specs.declared.doing.Doing.TheVariants.{Commit}
 use Rattle.durable_sessions.specs.Durable.{HoldsAll, HoldsEither}
 use Rattle.durable_sessions.specs.Standing.{Stands}
 
@@ -46,6 +48,23 @@ pub record GrowsByOne {C B : Type 0} (old new : CoreView C B) : Type 0 where
   pub more : Book C
   pub book : new.book ≡ old.book ++ more
   pub one : commits_in more ≤ 1
+
+-- what a session is asked in a state is done: it has led to the state after it, its replies stand behind those before, and its entries in the book
+pub record DoesAsked {C B : Type 0} (m : CallMeaning C) (contents : B → Option Entries) (is_known : Bool) (session : ℕ) (doing : Doing C)
+    (old new : CoreView C B) (journal journal_now : JournalView) (before after : List LineReply) (s : State C) : Type 0 where
+  pub state : LeadsTo m contents is_known journal.history new journal_now.history s (asked_from m s session doing).state
+  pub replies : after ≡ before ++ (asked_from m s session doing).lines
+  pub book : new.book ≡ old.book ++ (asked_from m s session doing).book
+
+-- the core has gone on by one commit at most, and the journal takes the next one
+pub record GoesOnByOne {C B : Type 0} (old new : CoreView C B) (journal : JournalView) : Type 0 where
+  pub takes : TakesNext new journal
+  pub grown : GrowsByOne old new
+
+-- a commit alone touches the journal, and where the journal's disk failed nothing comes to the book
+pub record IsDurableFirst {C B : Type 0} (doing : Doing C) (old new : CoreView C B) (journal journal_now : JournalView) : Type 0 where
+  pub still : doing ≢ Commit → journal_now ≡ journal
+  pub unmade : journal_now.faults ≢ journal.faults → new.book ≡ old.book
 
 -- the faults that the journal's disk and the base have counted
 abbrev pub counts_of : {C B : Type 0} → (B → ℕ) → CoreView C B → JournalView → Counts

@@ -4,7 +4,7 @@ ghost use Rattle.call_contract.specs.States.{State};
 ghost use Rattle.script_runs.specs.Counts.{DisksCountedWhere};
 ghost use Rattle.session_driver.specs.Driving.{HasBegun};
 ghost use Rattle.session_driver.specs.declared.doing.Doing.TheVariants.{Commit};
-ghost use Rattle.durable_sessions.specs.Asked.{asked_from, counts_of, GrowsByOne, LeadsTo, LeavesEither, TakesNext};
+ghost use Rattle.durable_sessions.specs.Asked.{asked_from, counts_of, DoesAsked, GoesOnByOne, GrowsByOne, IsDurableFirst, LeadsTo, LeavesEither, TakesNext};
 ghost use Rattle.durable_sessions.specs.Standing.{Stands};
 ghost use Rattle.durable_sessions.specs.inside.Commits.{IsDue};
 ghost use Rattle.durable_sessions.specs.inside.Halts.{halt_of};
@@ -30,20 +30,14 @@ pub fn answer<C: TreeCall + Drop, B: SessionBase, J: Disk>(
     replies: &mut Vec<LineReply>,
 ) -> Result<(), Halt>
     requires takes { TakesNext core.old journal.old }
-    ensures state { OnOk result ((s : State C) → Stands C.meaning B.contents core.old s
-        → LeadsTo C.meaning B.contents J.is_known journal.old.history core.new journal.new.history s (asked_from C.meaning s session doing).state) }
-    ensures replies { OnOk result ((s : State C) → Stands C.meaning B.contents core.old s
-        → replies.new.items ≡ replies.old.items ++ (asked_from C.meaning s session doing).lines) }
-    ensures takes { OnOk result (TakesNext core.new journal.new) }
+    ensures does { OnOk result ((s : State C) → Stands C.meaning B.contents core.old s
+        → DoesAsked C.meaning B.contents J.is_known session doing core.old core.new journal.old journal.new replies.old.items replies.new.items s) }
+    ensures goes_on { OnOk result (GoesOnByOne core.old core.new journal.new) }
     ensures any_moment { (s : State C) → Stands C.meaning B.contents core.old s
         → LeavesEither J.is_known journal.old.history journal.new.history s (asked_from C.meaning s session doing).state }
-    ensures still { doing ≢ Commit → journal.new ≡ journal.old }
-    ensures unmade { journal.new.faults ≢ journal.old.faults → core.new.book ≡ core.old.book }
+    ensures durable_first { IsDurableFirst doing core.old core.new journal.old journal.new }
     ensures begun { OnErr result ((s : State C) → Stands C.meaning B.contents core.old s
         → HasBegun core.old core.new replies.old.items replies.new.items (asked_from C.meaning s session doing)) }
-    ensures grown { OnOk result (GrowsByOne core.old core.new) }
-    ensures book { OnOk result ((s : State C) → Stands C.meaning B.contents core.old s
-        → core.new.book ≡ core.old.book ++ (asked_from C.meaning s session doing).book) }
     ensures base { B.stays core.old.base core.new.base }
     ensures counts { DisksCountedWhere (result ≡ Err Halt.DiskFault) (counts_of B.count core.old journal.old) (counts_of B.count core.new journal.new) }
 {

@@ -21,7 +21,7 @@ returns-in_err-answer-clause-asked g t c = λ s stands.
     let valid : AreValid g.C.TreeCall.is_valid (a ∷ rest) = subst (λ (l : List (Doing g.row.C.Denot)). AreValid g.C.TreeCall.is_valid (all_asks c.args.session l)) list c.requires.valid in
     stopped_err g.C.TreeCall.is_valid m told reason_of c.from_residual.result (stop_of c.in_err-answer.field-0.0) g.J.Disk.is_known s _ _ _ _ _ _ c.from_residual.ensures.1
     (subst (λ (l : List (Doing g.row.C.Denot)). Stopped g.C.TreeCall.is_valid m reason_of g.J.Disk.is_known s (all_asks c.args.session l) c.args.journal.now.history c.answer.new.journal.history (stop_of c.in_err-answer.field-0.0)) (sym list)
-    (step_stopped g.C.TreeCall.is_valid m told reason_of g.J.Disk.is_known s a valid.0 c.args.journal.now.history c.answer.new.journal.history (λ other. ap (λ (j : JournalView). j.history) (c.answer.ensures.still other)) rest c.in_err-answer.field-0.0 (c.answer.ensures.any_moment s stands)))
+    (step_stopped g.C.TreeCall.is_valid m told reason_of g.J.Disk.is_known s a valid.0 c.args.journal.now.history c.answer.new.journal.history (λ other. ap (λ (j : JournalView). j.history) (c.answer.ensures.durable_first.still other)) rest c.in_err-answer.field-0.0 (c.answer.ensures.any_moment s stands)))
 
 pub returns-in-Some-reason_in-clause-asked : goal.returns-in-Some-reason_in-clause-asked
 returns-in-Some-reason_in-clause-asked g t c = λ s stands.
@@ -33,8 +33,8 @@ returns-in-Some-reason_in-clause-asked g t c = λ s stands.
     let list : c.args.doings.items ≡ doing ∷ c.take_first.new.doings.items = c.in-Some.ensures.first in
     let valid : AreValid g.C.TreeCall.is_valid (a ∷ rest) = subst (λ (l : List (Doing g.row.C.Denot)). AreValid g.C.TreeCall.is_valid (all_asks c.args.session l)) list c.requires.valid in
     subst (λ (l : List (Doing g.row.C.Denot)). Stopped g.C.TreeCall.is_valid m reason_of g.J.Disk.is_known s (all_asks c.args.session l) c.args.journal.now.history c.answer.new.journal.history (Refused c.in-Some-reason_in.why)) (sym list)
-    (step_refused g.C.TreeCall.is_valid m told reason_of g.J.Disk.is_known s a valid.0 c.args.journal.now.history c.answer.new.journal.history (λ other. ap (λ (j : JournalView). j.history) (c.answer.ensures.still other)) c.answer.new.core c.args.replies.now.items c.answer.new.replies.items rest c.in-Some-reason_in.why
-    (c.in_ok-answer.ensures.state s stands) (c.answer.ensures.any_moment s stands) (c.in_ok-answer.ensures.replies s stands) c.requires.unrefused
+    (step_refused g.C.TreeCall.is_valid m told reason_of g.J.Disk.is_known s a valid.0 c.args.journal.now.history c.answer.new.journal.history (λ other. ap (λ (j : JournalView). j.history) (c.answer.ensures.durable_first.still other)) c.answer.new.core c.args.replies.now.items c.answer.new.replies.items rest c.in-Some-reason_in.why
+    (c.in_ok-answer.ensures.does s stands).state (c.answer.ensures.any_moment s stands) (c.in_ok-answer.ensures.does s stands).replies c.requires.unrefused
     (ap reason_in (sym c.as_slice.ensures.value) ∙ sym c.reason_in.ensures ∙ c.in-Some-reason_in.is))
 
 pub ask_in_turn-requires : goal.ask_in_turn-requires
@@ -45,7 +45,7 @@ ask_in_turn-requires g t c κs within =
     let rest = all_asks c.args.session c.take_first.new.doings.items in
     let list : c.args.doings.items ≡ doing ∷ c.take_first.new.doings.items = c.in-Some.ensures.first in
     let valid : AreValid g.C.TreeCall.is_valid (a ∷ rest) = subst (λ (l : List (Doing g.row.C.Denot)). AreValid g.C.TreeCall.is_valid (all_asks c.args.session l)) list c.requires.valid in
-    (omega (arith, c.decreases, ap length list), (within.0, (within.1.0, (within.1.1, (c.in_ok-answer.ensures.takes, (valid.1, ap reason_in (sym c.as_slice.ensures.value) ∙ sym c.reason_in.ensures ∙ c.in_default-reason_in.is))))))
+    (omega (arith, c.decreases, ap length list), (within.0, (within.1.0, (within.1.1, (c.in_ok-answer.ensures.goes_on.takes, (valid.1, ap reason_in (sym c.as_slice.ensures.value) ∙ sym c.reason_in.ensures ∙ c.in_default-reason_in.is))))))
 
 pub returns-clause-asked : goal.returns-clause-asked
 returns-clause-asked g t c = λ s stands.
@@ -56,12 +56,12 @@ returns-clause-asked g t c = λ s stands.
     let rest = all_asks c.args.session c.take_first.new.doings.items in
     let list : c.args.doings.items ≡ doing ∷ c.take_first.new.doings.items = c.in-Some.ensures.first in
     let valid : AreValid g.C.TreeCall.is_valid (a ∷ rest) = subst (λ (l : List (Doing g.row.C.Denot)). AreValid g.C.TreeCall.is_valid (all_asks c.args.session l)) list c.requires.valid in
-    let led = c.in_ok-answer.ensures.state s stands in
+    let did = c.in_ok-answer.ensures.does s stands in
     let one : AllAnswered g.C.TreeCall.is_valid m told reason_of g.J.Disk.is_known s (a ∷ []) c.args.journal.now.history c.answer.new.core c.answer.new.journal.history c.args.replies.now.items c.answer.new.replies.items =
-    step_answered g.C.TreeCall.is_valid m told reason_of g.J.Disk.is_known s a valid.0 c.args.journal.now.history c.answer.new.journal.history (λ other. ap (λ (j : JournalView). j.history) (c.answer.ensures.still other)) c.answer.new.core c.args.replies.now.items c.answer.new.replies.items led (c.answer.ensures.any_moment s stands)
-    (c.in_ok-answer.ensures.replies s stands) c.requires.unrefused (ap reason_in (sym c.as_slice.ensures.value) ∙ sym c.reason_in.ensures ∙ c.in_default-reason_in.is) in
+    step_answered g.C.TreeCall.is_valid m told reason_of g.J.Disk.is_known s a valid.0 c.args.journal.now.history c.answer.new.journal.history (λ other. ap (λ (j : JournalView). j.history) (c.answer.ensures.durable_first.still other)) c.answer.new.core c.args.replies.now.items c.answer.new.replies.items did.state (c.answer.ensures.any_moment s stands)
+    did.replies c.requires.unrefused (ap reason_in (sym c.as_slice.ensures.value) ∙ sym c.reason_in.ensures ∙ c.in_default-reason_in.is) in
     subst (λ (l : List (Doing g.row.C.Denot)). AskedInTurn g.C.TreeCall.is_valid m told reason_of g.J.Disk.is_known s (all_asks c.args.session l) c.args.journal.now.history c.ask_in_turn.new.core c.ask_in_turn.new.journal.history c.args.replies.now.items c.ask_in_turn.new.replies.items c.ask_in_turn.result) (sym list)
-    (asked_behind g.C.TreeCall.is_valid m told reason_of c.ask_in_turn.result g.J.Disk.is_known s (a ∷ []) rest _ _ _ _ _ _ _ _ one (c.ask_in_turn.ensures.asked (asked_from m s c.args.session doing).state led.stands))
+    (asked_behind g.C.TreeCall.is_valid m told reason_of c.ask_in_turn.result g.J.Disk.is_known s (a ∷ []) rest _ _ _ _ _ _ _ _ one (c.ask_in_turn.ensures.asked (asked_from m s c.args.session doing).state did.state.stands))
 
 pub returns-in_default-clause-asked : goal.returns-in_default-clause-asked
 returns-in_default-clause-asked g t c = λ s stands.
