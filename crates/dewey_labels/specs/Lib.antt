@@ -4,6 +4,7 @@ pub mod Ancestors
 pub mod Sides
 pub mod LabelText
 pub mod NewLabels
+pub mod LabelLimits
 pub mod Lists
 -- words that only the proof uses
 pub mod inside

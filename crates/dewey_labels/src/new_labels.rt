@@ -1,11 +1,12 @@
 //! The label of a new node, between those of its neighbours.
-ghost use Rattle.std.specs.Prelude.{◌≡◌, ◌≢◌, ◌↔◌, ◌≤◌, ◌++◌, if◌then◌else◌, Some, None, IsTrue, IfOk, IfSome, OnOk};
+ghost use Rattle.std.specs.Prelude.{◌≡◌, ◌≤◌, ◌++◌, if◌then◌else◌, Some, None, IsTrue, IfOk, IfSome, OnOk};
 ghost use Rattle.std.specs.declared.cmp.Ordering.TheVariants.{Less};
 ghost use Rattle.std.specs.Ordering.{nat_cmp};
 ghost use Rattle.std.specs.Cmp.Lexicographic.{slice_cmp};
 ghost use Rattle.dewey_labels.specs.Labels.{greatest, is_child, is_label, is_within, IsLabel};
 ghost use Rattle.dewey_labels.specs.Sides.{rest as rest_behind};
 ghost use Rattle.dewey_labels.specs.NewLabels.{odd_above as least_odd_above, after, before, between, new_label, AreNeighbours};
+ghost use Rattle.dewey_labels.specs.LabelLimits.{IsRefusedAtLimit};
 ghost use Rattle.dewey_labels.specs.inside.Codes.{IsCode};
 ghost use Rattle.dewey_labels.specs.inside.MadeLabels.{IsMade};
 
@@ -37,8 +38,7 @@ impl From<NoMemory> for LabelError {
 /// The label of a new child of `parent`, which has no other one.
 pub fn child_first(alloc: Global, parent: &Label) -> Result<Label, LabelError>
     ensures ok { IfOk result (λ new. new_label parent.now None None ≡ Some new) }
-    ensures limit { let new = new_label parent.now None None in
-        (result ≡ Err LabelError.LabelLimit) ↔ ((new ≡ None) × (result ≢ Err LabelError.NoMemory)) }
+    ensures limit { IsRefusedAtLimit result (new_label parent.now None None) }
     ensures label { IfOk result IsLabel }
     ensures child { IfOk result (λ new. IsTrue (is_child parent.now new)) }
 {
@@ -51,8 +51,7 @@ pub fn child_first(alloc: Global, parent: &Label) -> Result<Label, LabelError>
 pub fn child_after(alloc: Global, parent: &Label, left: &Label) -> Result<Label, LabelError>
     requires { IsTrue (is_child parent.now left.now) }
     ensures ok { IfOk result (λ new. new_label parent.now (Some left.now) None ≡ Some new) }
-    ensures limit { let new = new_label parent.now (Some left.now) None in
-        (result ≡ Err LabelError.LabelLimit) ↔ ((new ≡ None) × (result ≢ Err LabelError.NoMemory)) }
+    ensures limit { IsRefusedAtLimit result (new_label parent.now (Some left.now) None) }
     ensures label { IfOk result IsLabel }
     ensures child { IfOk result (λ new. IsTrue (is_child parent.now new)) }
     ensures behind { IfOk result (λ new. slice_cmp nat_cmp left.now new ≡ Less) }
@@ -66,8 +65,7 @@ pub fn child_after(alloc: Global, parent: &Label, left: &Label) -> Result<Label,
 pub fn child_before(alloc: Global, parent: &Label, right: &Label) -> Result<Label, LabelError>
     requires { IsTrue (is_child parent.now right.now) }
     ensures ok { IfOk result (λ new. new_label parent.now None (Some right.now) ≡ Some new) }
-    ensures limit { let new = new_label parent.now None (Some right.now) in
-        (result ≡ Err LabelError.LabelLimit) ↔ ((new ≡ None) × (result ≢ Err LabelError.NoMemory)) }
+    ensures limit { IsRefusedAtLimit result (new_label parent.now None (Some right.now)) }
     ensures label { IfOk result IsLabel }
     ensures child { IfOk result (λ new. IsTrue (is_child parent.now new)) }
     ensures ahead { IfOk result (λ new. slice_cmp nat_cmp new right.now ≡ Less) }
@@ -88,8 +86,7 @@ pub fn child_between(
     requires { AreNeighbours parent.now (Some left.now) (Some right.now) }
     ensures ok { IfOk result (λ new.
         new_label parent.now (Some left.now) (Some right.now) ≡ Some new) }
-    ensures limit { let new = new_label parent.now (Some left.now) (Some right.now) in
-        (result ≡ Err LabelError.LabelLimit) ↔ ((new ≡ None) × (result ≢ Err LabelError.NoMemory)) }
+    ensures limit { IsRefusedAtLimit result (new_label parent.now (Some left.now) (Some right.now)) }
     ensures label { IfOk result IsLabel }
     ensures child { IfOk result (λ new. IsTrue (is_child parent.now new)) }
     ensures behind { IfOk result (λ new. slice_cmp nat_cmp left.now new ≡ Less) }

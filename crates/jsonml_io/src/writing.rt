@@ -1,10 +1,8 @@
 // A fragment written as a JSON value, or as the bytes of compact JSON.
-ghost use Rattle.std.specs.Prelude.{◌≡◌, ◌≤◌, ◌++◌, map, Ok, IfOk, OnOk, OnErr};
+ghost use Rattle.std.specs.Prelude.{◌≡◌, ◌++◌, map, Ok, IfOk, OnOk, OnErr};
 ghost use Rattle.serde_json.specs.Data.{no_members, string};
 ghost use Rattle.serde_json.specs.View.{view, members_view};
-ghost use Rattle.tree_model.specs.Fragments.{plain, depth, IsValid};
-ghost use Rattle.jsonml_io.specs.JsonMl.{most_depth, fragment_in};
-ghost use Rattle.jsonml_io.specs.Written.{with_members, opening, json_of, fragment_text};
+ghost use Rattle.jsonml_io.specs.Written.{with_members, opening, json_of, fragment_text, IsReadAgain};
 
 use dewey_labels::{List, NoMemory, Text};
 use serde_json::{Map, Value};
@@ -38,8 +36,7 @@ pub fn write_fragment(
     out: &mut List<u8>,
 ) -> Result<(), NoMemory>
     ensures ok { OnOk result (out.new ≡ out.old ++ fragment_text fragment.now) }
-    ensures read_again { OnOk result (IsValid (plain fragment.now) → depth (plain fragment.now) ≤ most_depth
-        → fragment_in (fragment_text fragment.now) ≡ Ok fragment.now) }
+    ensures read_again { OnOk result (IsReadAgain fragment.now) }
     ensures err { OnErr result (out.new ≡ out.old) }
 {
     let text = to_value(alloc, fragment)?.to_vec(alloc)?;

@@ -25,14 +25,18 @@ clash q g = same_resource g.resource q.resource && not (are_compatible q.ask g.a
 abbrev pub clashes_with : List Request → Request → Bool
 clashes_with gs q = list_any (λ g. clash q g) gs
 
+-- what each owner was granted, in the order in which it was
+abbrev pub AllGrants : Type 0
+AllGrants = ℕ → List Request
+
 -- the grants of an owner with one more
-abbrev pub with_grant : (ℕ → List Request) → ℕ → Request → ℕ → List Request
+abbrev pub with_grant : AllGrants → ℕ → Request → AllGrants
 with_grant grants owner q o = cond (owner == o) (grants o ++ q ∷ []) (grants o)
 
 -- the grants without those of an owner
-abbrev pub without_owner : (ℕ → List Request) → ℕ → ℕ → List Request
+abbrev pub without_owner : AllGrants → ℕ → AllGrants
 without_owner grants owner o = cond (owner == o) [] (grants o)
 
 -- the table holds for each owner and resource the join of these grants
-abbrev pub IsTableOf : Table → (ℕ → List Request) → Type 0
+abbrev pub IsTableOf : Table → AllGrants → Type 0
 IsTableOf t grants = (o : ℕ) (r : Resource) → held t o r ≡ join_of (grants o) r

@@ -1,14 +1,13 @@
 //! Group modes: at resources with several owners the join of what they hold, or more. What goes with it and is in it already is granted without a look at each owner.
 
-ghost use Rattle.std.specs.Prelude.{◌≡◌, ℕ, ◌&&◌, ◌≤◌, ◌↔◌, ◌==◌, not, cond, List, [], None, Some, option_copied, IfOk, IfSome, IsSome, IsTrue, OnOk, OnErr};
-ghost use Rattle.std.specs.List.{list_any};
+ghost use Rattle.std.specs.Prelude.{◌≡◌, ℕ, ◌&&◌, ◌≤◌, ◌↔◌, cond, List, [], None, Some, option_copied, IfOk, IfSome, IsSome, IsTrue, OnOk, OnErr};
 ghost use Rattle.std.specs.List.Sorted.{IsStrictlySortedBy};
 ghost use Rattle.std.specs.Ordering.{nat_cmp};
 ghost use Rattle.std.specs.BTreeMap.{get};
 ghost use Rattle.lock_resources.specs.declared.resource.Resource.{Resource};
-ghost use Rattle.lock_table.specs.Asks.{is_barred_by};
 ghost use Rattle.lock_table.specs.Resources.{same_resource};
-ghost use Rattle.lock_table.specs.inside.Rows.{RowMap, row_at, held_in, in_row};
+ghost use Rattle.lock_table.specs.inside.Barring.{AreBarring};
+ghost use Rattle.lock_table.specs.inside.Rows.{HoldsInstead, RowMap, row_at, held_in, in_row};
 ghost use Rattle.lock_table.specs.inside.GroupModes.{group_at, AreGroupModes, IsAbove, IsUnder, LetsIn, owners_in, owners_at};
 
 use crate::asks::{covers, is_barred, join};
@@ -122,8 +121,7 @@ pub fn admitted(
     ensures under { IfOk result (λ holders. holders ≡ [] → IsUnder (group_at groups.new request.now.resource) request.now.ask) }
     ensures noted { IfOk result (λ holders. holders ≡ [] → 4 ≤ owners_at rows.now request.now.resource → IsSome (group_at groups.new request.now.resource)) }
     ensures rising { IfOk result (λ holders. IsStrictlySortedBy nat_cmp holders) }
-    ensures each { IfOk result (λ holders. (o : ℕ) → list_any (λ h. h == o) holders
-        ≡ (not (o == owner) && is_barred_by request.now.ask (held_in rows.now o request.now.resource))) }
+    ensures each { IfOk result (λ holders. AreBarring owner request.now.ask (λ o. held_in rows.now o request.now.resource) holders) }
 {
     if lets_in(groups, &request.resource, request.ask) {
         return Ok(List::new(alloc));
@@ -140,7 +138,7 @@ pub fn admitted(
 /// Takes the owner out of the resource's row, and where nobody is left there the row with its group mode. It takes no memory.
 pub fn take_out(rows: &mut Rows, groups: &mut GroupModes, owner: u32, resource: &Resource)
     requires { AreGroupModes groups.old rows.old }
-    ensures rows { (o : ℕ) (r : Resource) → held_in rows.new o r ≡ cond ((owner == o) && same_resource resource.now r) None (held_in rows.old o r) }
+    ensures rows { HoldsInstead rows.old owner resource.now None rows.new }
     ensures groups { AreGroupModes groups.new rows.new }
 {
     if leave_at(rows, owner, resource) {

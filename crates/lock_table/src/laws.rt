@@ -7,7 +7,7 @@ ghost use Rattle.lock_resources.specs.declared.resource.Resource.{Resource};
 ghost use Rattle.lock_table.specs.Asks.{join_asks, are_compatible, is_barred_by};
 ghost use Rattle.lock_table.specs.Resources.{same_resource};
 ghost use Rattle.lock_table.specs.Tables.{Table, IsGranted, IsReleased};
-ghost use Rattle.lock_table.specs.Grants.{join_of, clashes_with, with_grant, without_owner, IsTableOf};
+ghost use Rattle.lock_table.specs.Grants.{AllGrants, join_of, clashes_with, with_grant, without_owner, IsTableOf};
 
 /// A mode goes with a join exactly where it goes with each part, and so with all that an owner was granted exactly where it goes with each grant.
 #[tactic(auto, using(crate::proofs::Together::compatible_joined, crate::proofs::Together::compatible_turned, crate::proofs::Granted::join_bars))]
@@ -20,10 +20,10 @@ pub fn joins_bar_as_their_parts()
 /// A table that holds the joins of the owners' grants does so after a grant and after a release.
 #[tactic(auto, using(crate::proofs::Granted::granted_table, crate::proofs::Granted::released_table))]
 pub fn tables_hold_the_joins_of_grants()
-    ensures granted { (t u : Table) (grants : ℕ → List Request) (owner : ℕ) (q : Request) → IsTableOf t grants → IsGranted t owner q u
-        → IsTableOf u (with_grant grants owner q) }
-    ensures released { (t u : Table) (grants : ℕ → List Request) (owner : ℕ) → IsTableOf t grants → IsReleased t owner u
-        → IsTableOf u (without_owner grants owner) }
+    ensures granted { (t u : Table) (all : AllGrants) (owner : ℕ) (q : Request) → IsTableOf t all → IsGranted t owner q u
+        → IsTableOf u (with_grant all owner q) }
+    ensures released { (t u : Table) (all : AllGrants) (owner : ℕ) → IsTableOf t all → IsReleased t owner u
+        → IsTableOf u (without_owner all owner) }
 {}
 
 /// Two resources are the same exactly where they are equal.

@@ -1,14 +1,12 @@
 //! The rows: for each resource the owners that hold a mode there.
 
-ghost use Rattle.std.specs.Prelude.{◌≡◌, ℕ, ◌&&◌, ◌==◌, not, cond, None, Some, option_copied, IfOk, OnOk, OnErr, IsTrue};
-ghost use Rattle.std.specs.List.{list_any};
+ghost use Rattle.std.specs.Prelude.{◌≡◌, ℕ, ◌==◌, cond, None, Some, option_copied, IfOk, OnOk, OnErr, IsTrue};
 ghost use Rattle.std.specs.List.Sorted.{IsStrictlySortedBy};
 ghost use Rattle.std.specs.Ordering.{nat_cmp};
 ghost use Rattle.std.specs.BTreeMap.{get};
 ghost use Rattle.lock_resources.specs.declared.resource.Resource.{Resource};
-ghost use Rattle.lock_table.specs.Asks.{is_barred_by};
-ghost use Rattle.lock_table.specs.inside.Rows.{held_in, in_row};
-ghost use Rattle.lock_table.specs.Resources.{same_resource};
+ghost use Rattle.lock_table.specs.inside.Barring.{AreBarring};
+ghost use Rattle.lock_table.specs.inside.Rows.{HoldsInstead, held_in, in_row};
 
 use crate::asks::is_barred;
 use dewey_labels::{List, NoMemory};
@@ -57,8 +55,7 @@ pub fn put(
     resource: &Resource,
     ask: Ask,
 ) -> Result<(), NoMemory>
-    ensures ok { OnOk result ((o : ℕ) (r : Resource) → held_in rows.new o r
-        ≡ cond ((owner == o) && same_resource resource.now r) (Some ask) (held_in rows.old o r)) }
+    ensures ok { OnOk result (HoldsInstead rows.old owner resource.now (Some ask) rows.new) }
     ensures err { OnErr result ((o : ℕ) (r : Resource) → held_in rows.new o r ≡ held_in rows.old o r) }
 {
     match rows.get_mut(resource) {
@@ -76,8 +73,7 @@ fn put_new(
     ask: Ask,
 ) -> Result<(), NoMemory>
     requires { (o : ℕ) → held_in rows.old o resource.now ≡ None }
-    ensures ok { OnOk result ((o : ℕ) (r : Resource) → held_in rows.new o r
-        ≡ cond ((owner == o) && same_resource resource.now r) (Some ask) (held_in rows.old o r)) }
+    ensures ok { OnOk result (HoldsInstead rows.old owner resource.now (Some ask) rows.new) }
     ensures err { OnErr result ((o : ℕ) (r : Resource) → held_in rows.new o r ≡ held_in rows.old o r) }
 {
     let row = row_of(alloc, owner, ask)?;
@@ -96,7 +92,7 @@ fn leave(row: &mut Row, owner: u32) -> bool
 
 /// Takes the owner out of the resource's row and answers whether nobody is left there.
 pub fn leave_at(rows: &mut Rows, owner: u32, resource: &Resource) -> bool
-    ensures rows { (o : ℕ) (r : Resource) → held_in rows.new o r ≡ cond ((owner == o) && same_resource resource.now r) None (held_in rows.old o r) }
+    ensures rows { HoldsInstead rows.old owner resource.now None rows.new }
     ensures empty { IsTrue result → (o : ℕ) → held_in rows.new o resource.now ≡ None }
 {
     match rows.get_mut(resource) {
@@ -122,8 +118,7 @@ pub fn barring_at(
     ask: Ask,
 ) -> Result<List<u32>, NoMemory>
     ensures rising { IfOk result (λ holders. IsStrictlySortedBy nat_cmp holders) }
-    ensures each { IfOk result (λ holders. (o : ℕ) → list_any (λ h. h == o) holders
-        ≡ (not (o == owner) && is_barred_by ask (held_in rows.now o resource.now))) }
+    ensures each { IfOk result (λ holders. AreBarring owner ask (λ o. held_in rows.now o resource.now) holders) }
 {
     barring_there(alloc, rows.get(resource), owner, ask)
 }
@@ -136,8 +131,7 @@ pub fn barring_there(
     ask: Ask,
 ) -> Result<List<u32>, NoMemory>
     ensures rising { IfOk result (λ holders. IsStrictlySortedBy nat_cmp holders) }
-    ensures each { IfOk result (λ holders. (o : ℕ) → list_any (λ h. h == o) holders
-        ≡ (not (o == owner) && is_barred_by ask (in_row (option_copied row.entry) o))) }
+    ensures each { IfOk result (λ holders. AreBarring owner ask (λ o. in_row (option_copied row.entry) o) holders) }
 {
     match row {
         Some(row) => barring_in(alloc, row, owner, ask),
@@ -147,7 +141,7 @@ pub fn barring_there(
 
 fn barring_in(alloc: Global, row: &Row, owner: u32, ask: Ask) -> Result<List<u32>, NoMemory>
     ensures rising { IfOk result (λ holders. IsStrictlySortedBy nat_cmp holders) }
-    ensures each { IfOk result (λ holders. (o : ℕ) → list_any (λ h. h == o) holders ≡ (not (o == owner) && is_barred_by ask (get nat_cmp row.now o))) }
+    ensures each { IfOk result (λ holders. AreBarring owner ask (λ o. get nat_cmp row.now o) holders) }
 {
     let mut holders = List::new(alloc);
     for (other, held) in row.iter() {

@@ -3,9 +3,8 @@
 ghost use Rattle.std.specs.Prelude.{◌≡◌, ℕ, ◌&&◌, ◌==◌, cond, false, None, Some, Ok, IfOk, OnOk, OnErr, IsTrue};
 ghost use Rattle.lock_resources.specs.declared.resource.Resource.{Resource};
 ghost use Rattle.lock_table.specs.Asks.{Covers, join_with, is_barred_by, is_barred};
-ghost use Rattle.lock_table.specs.inside.Rows.{held_in, is_listed, IsKept};
+ghost use Rattle.lock_table.specs.inside.Rows.{HoldsInstead, held_in, is_listed, IsKept};
 ghost use Rattle.lock_table.specs.inside.GroupModes.{AreGroupModes};
-ghost use Rattle.lock_table.specs.Resources.{same_resource};
 ghost use Rattle.lock_table.specs.declared.table.Asked.TheVariants.{Granted};
 ghost use Rattle.lock_table.specs.Tables.{held as held_by, AreHolders, IsGranted, IsSame, IsReleased, Answers};
 
@@ -138,8 +137,7 @@ fn grant(
     requires before { before ≡ held_in rows.old owner request.now.resource }
     requires free { (p : ℕ) → (p == owner) ≡ false → is_barred_by request.now.ask (held_in rows.old p request.now.resource) ≡ false }
     ensures kept { IsKept rows.new owned.new }
-    ensures ok { OnOk result ((o : ℕ) (r : Resource) → held_in rows.new o r
-        ≡ cond ((owner == o) && same_resource request.now.resource r) (Some (join_with request.now.ask before)) (held_in rows.old o r)) }
+    ensures ok { OnOk result (HoldsInstead rows.old owner request.now.resource (Some (join_with request.now.ask before)) rows.new) }
     ensures err { OnErr result ((o : ℕ) (r : Resource) → held_in rows.new o r ≡ held_in rows.old o r) }
 {
     make_listed(alloc, owned, owner, &request.resource, before.is_some())?;

@@ -1,6 +1,6 @@
 -- The bytes of changes (docs/FILE_FORMAT.md, "Changes").
-use Rattle.std.specs.Prelude.{ℕ, zero, suc, ◌+◌, ◌^◌, ◌<◌, nat_lt, ◌==◌, if◌then◌else◌, List, [], ◌∷◌, ◌++◌, length, take, drop, Option, Some, None}
-use Rattle.std.specs.List.{flat_map}
+use Rattle.std.specs.Prelude.{◌≡◌, ℕ, zero, suc, ◌+◌, ◌^◌, ◌<◌, nat_lt, ◌==◌, if◌then◌else◌, List, [], ◌∷◌, ◌++◌, length, take, drop, Option, Some, None}
+use Rattle.std.specs.List.{flat_map, AllByRecursion}
 use Rattle.byteorder.specs.Endian.{big_bytes}
 use Rattle.tree_model.specs.declared.change.Change.{Change}
 use Rattle.tree_model.specs.declared.key.Key.{Key}
@@ -62,6 +62,10 @@ pub record IsWritableChange (c : Change) : Type 0 where
 -- the bytes of each, in order
 abbrev pub changes_bytes : List Change → List ℕ
 changes_bytes cs = flat_map change_bytes cs
+
+-- changes that their bytes tell, and these bytes
+abbrev pub AreWrittenAs : List Change → List ℕ → Type 0
+AreWrittenAs cs bytes = (bytes ≡ changes_bytes cs) × AllByRecursion IsWritableChange cs
 
 -- at most n changes that are all of the bytes
 abbrev pub changes_from : ℕ → List ℕ → Option (List Change)

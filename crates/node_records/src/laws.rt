@@ -4,7 +4,7 @@ ghost use Rattle.std.specs.List.{AllByRecursion};
 ghost use Rattle.std.specs.Ordering.{nat_cmp};
 ghost use Rattle.std.specs.Cmp.Lexicographic.{slice_cmp};
 ghost use Rattle.tree_model.specs.Keys.{IsValidKey, key_cmp};
-ghost use Rattle.node_records.specs.Changes.{IsWritableChange, change_bytes, change_in, changes_bytes, changes_of};
+ghost use Rattle.node_records.specs.Changes.{AreWrittenAs, IsWritableChange, change_bytes, change_in, changes_bytes, changes_of};
 ghost use Rattle.node_records.specs.Entries.{IsWritableEntry, entry_bytes, entry_in};
 ghost use Rattle.node_records.specs.Keys.{IsWritable, key_bytes, key_in};
 ghost use Rattle.outside_traits.specs.Bytes.{IsBytes};
@@ -26,8 +26,7 @@ pub fn what_is_written_is_read_again()
 /// A body of changes that is written is read again, and what is read as one was written so.
 pub fn bodies_are_read_again()
     ensures again { (cs : List Change) → AllByRecursion IsWritableChange cs → changes_of (changes_bytes cs) ≡ Some cs }
-    ensures written { (bytes : List ℕ) (cs : List Change) → IsBytes bytes → changes_of bytes ≡ Some cs → (bytes ≡ changes_bytes cs)
-        × AllByRecursion IsWritableChange cs }
+    ensures written { (bytes : List ℕ) (cs : List Change) → IsBytes bytes → changes_of bytes ≡ Some cs → AreWrittenAs cs bytes }
 {}
 
 /// Keys sort as their bytes do: the order of `Key` is the one that the first differing byte decides.

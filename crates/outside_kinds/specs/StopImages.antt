@@ -33,6 +33,10 @@ abbrev pub behind_sync : List NotedCall → List NotedCall → List NotedCall
 behind_sync so_far [] = so_far
 behind_sync so_far (noted ∷ more) = if is_sync noted.call then behind_sync more more else behind_sync so_far more
 
+-- the calls that a crash in this call may tear: those behind the last sync before it
+abbrev pub writes_open_in : ℕ → DiskInMemory → List NotedCall
+writes_open_in number d = behind_sync (until number d.noted) (until number d.noted)
+
 -- a call behind the last sync: what it wrote is not there, there as it was written, or zeros
 abbrev pub torn_by : DiskCall → (List ℕ → List (List ℕ)) → List ℕ → List (List ℕ)
 torn_by (Write at bytes) later file = later file ++ (later (put_at_or_past at bytes file) ++ later (put_at_or_past at (replicate (length bytes) 0) file))

@@ -1,8 +1,8 @@
 //! A source that is read up to a limit, so that a script without an end has one.
-ghost use Rattle.std.specs.Prelude.{◌≡◌, ◌⊎◌, ℕ, ◌+◌, ◌<◌, ◌≤◌, [], length, take, Ok, IfOk, IfSome, OnErr, MatchResult};
+ghost use Rattle.std.specs.Prelude.{◌≡◌, ◌⊎◌, ℕ, ◌+◌, ◌<◌, ◌≤◌, [], length, take, Ok, IfOk, IfSome, OnErr};
 ghost use Rattle.outside_traits.specs.Bytes.{Gave};
 ghost use Rattle.outside_traits.specs.Faults.{HasCause, failed};
-ghost use Rattle.outside_kinds.specs.Bounds.{BelowCause, input_limit};
+ghost use Rattle.outside_kinds.specs.Bounds.{AskedBehind, BelowCause, input_limit};
 
 use outside_traits::{Failed, Source};
 
@@ -48,8 +48,7 @@ impl<'a, S: Source> Source for Bounded<'a, S> {
         ensures bytes { IfOk result (λ count. Gave (S.left self.old.inner.now) (S.left self.new.inner.now) (take count buf.new)) }
         ensures count { IfOk result (λ count. S.given self.new.inner.now ≡ S.given self.old.inner.now + count) }
         ensures end { result ≡ Ok 0 → IfSome (S.left self.old.inner.now) (λ bytes. bytes ≡ []) }
-        ensures asked { MatchResult result (λ _. S.asked self.new.inner.now ≡ S.given self.old.inner.now)
-            (λ _. S.asked self.new.inner.now ≡ S.asked self.old.inner.now) }
+        ensures asked { AskedBehind (S.given self.old.inner.now) (S.asked self.old.inner.now) (S.asked self.new.inner.now) result }
         ensures err { OnErr result ((S.left self.new.inner.now ≡ S.left self.old.inner.now) × (S.given self.new.inner.now ≡ S.given self.old.inner.now)) }
         ensures cause { HasCause failed (self.old.faults) (self.new.faults) result }
 

@@ -6,7 +6,7 @@ ghost use Rattle.outside_traits.specs.Bytes.{IsBytes};
 ghost use Rattle.outside_traits.specs.CrashImages.{IsImage};
 ghost use Rattle.outside_traits.specs.Moments.{Since};
 ghost use Rattle.outside_kinds.specs.MemoryDisks.{after_calls, start, history_of};
-ghost use Rattle.outside_kinds.specs.StopImages.{is_write, until, behind_sync, torn, stopped_in};
+ghost use Rattle.outside_kinds.specs.StopImages.{is_write, until, behind_sync, writes_open_in, torn, stopped_in};
 
 use crate::mem_disk::{MemDisk, overwrite};
 use crate::noted_call::{DiskCall, NotedCall};
@@ -115,8 +115,7 @@ impl MemDisk {
     /// A sync that the crash comes in has made sure of nothing yet. After the last call it is a crash of now.
     pub fn stop_images(&self, alloc: Global, call: u64) -> Result<List<List<u8>>, NoMemory>
         ensures images { IfOk result (λ images. All (IsImage (stopped_in call self.now).now) images) }
-        ensures among { IfOk result (λ images. images ≡ torn (behind_sync (until call self.now.noted) (until call self.now.noted))
-            (stopped_in call self.now).now.synced) }
+        ensures among { IfOk result (λ images. images ≡ torn (writes_open_in call self.now) (stopped_in call self.now).now.synced) }
         ensures moment { Since (stopped_in call self.now) (history_of self.now) }
     {
         let calls = calls_until(self.noted(), call);

@@ -19,6 +19,10 @@ pub record IsImage (s : DiskState) (image : List ℕ) : Type 0 where
   pub remains : Remains s image
   pub bytes : IsBytes image
 
+-- where the file is an image of a crash, so is this one
+abbrev pub KeepsImage : DiskState → List ℕ → List ℕ → Type 0
+KeepsImage s file other = IsImage s file → IsImage s other
+
 -- a crash may leave any bytes at each place of this range already
 pub record IsOpen (s : DiskState) (at n : ℕ) : Type 0 where
   pub no_longer : at + n ≤ s.longest

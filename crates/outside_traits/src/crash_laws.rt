@@ -2,7 +2,7 @@
 ghost use Rattle.std.specs.Prelude.{◌≡◌, ◌↔◌, ◌≤◌, ◌+◌, ℕ, List, length, take};
 ghost use Rattle.outside_traits.specs.Disks.{DiskState, put_at_or_past, OpensRange, Synced};
 ghost use Rattle.outside_traits.specs.Bytes.{IsBytes};
-ghost use Rattle.outside_traits.specs.CrashImages.{IsImage, IsOpen};
+ghost use Rattle.outside_traits.specs.CrashImages.{IsImage, IsOpen, KeepsImage};
 ghost use Rattle.outside_traits.specs.Moments.{History, TakesStep, Since, IsImageSince, WasImage};
 
 /// After a sync a crash leaves one image, what a read gave.
@@ -21,9 +21,9 @@ pub fn no_other_image_inside_an_open_range()
 
 /// In an open range a crash may leave any bytes, whatever else it leaves, and of a file that grew any length from that at the last sync on.
 pub fn any_bytes_and_any_length_of_what_is_open()
-    ensures bytes { (at : ℕ) (bytes file : List ℕ) (s : DiskState) → IsBytes bytes → IsOpen s at (length bytes) → IsImage s file
-        → IsImage s (put_at_or_past at bytes file) }
-    ensures length { (n : ℕ) (file : List ℕ) (s : DiskState) → length s.synced ≤ n → IsImage s file → IsImage s (take n file) }
+    ensures bytes { (at : ℕ) (bytes file : List ℕ) (s : DiskState) → IsBytes bytes → IsOpen s at (length bytes)
+        → KeepsImage s file (put_at_or_past at bytes file) }
+    ensures length { (n : ℕ) (file : List ℕ) (s : DiskState) → length s.synced ≤ n → KeepsImage s file (take n file) }
 {}
 
 /// The images since a moment are those of some moment since.

@@ -1,6 +1,7 @@
 //! Two lists of changes laid one over the other, from the least key up.
-ghost use Rattle.std.specs.Prelude.{◌≡◌, ◌≤◌, ◌<◌, ◌+◌, [], ◌∷◌, length, vec_capacity, MatchOption};
+ghost use Rattle.std.specs.Prelude.{◌≡◌, ◌≤◌, ◌+◌, [], length, vec_capacity};
 ghost use Rattle.tree_model.specs.Changes.{Rising, laid};
+ghost use Rattle.tree_model.specs.inside.Taking.{TakesHead, TakesOff};
 
 use crate::Change;
 use std::cmp::Ordering;
@@ -25,12 +26,8 @@ pub fn lay(upper: Vec<Change>, lower: Vec<Change>, mut out: Vec<Change>) -> Vec<
 /// Takes the change of the least key off both; at a key of both the upper one, and the lower one goes.
 fn take_first(upper: &mut VecDeque<Change>, lower: &mut VecDeque<Change>) -> Option<Change>
     requires rising { Rising upper.old.items × Rising lower.old.items }
-    ensures first { MatchOption result
-        (laid upper.old.items lower.old.items ≡ [])
-        (λ c. laid upper.old.items lower.old.items ≡ c ∷ laid upper.new.items lower.new.items) }
-    ensures fewer { MatchOption result
-        (length upper.new.items + length lower.new.items ≤ length upper.old.items + length lower.old.items)
-        (λ _. length upper.new.items + length lower.new.items < length upper.old.items + length lower.old.items) }
+    ensures first { TakesHead result (laid upper.old.items lower.old.items) (laid upper.new.items lower.new.items) }
+    ensures fewer { TakesOff result (length upper.old.items + length lower.old.items) (length upper.new.items + length lower.new.items) }
     ensures rising { Rising upper.new.items × Rising lower.new.items }
 {
     match (upper.front(), lower.front()) {

@@ -11,7 +11,7 @@ use Rattle.tree_model.specs.declared.record.Record.{Record}
 use Rattle.tree_model.specs.Entries.{Entries, Sorted, get}
 use Rattle.tree_model.specs.Keys.{node_key}
 use Rattle.tree_model.specs.Places.{is_root}
-use Rattle.tree_model.specs.StoredTree.{misfit_at}
+use Rattle.tree_model.specs.StoredTree.{entry_fits, misfit_at}
 use Rattle.tree_model.proofs.Entries.{last_of}
 use Rattle.tree_rules.specs.declared.path.Room.{Room}
 use Rattle.tree_rules.specs.declared.path.Step.{Step}
@@ -44,3 +44,7 @@ pub record IsNext (t : Tester) (es : Entries) (x : Key × Record) : Type 0 where
   pub keeps : Keeps t es
   pub sorted : Sorted (es ++ x ∷ [])
   pub label : IsLabel x.0.label
+
+-- behind entries that the tester knew it knows this one too, which may stand there
+abbrev pub KeepsNext : Tester → Key × Record → Tester → Type 0
+KeepsNext old x new = (es : Entries) → IsNext old es x → entry_fits es x ≡ true → Keeps new (es ++ x ∷ [])

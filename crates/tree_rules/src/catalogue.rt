@@ -1,12 +1,10 @@
 // The documents that the catalogue of a map names, and that were not met yet.
-ghost use Rattle.std.specs.Prelude.{◌≡◌, ◌&&◌, cond, false, None, Some, IfOk, OnOk, unwrap_or};
+ghost use Rattle.std.specs.Prelude.{◌≡◌, false, None, Some, IfOk, OnOk, unwrap_or};
 ghost use Rattle.std.specs.BTreeMap.{get};
 ghost use Rattle.std.specs.Cmp.Lexicographic.{slice_cmp};
 ghost use Rattle.std.specs.Ordering.{nat_cmp};
-ghost use Rattle.dewey_labels.specs.Labels.{Label};
 ghost use Rattle.tree_model.specs.StoredTree.{is_document_record, label_in};
-ghost use Rattle.tree_model.specs.ValidTrees.{same_label};
-ghost use Rattle.tree_rules.specs.inside.Named.{HasNamed, gives_label};
+ghost use Rattle.tree_rules.specs.inside.Named.{HasLost, HasNamed, gives_label};
 
 use crate::records::{is_document, label_in};
 use dewey_labels::{Label, NoMemory};
@@ -46,8 +44,7 @@ pub(crate) fn is_named_once(named: &BTreeMap<Label, bool>, label: &Label) -> boo
 
 /// Takes a document's label off those that were named.
 pub(crate) fn take_off(named: &mut BTreeMap<Label, bool>, label: &Label, value: &Record)
-    ensures { (l : Label) → get (slice_cmp nat_cmp) named.new l
-        ≡ cond (is_document_record (Some value.now) && same_label label.now l) None (get (slice_cmp nat_cmp) named.old l) }
+    ensures { HasLost label.now (is_document_record (Some value.now)) named.old named.new }
 {
     if is_document(value) {
         let _once = named.remove(label);

@@ -6,7 +6,7 @@ ghost use Rattle.tree_model.specs.Entries.{Entries, Sorted};
 ghost use Rattle.tree_model.specs.Keys.{node_key};
 ghost use Rattle.tree_model.specs.Places.{is_root};
 ghost use Rattle.tree_model.specs.StoredTree.{IsStoredTree, attribute_fits, broken_at, entry_fits, may_stand_at, node_fits};
-ghost use Rattle.tree_rules.specs.Testing.{HasTaken, IsNext, Keeps};
+ghost use Rattle.tree_rules.specs.Testing.{HasTaken, IsNext, KeepsNext};
 ghost use Rattle.tree_rules.specs.inside.Paths.{is_above};
 
 use crate::catalogue::{is_named_once, name_document, take_off};
@@ -182,8 +182,7 @@ impl Tester {
 
     /// Keeps what is needed of a record that may stand there.
     fn keep(&mut self, alloc: Global, key: &Key, value: &Record) -> Result<(), NoMemory>
-        ensures keeps { OnOk result ((es : Entries) → IsNext self.old es (key.now, value.now) → entry_fits es (key.now, value.now) ≡ true
-            → Keeps self.new (es ++ (key.now, value.now) ∷ [])) }
+        ensures keeps { OnOk result (KeepsNext self.old (key.now, value.now) self.new) }
         ensures taken { OnOk result (self.new.taken ≡ self.old.taken) }
         ensures broken { OnOk result (self.new.broken ≡ self.old.broken) }
     {

@@ -52,3 +52,7 @@ IsClosedCycle g owner q t = IsCycleThrough (waits_for (with_request (waits g) ow
 -- the owners that wait form no cycle
 abbrev pub HasNoCycle : Graph → Table → Type 0
 HasNoCycle g t = HasNone (waits_for (waits g) t)
+
+-- where they form none while this is held, they form none while that is
+abbrev pub KeepsNoCycle : Graph → Table → Table → Type 0
+KeepsNoCycle g t u = HasNoCycle g t → HasNoCycle g u

@@ -1,5 +1,5 @@
 -- A map of maps, read at a resource and an owner, and the list of the resources of each owner. The outer one finds a resource by its hash.
-use Rattle.std.specs.Prelude.{◌≡◌, ℕ, Bool, false, ◌||◌, ◌==◌, List, [], ◌∷◌, map, Option, Some, None, IsSome, IsTrue}
+use Rattle.std.specs.Prelude.{◌≡◌, ℕ, Bool, false, ◌||◌, ◌&&◌, ◌==◌, cond, List, [], ◌∷◌, map, Option, Some, None, IsSome, IsTrue}
 use Rattle.std.specs.Ordering.{nat_cmp}
 use Rattle.std.specs.BTreeMap.{BTreeMap}
 use Rattle.std.specs.BTreeMap as tree
@@ -34,6 +34,11 @@ in_row (Some row) o = tree.get nat_cmp row o
 -- what the owner holds at the resource
 abbrev pub held_in : RowMap → ℕ → Resource → Option Ask
 held_in rows o r = in_row (row_at rows r) o
+
+-- the owner holds this at the resource now; all else is held as it was
+abbrev pub HoldsInstead : RowMap → ℕ → Resource → Option Ask → RowMap → Type 0
+HoldsInstead old owner resource now new =
+    (o : ℕ) (r : Resource) → held_in new o r ≡ cond ((owner == o) && same_resource resource r) now (held_in old o r)
 
 -- whether a resource is in a list
 abbrev pub is_listed : Resource → List Resource → Bool

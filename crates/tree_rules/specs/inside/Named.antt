@@ -29,6 +29,11 @@ HasNamed None old new = new ≡ old
 HasNamed (Some label) old new =
     (l : Label) → get (slice_cmp nat_cmp) new l ≡ cond (same_label label l) (Some (not (is_some (get (slice_cmp nat_cmp) old label)))) (get (slice_cmp nat_cmp) old l)
 
+-- the map has lost this label where it is a document's, and no other
+abbrev pub HasLost : Label → Bool → BTreeMap Label Bool → BTreeMap Label Bool → Type 0
+HasLost label is_document old new =
+    (l : Label) → get (slice_cmp nat_cmp) new l ≡ cond (is_document && same_label label l) None (get (slice_cmp nat_cmp) old l)
+
 -- a catalogue entry has a Name, and a label's text as its value
 abbrev pub gives_label : Key × Record → Bool
 gives_label e = is_name e.0.name && is_some (label_in e.1)
