@@ -1,4 +1,5 @@
--- Which calls are valid, and which changes of a key are any.
+-- Which calls are valid, which changes of a key are any, and what a call changes.
 pub mod ValidCalls
 pub mod KeyChanges
 pub mod SubtreeEntries
+pub mod CallChanges
