@@ -1,6 +1,6 @@
 -- The axes (XPath 1.0, section 2.2): relations between two positions of a tree.
 use Rattle.std.specs.Prelude.{Bool, true, false, not, ◌&&◌, ◌||◌, if◌then◌else◌, List, [], ◌∷◌, reverse}
-use Rattle.std.specs.List.{filter}
+use Rattle.std.specs.List.{filter, list_any}
 use Rattle.dewey_labels.specs.Labels.{Label, parent, is_child}
 use Rattle.dewey_labels.specs.Sides.{Side, side, is_under, is_right, above, left, same, under, right}
 use Rattle.dewey_labels.specs.Ancestors.{ancestors}
@@ -108,3 +108,7 @@ in_axis_order a ps = if is_reverse a then reverse ps else ps
 -- the positions of a tree on the axis of one of them that pass the test, as the axis counts them
 abbrev pub on_axis : Tree → Axis → NodeTest → Position → List Position
 on_axis t a test n = in_axis_order a (filter (λ m. relates a n m && passes a test m) (positions t))
+
+-- those that lie on the axis of any of a set and pass the test, in document order
+abbrev pub on_axes : Tree → Axis → NodeTest → List Position → List Position
+on_axes t a test ns = filter (λ m. list_any (λ n. relates a n m) ns && passes a test m) (positions t)

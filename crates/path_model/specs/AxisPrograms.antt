@@ -5,13 +5,14 @@ use Rattle.dewey_labels.specs.Labels.{Label, parent}
 use Rattle.dewey_labels.specs.Sides.{side, is_under, is_right}
 use Rattle.dewey_labels.specs.Ancestors.{ancestors}
 use Rattle.tree_model.specs.declared.record.Record.TheVariants.{Document, Element}
+use Rattle.tree_model.specs.Tree.{Tree}
 use Rattle.path_model.specs.declared.path.Axis.{Axis}
 use Rattle.path_model.specs.declared.path.Axis.TheVariants as axis
 use Rattle.path_model.specs.declared.path.NodeTest.{NodeTest}
 use Rattle.path_model.specs.declared.path.NodeTest.TheVariants as test
 use Rattle.path_model.specs.Axes.{document_of, is_left}
-use Rattle.path_model.specs.Positions.{Position, a_node, an_attribute, label_of}
-use Rattle.path_model.specs.Programs.{Look, at_node, at_row, at_tree, at_attributes, at_attribute, Program, ends, looks, and_then, gathered}
+use Rattle.path_model.specs.Positions.{Position, a_node, an_attribute, label_of, passes}
+use Rattle.path_model.specs.Programs.{Look, at_node, at_row, at_tree, at_attributes, at_attribute, Program, ends, looks, and_then, gathered, answer}
 
 abbrev pub on_right : Label → Position → Bool
 on_right l m = is_right (side l (label_of m))
@@ -53,6 +54,14 @@ siblings which (a_node l Document) = ends []
 siblings which (a_node l r) = looks (at_row (parent l)) (λ s. ends (which s))
 siblings which (an_attribute l n v) = ends []
 
+-- those on the right
+abbrev pub following_siblings : Position → Program (List Position)
+following_siblings n = siblings (λ s. filter (on_right (label_of n)) s) n
+
+-- those on the left, from the nearest one on
+abbrev pub preceding_siblings : Position → Program (List Position)
+preceding_siblings n = siblings (λ s. reverse (filter (on_left (label_of n)) s)) n
+
 -- with a name one attribute is looked at, otherwise all
 abbrev pub attribute_look : NodeTest → Label → Look
 attribute_look (test.Name n) l = at_attribute l n
@@ -76,11 +85,15 @@ along axis.Child t n = children n
 along axis.Descendant t n = descendants n
 along axis.Parent t n = parent_node n
 along axis.Ancestor t n = ancestor_nodes n
-along axis.FollowingSibling t n = siblings (λ s. filter (on_right (label_of n)) s) n
-along axis.PrecedingSibling t n = siblings (λ s. reverse (filter (on_left (label_of n)) s)) n
+along axis.FollowingSibling t n = following_siblings n
+along axis.PrecedingSibling t n = preceding_siblings n
 along axis.Following t n = following_nodes n
 along axis.Preceding t n = preceding_nodes n
 along axis.Attribute t n = attributes t n
 along axis.SelfNode t n = ends (n ∷ [])
 along axis.DescendantOrSelf t n = and_then (descendants n) (λ s. ends (n ∷ s))
 along axis.AncestorOrSelf t n = and_then (ancestor_nodes n) (λ s. ends (n ∷ s))
+
+-- the positions that pass the test, of those that looking along the axis shows on a tree
+abbrev pub shown_along : Tree → Axis → NodeTest → Position → List Position
+shown_along t axis test n = filter (passes axis test) (answer t (along axis test n))

@@ -98,6 +98,34 @@ numbers_of vs = gathered (λ v. and_then (with_first v) (λ x. ends (number_in x
 abbrev pub part : List Value → Program Value
 part vs = and_then (with_first (first_of vs)) (λ x. and_then (with_first (second_of vs)) (λ y. and_then (numbers_of (drop 2 vs)) (λ zs. ends (text (part_of (text_in x) (number_in y) zs)))))
 
+-- the unary minus
+abbrev pub negated : Value → Program Value
+negated a = in_number (λ x. values.number (minus zero_number x)) a
+
+-- `sum`, of the numbers in the string-values of a node set
+abbrev pub summed : Value → Program Value
+summed a = and_then (string_values (nodes_in a)) (λ ss. ends (values.number (added_up zero_number ss)))
+
+-- `concat`
+abbrev pub concatenated : List Value → Program Value
+concatenated vs = and_then (texts_of vs) (λ ss. ends (text (joined ss)))
+
+-- `string`
+abbrev pub string_of : Value → Program Value
+string_of a = in_text text a
+
+-- `string-length`, in characters
+abbrev pub string_length_of : Value → Program Value
+string_length_of a = in_text (λ s. whole (length (chars s))) a
+
+-- `normalize-space`
+abbrev pub normalized : Value → Program Value
+normalized a = in_text (λ s. text (normal_from false s)) a
+
+-- `number`
+abbrev pub number_of : Value → Program Value
+number_of a = in_number (λ x. values.number x) a
+
 -- the operator or function on the values of all its operands
 abbrev pub applied : Op → List Value → Context → Program Value
 applied op.Or vs c = ends (flag false)
@@ -111,26 +139,26 @@ applied op.Ge vs c = compared compared_by.Ge (first_of vs) (second_of vs)
 applied op.Add vs c = in_numbers plus (first_of vs) (second_of vs)
 applied op.Sub vs c = in_numbers minus (first_of vs) (second_of vs)
 applied op.Mul vs c = in_numbers times (first_of vs) (second_of vs)
-applied op.Negate vs c = in_number (λ x. values.number (minus zero_number x)) (first_of vs)
+applied op.Negate vs c = negated (first_of vs)
 applied op.Position vs c = ends (whole c.proximity)
 applied op.Last vs c = ends (whole c.size)
 applied op.Count vs c = ends (whole (length (nodes_in (first_of vs))))
-applied op.Sum vs c = and_then (string_values (nodes_in (first_of vs))) (λ ss. ends (values.number (added_up zero_number ss)))
+applied op.Sum vs c = summed (first_of vs)
 applied op.NameOf vs c = ends (text (name_by vs c))
-applied op.StringOf vs c = in_text text (first_or_context vs c)
-applied op.Concat vs c = and_then (texts_of vs) (λ ss. ends (text (joined ss)))
+applied op.StringOf vs c = string_of (first_or_context vs c)
+applied op.Concat vs c = concatenated vs
 applied op.StartsWith vs c = in_texts (λ s p. flag (begins_with p s)) (first_of vs) (second_of vs)
 applied op.Contains vs c = in_texts (λ s p. flag (contains_text s p)) (first_of vs) (second_of vs)
 applied op.SubstringBefore vs c = in_texts (λ s p. text (before_part (cut_at p s))) (first_of vs) (second_of vs)
 applied op.SubstringAfter vs c = in_texts (λ s p. text (behind_part (cut_at p s))) (first_of vs) (second_of vs)
 applied op.Substring vs c = part vs
-applied op.StringLength vs c = in_text (λ s. whole (length (chars s))) (first_or_context vs c)
-applied op.NormalizeSpace vs c = in_text (λ s. text (normal_from false s)) (first_or_context vs c)
+applied op.StringLength vs c = string_length_of (first_or_context vs c)
+applied op.NormalizeSpace vs c = normalized (first_or_context vs c)
 applied op.BooleanOf vs c = ends (flag (truth (first_of vs)))
 applied op.Not vs c = ends (flag (not (truth (first_of vs))))
 applied op.TrueOf vs c = ends (flag true)
 applied op.FalseOf vs c = ends (flag false)
-applied op.NumberOf vs c = in_number (λ x. values.number x) (first_or_context vs c)
+applied op.NumberOf vs c = number_of (first_or_context vs c)
 
 -- ---- predicates
 

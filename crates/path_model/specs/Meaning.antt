@@ -87,3 +87,7 @@ abbrev mutual
 -- the set that a path means from a position
 abbrev pub found_from : Tree → Bool → Steps → Position → List Position
 found_from t is_absolute ss n = reached t ss (begun t is_absolute n)
+
+-- this holds of each tree, path and position from which it is taken
+abbrev pub OfEachPath : (Tree → Bool → Steps → Position → Type 0) → Type 0
+OfEachPath holds = (t : Tree) (is_absolute : Bool) (ss : Steps) (n : Position) → holds t is_absolute ss n

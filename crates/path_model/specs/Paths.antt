@@ -21,6 +21,10 @@ mutual
     no_steps : Steps
     step : Axis → NodeTest → Exprs → Steps → Steps
 
+-- a step without predicates, and none behind it
+abbrev pub bare_step : Axis → NodeTest → Steps
+bare_step axis test = step axis test no_more no_steps
+
 -- a path by itself
 pub record Path : Type 0 where
   pub is_absolute : Bool

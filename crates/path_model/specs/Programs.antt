@@ -52,6 +52,10 @@ pub data Program (A : Type 0) : Type 0 where
   ends : A → Program A
   looks : Look → (List Position → Program A) → Program A
 
+-- a program of one look, and what it answers of what is seen
+abbrev pub by_look : {A : Type 0} → Look → (List Position → A) → Program A
+by_look o shows = looks o (λ s. ends (shows s))
+
 -- one program, and then one by its answer
 abbrev pub and_then : {A B : Type 0} → Program A → (A → Program B) → Program B
 and_then (ends a) f = f a
