@@ -1,13 +1,14 @@
 //! The axes (XPath 1.0, section 2.2): which positions lie on one from a position, in its order.
-ghost use Rattle.std.specs.Prelude.{◌≡◌, ◌∷◌, [], ◌++◌, IfOk, OnOk, reverse, take};
+ghost use Rattle.std.specs.Prelude.{◌≡◌, ◌∷◌, [], ◌++◌, IfOk, OnOk, reverse};
 ghost use Rattle.std.specs.List.{filter};
 ghost use Rattle.outside_traits.specs.Faults.{HasCause};
-ghost use Rattle.path_model.specs.declared.path.Axis.TheVariants as kinds;
+ghost use Rattle.path_model.specs.declared.path.Axis.TheVariants.{Child, FollowingSibling};
 ghost use Rattle.path_model.specs.Positions as path;
 ghost use Rattle.path_model.specs.AxisPrograms as program;
-ghost use Rattle.path_model.specs.Programs.{ends, and_then};
 ghost use Rattle.xpath_axes.specs.Positions.{plain, all_plain};
 ghost use Rattle.xpath_axes.specs.Runs.{Runs};
+ghost use Rattle.xpath_axes.specs.Steps.{matches_along, step_up_to};
+ghost use Rattle.xpath_axes.specs.inside.Behind.{put_behind};
 ghost use Rattle.xpath_axes.specs.inside.Beside.{is_on, in_turn, labels_above, lies_on};
 
 use crate::labels::{document_label, labels_up, lies_left, lies_right, lies_under, parent_label};
@@ -33,7 +34,7 @@ pub fn axis<S: NodeRead, W: Looks>(
     looks: &mut W,
 ) -> Result<List<Position>, SeqError>
     ensures run { Runs S.reads W.saw S.contents
-        (and_then (program.along axis test.now (plain from.now)) (λ s. ends (filter (path.passes axis test.now) s))) all_plain
+        (matches_along axis test.now (plain from.now)) all_plain
         seq.old looks.old result seq.new looks.new }
     ensures unchanged { S.unchanged seq.old seq.new }
     ensures cause { HasCause SeqError.DiskFault (S.count seq.old) (S.count seq.new) result }
@@ -54,7 +55,7 @@ pub fn axis_up_to<S: NodeRead, W: Looks>(
     looks: &mut W,
 ) -> Result<List<Position>, SeqError>
     ensures run { Runs S.reads W.saw S.contents
-        (and_then (program.along of test.now (plain from.now)) (λ s. ends (take room (filter (path.passes of test.now) s)))) all_plain
+        (step_up_to of test.now room (plain from.now)) all_plain
         seq.old looks.old result seq.new looks.new }
     ensures unchanged { S.unchanged seq.old seq.new }
     ensures cause { HasCause SeqError.DiskFault (S.count seq.old) (S.count seq.new) result }
@@ -80,7 +81,7 @@ fn children_up_to<S: NodeRead, W: Looks>(
     looks: &mut W,
 ) -> Result<List<Position>, SeqError>
     ensures run { Runs S.reads W.saw S.contents
-        (and_then (program.children (plain from.now)) (λ s. ends (take room (filter (path.passes kinds.Child test.now) s)))) all_plain
+        (step_up_to Child test.now room (plain from.now)) all_plain
         seq.old looks.old result seq.new looks.new }
     ensures unchanged { S.unchanged seq.old seq.new }
     ensures cause { HasCause SeqError.DiskFault (S.count seq.old) (S.count seq.new) result }
@@ -101,8 +102,8 @@ fn next_siblings_up_to<S: NodeRead, W: Looks>(
     looks: &mut W,
 ) -> Result<List<Position>, SeqError>
     ensures run { Runs S.reads W.saw S.contents
-        (and_then (program.siblings (λ s. filter (program.on_right (path.label_of (plain from.now))) s) (plain from.now))
-        (λ s. ends (take room (filter (path.passes kinds.FollowingSibling test.now) s)))) all_plain seq.old looks.old result seq.new looks.new }
+        (step_up_to FollowingSibling test.now room (plain from.now)) all_plain
+        seq.old looks.old result seq.new looks.new }
     ensures unchanged { S.unchanged seq.old seq.new }
     ensures cause { HasCause SeqError.DiskFault (S.count seq.old) (S.count seq.new) result }
 {
@@ -193,7 +194,8 @@ fn descendants<S: NodeRead, W: Looks>(
     looks: &mut W,
 ) -> Result<List<Position>, SeqError>
     ensures run { Runs S.reads W.saw S.contents
-        (and_then (program.descendants (plain from.now)) (λ s. ends (all_plain before ++ s))) all_plain seq.old looks.old result seq.new looks.new }
+        (put_behind before (program.descendants (plain from.now))) all_plain
+        seq.old looks.old result seq.new looks.new }
     ensures unchanged { S.unchanged seq.old seq.new }
     ensures cause { HasCause SeqError.DiskFault (S.count seq.old) (S.count seq.new) result }
 {
@@ -235,7 +237,8 @@ fn ancestors<S: NodeRead, W: Looks>(
     looks: &mut W,
 ) -> Result<List<Position>, SeqError>
     ensures run { Runs S.reads W.saw S.contents
-        (and_then (program.ancestor_nodes (plain from.now)) (λ s. ends (all_plain before ++ s))) all_plain seq.old looks.old result seq.new looks.new }
+        (put_behind before (program.ancestor_nodes (plain from.now))) all_plain
+        seq.old looks.old result seq.new looks.new }
     ensures unchanged { S.unchanged seq.old seq.new }
     ensures cause { HasCause SeqError.DiskFault (S.count seq.old) (S.count seq.new) result }
 {
@@ -266,7 +269,8 @@ fn nodes_at<S: NodeRead, W: Looks>(
     looks: &mut W,
 ) -> Result<List<Position>, SeqError>
     ensures run { Runs S.reads W.saw S.contents
-        (and_then (program.nodes_at labels.now) (λ s. ends (all_plain before ++ s))) all_plain seq.old looks.old result seq.new looks.new }
+        (put_behind before (program.nodes_at labels.now)) all_plain
+        seq.old looks.old result seq.new looks.new }
     ensures unchanged { S.unchanged seq.old seq.new }
     ensures cause { HasCause SeqError.DiskFault (S.count seq.old) (S.count seq.new) result }
 {
@@ -304,7 +308,7 @@ fn next_siblings<S: NodeRead, W: Looks>(
     looks: &mut W,
 ) -> Result<List<Position>, SeqError>
     ensures run { Runs S.reads W.saw S.contents
-        (program.siblings (λ s. filter (program.on_right (path.label_of (plain from.now))) s) (plain from.now)) all_plain
+        (program.following_siblings (plain from.now)) all_plain
         seq.old looks.old result seq.new looks.new }
     ensures unchanged { S.unchanged seq.old seq.new }
     ensures cause { HasCause SeqError.DiskFault (S.count seq.old) (S.count seq.new) result }
@@ -325,7 +329,7 @@ fn previous_siblings<S: NodeRead, W: Looks>(
     looks: &mut W,
 ) -> Result<List<Position>, SeqError>
     ensures run { Runs S.reads W.saw S.contents
-        (program.siblings (λ s. reverse (filter (program.on_left (path.label_of (plain from.now))) s)) (plain from.now)) all_plain
+        (program.preceding_siblings (plain from.now)) all_plain
         seq.old looks.old result seq.new looks.new }
     ensures unchanged { S.unchanged seq.old seq.new }
     ensures cause { HasCause SeqError.DiskFault (S.count seq.old) (S.count seq.new) result }

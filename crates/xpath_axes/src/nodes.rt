@@ -1,18 +1,17 @@
 //! The looks at nodes: one, its children, and all from it down.
-ghost use Rattle.std.specs.Prelude.{◌≡◌, ◌≤◌, ◌+◌, ◌∷◌, [], ◌++◌, false, length, take, IfOk, OnOk, None};
+ghost use Rattle.std.specs.Prelude.{◌≡◌, ◌≤◌, ◌+◌, ◌∷◌, [], ◌++◌, false, length, IfOk, OnOk, None};
 ghost use Rattle.std.specs.List.{filter};
 ghost use Rattle.dewey_labels.specs.Labels.{parent};
 ghost use Rattle.tree_model.specs.Places.{is_root};
-ghost use Rattle.tree_model.specs.Tree.{Tree, at as node_at};
-ghost use Rattle.node_seq.specs.Trees.{OnTree, StandsFor};
+ghost use Rattle.node_seq.specs.Trees.{OnTree};
 ghost use Rattle.outside_traits.specs.Faults.{HasCause};
-ghost use Rattle.path_model.specs.declared.path.Axis.TheVariants as along;
-ghost use Rattle.path_model.specs.AxisPrograms.{on_right};
+ghost use Rattle.path_model.specs.declared.path.Axis.TheVariants.{Child, FollowingSibling};
 ghost use Rattle.path_model.specs.Positions as path;
 ghost use Rattle.path_model.specs.Programs as look;
 ghost use Rattle.xpath_axes.specs.Positions.{plain, all_plain};
-ghost use Rattle.xpath_axes.specs.LookReads.{ReadsOfLook, up_to};
-ghost use Rattle.xpath_axes.specs.inside.Walks.{behind_key, start_key, node_under, nodes_below, CanBegin};
+ghost use Rattle.xpath_axes.specs.LookReads.{ReadsEach, ReadsOfLook, ReadsUpTo, up_to};
+ghost use Rattle.xpath_axes.specs.Steps.{first_passing, next_passing, row_behind};
+ghost use Rattle.xpath_axes.specs.inside.Walks.{OnNodesMet, ReadsOnWalk, behind_key, start_key, node_under};
 
 use crate::Position;
 use crate::position::only;
@@ -71,10 +70,10 @@ pub fn at_row_up_to<S: NodeRead>(
     seq: &mut S,
 ) -> Result<List<Position>, SeqError>
     ensures seen { OnTree (S.contents seq.old) result (λ t found.
-        all_plain found ≡ take room (filter (path.passes along.Child test.now) (look.seen t (look.at_row at.now)))) }
+        all_plain found ≡ first_passing Child test.now room (look.seen t (look.at_row at.now))) }
     ensures unchanged { S.unchanged seq.old seq.new }
-    ensures reads { (t : Tree) → StandsFor (S.contents seq.old) t
-        → S.reads seq.new ≤ S.reads seq.old + (length (up_to (path.passes along.Child test.now) room (look.seen t (look.at_row at.now))) + 1) }
+    ensures reads { ReadsUpTo (S.contents seq.old) Child test.now room
+        (λ t. look.seen t (look.at_row at.now)) (S.reads seq.old) (S.reads seq.new) }
     ensures cause { HasCause SeqError.DiskFault (S.count seq.old) (S.count seq.new) result }
 {
     // The root is no node: below it lie the documents.
@@ -93,10 +92,11 @@ pub fn at_row_behind<S: NodeRead>(
     seq: &mut S,
 ) -> Result<List<Position>, SeqError>
     requires { at.now ≡ parent of.now }
-    ensures seen { OnTree (S.contents seq.old) result (λ t found. all_plain found ≡ filter (on_right of.now) (look.seen t (look.at_row at.now))) }
+    ensures seen { OnTree (S.contents seq.old) result (λ t found.
+        all_plain found ≡ row_behind t at.now of.now) }
     ensures unchanged { S.unchanged seq.old seq.new }
-    ensures reads { (t : Tree) → StandsFor (S.contents seq.old) t
-        → S.reads seq.new ≤ S.reads seq.old + (length (filter (on_right of.now) (look.seen t (look.at_row at.now))) + 1) }
+    ensures reads { ReadsEach (S.contents seq.old)
+        (λ t. row_behind t at.now of.now) (S.reads seq.old) (S.reads seq.new) }
     ensures cause { HasCause SeqError.DiskFault (S.count seq.old) (S.count seq.new) result }
 {
     let behind = List::new(alloc);
@@ -121,10 +121,10 @@ pub fn at_row_behind_up_to<S: NodeRead>(
 ) -> Result<List<Position>, SeqError>
     requires { at.now ≡ parent of.now }
     ensures seen { OnTree (S.contents seq.old) result (λ t found.
-        all_plain found ≡ take room (filter (path.passes along.FollowingSibling test.now) (filter (on_right of.now) (look.seen t (look.at_row at.now))))) }
+        all_plain found ≡ next_passing of.now test.now room (look.seen t (look.at_row at.now))) }
     ensures unchanged { S.unchanged seq.old seq.new }
-    ensures reads { (t : Tree) → StandsFor (S.contents seq.old) t → S.reads seq.new ≤ S.reads seq.old
-        + (length (up_to (path.passes along.FollowingSibling test.now) room (filter (on_right of.now) (look.seen t (look.at_row at.now)))) + 1) }
+    ensures reads { ReadsUpTo (S.contents seq.old) FollowingSibling test.now room
+        (λ t. row_behind t at.now of.now) (S.reads seq.old) (S.reads seq.new) }
     ensures cause { HasCause SeqError.DiskFault (S.count seq.old) (S.count seq.new) result }
 {
     // They tell that it is a label.
@@ -175,12 +175,12 @@ pub(crate) fn below<S: NodeRead>(
     before: List<Position>,
     seq: &mut S,
 ) -> Result<List<Position>, SeqError>
-    ensures seen { OnTree (S.contents seq.old) result (λ t found. CanBegin reach.entry at.now
-        → all_plain found ≡ all_plain before ++ nodes_below reach.entry (node_at at.now t.documents)) }
+    ensures seen { OnTree (S.contents seq.old) result (λ t found.
+        OnNodesMet reach.entry at.now t (λ met. all_plain found ≡ all_plain before ++ met)) }
     ensures unchanged { S.unchanged seq.old seq.new }
     ensures reads { IfOk result (λ found. S.reads seq.new + length before ≤ S.reads seq.old + (length found + 1)) }
-    ensures reads_of_tree { (t : Tree) → StandsFor (S.contents seq.old) t → CanBegin reach.entry at.now
-        → S.reads seq.new ≤ S.reads seq.old + (length (nodes_below reach.entry (node_at at.now t.documents)) + 1) }
+    ensures reads_of_tree { ReadsOnWalk (S.contents seq.old) reach.entry at.now
+        (λ met. met) (S.reads seq.old) (S.reads seq.new) }
     ensures cause { HasCause SeqError.DiskFault (S.count seq.old) (S.count seq.new) result }
 {
     // They tell that it is a label, and so is each one that is found.
@@ -208,11 +208,12 @@ fn below_up_to<S: NodeRead>(
     room: usize,
     seq: &mut S,
 ) -> Result<List<Position>, SeqError>
-    ensures seen { OnTree (S.contents seq.old) result (λ t found. CanBegin reach.entry at.now
-        → all_plain found ≡ take room (filter (path.passes axis test.now) (nodes_below reach.entry (node_at at.now t.documents)))) }
+    ensures seen { OnTree (S.contents seq.old) result (λ t found.
+        OnNodesMet reach.entry at.now t (λ met.
+        all_plain found ≡ first_passing axis test.now room met)) }
     ensures unchanged { S.unchanged seq.old seq.new }
-    ensures reads { (t : Tree) → StandsFor (S.contents seq.old) t → CanBegin reach.entry at.now → S.reads seq.new ≤ S.reads seq.old
-        + (length (up_to (path.passes axis test.now) room (nodes_below reach.entry (node_at at.now t.documents))) + 1) }
+    ensures reads { ReadsOnWalk (S.contents seq.old) reach.entry at.now
+        (λ met. up_to (path.passes axis test.now) room met) (S.reads seq.old) (S.reads seq.new) }
     ensures cause { HasCause SeqError.DiskFault (S.count seq.old) (S.count seq.new) result }
 {
     let mut found = List::new(alloc);

@@ -1,15 +1,15 @@
 //! The looks at a map, each noted before it is made.
-ghost use Rattle.std.specs.Prelude.{◌≡◌, ◌++◌, drop, take};
+ghost use Rattle.std.specs.Prelude.{◌≡◌, drop};
 ghost use Rattle.std.specs.List.{filter};
 ghost use Rattle.dewey_labels.specs.Labels.{parent};
 ghost use Rattle.outside_traits.specs.Faults.{HasCause};
-ghost use Rattle.path_model.specs.declared.path.Axis.TheVariants as along;
+ghost use Rattle.path_model.specs.declared.path.Axis.TheVariants.{Child};
 ghost use Rattle.path_model.specs.AxisPrograms.{on_right};
-ghost use Rattle.path_model.specs.Positions as path;
-ghost use Rattle.path_model.specs.Programs.{ends, looks as then_looks};
-ghost use Rattle.path_model.specs.Programs as look;
+ghost use Rattle.path_model.specs.Programs.{at_attribute, at_attributes, at_node, at_row, at_tree, by_look, ends, looks as then_looks};
 ghost use Rattle.xpath_axes.specs.Positions.{all_plain};
 ghost use Rattle.xpath_axes.specs.Runs.{Runs};
+ghost use Rattle.xpath_axes.specs.Steps.{first_passing, next_passing};
+ghost use Rattle.xpath_axes.specs.inside.Behind.{put_behind};
 
 use crate::nodes::{Reach, below, is_root};
 use crate::{
@@ -28,7 +28,8 @@ pub fn see_node<S: NodeRead, W: Looks>(
     seq: &mut S,
     looks: &mut W,
 ) -> Result<List<Position>, SeqError>
-    ensures run { Runs S.reads W.saw S.contents (then_looks (look.at_node at.now) ends) all_plain seq.old looks.old result seq.new looks.new }
+    ensures run { Runs S.reads W.saw S.contents (then_looks (at_node at.now) ends) all_plain
+        seq.old looks.old result seq.new looks.new }
     ensures unchanged { S.unchanged seq.old seq.new }
     ensures cause { HasCause SeqError.DiskFault (S.count seq.old) (S.count seq.new) result }
 {
@@ -43,7 +44,8 @@ pub fn see_row<S: NodeRead, W: Looks>(
     seq: &mut S,
     looks: &mut W,
 ) -> Result<List<Position>, SeqError>
-    ensures run { Runs S.reads W.saw S.contents (then_looks (look.at_row at.now) ends) all_plain seq.old looks.old result seq.new looks.new }
+    ensures run { Runs S.reads W.saw S.contents (then_looks (at_row at.now) ends) all_plain
+        seq.old looks.old result seq.new looks.new }
     ensures unchanged { S.unchanged seq.old seq.new }
     ensures cause { HasCause SeqError.DiskFault (S.count seq.old) (S.count seq.new) result }
 {
@@ -62,7 +64,7 @@ pub(crate) fn see_row_up_to<S: NodeRead, W: Looks>(
     looks: &mut W,
 ) -> Result<List<Position>, SeqError>
     ensures run { Runs S.reads W.saw S.contents
-        (then_looks (look.at_row at.now) (λ s. ends (take room (filter (path.passes along.Child test.now) s)))) all_plain
+        (by_look (at_row at.now) (first_passing Child test.now room)) all_plain
         seq.old looks.old result seq.new looks.new }
     ensures unchanged { S.unchanged seq.old seq.new }
     ensures cause { HasCause SeqError.DiskFault (S.count seq.old) (S.count seq.new) result }
@@ -80,7 +82,8 @@ pub(crate) fn see_row_behind<S: NodeRead, W: Looks>(
     looks: &mut W,
 ) -> Result<List<Position>, SeqError>
     requires { at.now ≡ parent of.now }
-    ensures run { Runs S.reads W.saw S.contents (then_looks (look.at_row at.now) (λ s. ends (filter (on_right of.now) s))) all_plain
+    ensures run { Runs S.reads W.saw S.contents
+        (by_look (at_row at.now) (filter (on_right of.now))) all_plain
         seq.old looks.old result seq.new looks.new }
     ensures unchanged { S.unchanged seq.old seq.new }
     ensures cause { HasCause SeqError.DiskFault (S.count seq.old) (S.count seq.new) result }
@@ -102,7 +105,7 @@ pub(crate) fn see_row_behind_up_to<S: NodeRead, W: Looks>(
 ) -> Result<List<Position>, SeqError>
     requires { at.now ≡ parent of.now }
     ensures run { Runs S.reads W.saw S.contents
-        (then_looks (look.at_row at.now) (λ s. ends (take room (filter (path.passes along.FollowingSibling test.now) (filter (on_right of.now) s))))) all_plain
+        (by_look (at_row at.now) (next_passing of.now test.now room)) all_plain
         seq.old looks.old result seq.new looks.new }
     ensures unchanged { S.unchanged seq.old seq.new }
     ensures cause { HasCause SeqError.DiskFault (S.count seq.old) (S.count seq.new) result }
@@ -118,7 +121,8 @@ pub fn see_tree<S: NodeRead, W: Looks>(
     seq: &mut S,
     looks: &mut W,
 ) -> Result<List<Position>, SeqError>
-    ensures run { Runs S.reads W.saw S.contents (then_looks (look.at_tree at.now) ends) all_plain seq.old looks.old result seq.new looks.new }
+    ensures run { Runs S.reads W.saw S.contents (then_looks (at_tree at.now) ends) all_plain
+        seq.old looks.old result seq.new looks.new }
     ensures unchanged { S.unchanged seq.old seq.new }
     ensures cause { HasCause SeqError.DiskFault (S.count seq.old) (S.count seq.new) result }
 {
@@ -134,7 +138,8 @@ pub(crate) fn see_below<S: NodeRead, W: Looks>(
     seq: &mut S,
     looks: &mut W,
 ) -> Result<List<Position>, SeqError>
-    ensures run { Runs S.reads W.saw S.contents (then_looks (look.at_tree at.now) (λ s. ends (all_plain before ++ drop 1 s))) all_plain
+    ensures run { Runs S.reads W.saw S.contents
+        (put_behind before (by_look (at_tree at.now) (drop 1))) all_plain
         seq.old looks.old result seq.new looks.new }
     ensures unchanged { S.unchanged seq.old seq.new }
     ensures cause { HasCause SeqError.DiskFault (S.count seq.old) (S.count seq.new) result }
@@ -154,7 +159,8 @@ pub(crate) fn see_attributes<S: NodeRead, W: Looks>(
     seq: &mut S,
     looks: &mut W,
 ) -> Result<List<Position>, SeqError>
-    ensures run { Runs S.reads W.saw S.contents (then_looks (look.at_attributes at.now) ends) all_plain seq.old looks.old result seq.new looks.new }
+    ensures run { Runs S.reads W.saw S.contents (then_looks (at_attributes at.now) ends) all_plain
+        seq.old looks.old result seq.new looks.new }
     ensures unchanged { S.unchanged seq.old seq.new }
     ensures cause { HasCause SeqError.DiskFault (S.count seq.old) (S.count seq.new) result }
 {
@@ -170,7 +176,9 @@ pub(crate) fn see_attribute<S: NodeRead, W: Looks>(
     seq: &mut S,
     looks: &mut W,
 ) -> Result<List<Position>, SeqError>
-    ensures run { Runs S.reads W.saw S.contents (then_looks (look.at_attribute at.now name.now) ends) all_plain seq.old looks.old result seq.new looks.new }
+    ensures run { Runs S.reads W.saw S.contents
+        (then_looks (at_attribute at.now name.now) ends) all_plain
+        seq.old looks.old result seq.new looks.new }
     ensures unchanged { S.unchanged seq.old seq.new }
     ensures cause { HasCause SeqError.DiskFault (S.count seq.old) (S.count seq.new) result }
 {

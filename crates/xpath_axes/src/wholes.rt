@@ -3,13 +3,13 @@ ghost use Rattle.std.specs.Prelude.{◌≡◌, ◌&&◌, ◌∷◌, [], ◌++◌
 ghost use Rattle.std.specs.List.{filter};
 ghost use Rattle.dewey_labels.specs.Labels as label;
 ghost use Rattle.tree_model.specs.Tree.{Tree};
-ghost use Rattle.tree_model.specs.ValidTrees.{IsValidTree};
-ghost use Rattle.path_model.specs.declared.path.Axis.TheVariants as along;
+ghost use Rattle.path_model.specs.declared.path.Axis.TheVariants.{Child};
 ghost use Rattle.path_model.specs.AxisPrograms as program;
+ghost use Rattle.path_model.specs.AxisPrograms.{shown_along};
 ghost use Rattle.path_model.specs.Positions as path;
-ghost use Rattle.path_model.specs.Programs.{answer, looked};
+ghost use Rattle.path_model.specs.Programs.{looked};
 ghost use Rattle.xpath_axes.specs.Positions.{plain, all_plain};
-ghost use Rattle.xpath_axes.specs.Wholes.{StandsBefore};
+ghost use Rattle.xpath_axes.specs.Wholes.{OnWhole};
 ghost use Rattle.xpath_axes.specs.inside.Ahead.{children_ahead};
 
 use crate::{Look, Looks, Position};
@@ -26,8 +26,8 @@ pub fn row_ahead<W: Looks>(
     ahead: &[Position],
     looks: &mut W,
 ) -> Result<List<Position>, NoMemory>
-    ensures children { (t : Tree) → IsValidTree t → StandsBefore t (plain node.now) (all_plain ahead.now)
-        → IfOk result (λ found. all_plain found ≡ filter (path.passes along.Child test.now) (answer t (program.children (plain node.now)))) }
+    ensures children { OnWhole node.now ahead.now (λ t.
+        IfOk result (λ found. all_plain found ≡ shown_along t Child test.now (plain node.now))) }
     ensures noted { (t : Tree) → OnOk result (W.saw looks.old (looked t (program.children (plain node.now))) looks.new) }
 {
     let Position::Node(label, _) = node else {
@@ -44,7 +44,8 @@ fn children_ahead(
     test: &NodeTest,
     ahead: &[Position],
 ) -> Result<List<Position>, NoMemory>
-    ensures { IfOk result (λ found. all_plain found ≡ filter (path.passes along.Child test.now) (children_ahead of.now (all_plain ahead.now))) }
+    ensures { IfOk result (λ found. all_plain found
+        ≡ filter (path.passes Child test.now) (children_ahead of.now (all_plain ahead.now))) }
 {
     let mut found = List::new(alloc);
     for position in ahead {

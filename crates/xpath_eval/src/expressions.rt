@@ -1,5 +1,5 @@
 //! Expressions, predicates and steps (XPath 1.0, sections 2 and 3): nothing recurses along a chain, a list of steps or of operands.
-ghost use Rattle.std.specs.Prelude.{◌≡◌, ◌∷◌, [], ◌++◌, length, IfOk, IsTrue};
+ghost use Rattle.std.specs.Prelude.{◌≡◌, ◌∷◌, [], ◌++◌, IfOk, IsTrue};
 ghost use Rattle.outside_traits.specs.Faults.{HasCause};
 ghost use Rattle.path_model.specs.declared.path.Axis.TheVariants as along;
 ghost use Rattle.path_model.specs.declared.path.Step.{out-Step};
@@ -13,8 +13,8 @@ ghost use Rattle.xpath_axes.specs.Positions.{plain, all_plain};
 ghost use Rattle.xpath_axes.specs.Runs.{Runs};
 ghost use Rattle.xpath_eval.specs.Values.{meant, all_meant};
 ghost use Rattle.xpath_eval.specs.inside.Chains.{both, chain_of, is_decided, linked};
-ghost use Rattle.xpath_eval.specs.inside.Contexts.{stands};
-ghost use Rattle.xpath_eval.specs.inside.Steps.{from_node, IsWholeIn, LeadsDown};
+ghost use Rattle.xpath_eval.specs.inside.Contexts.{RunsIn};
+ghost use Rattle.xpath_eval.specs.inside.Steps.{from_node, kept_where, IsWholeIn, LeadsDown};
 
 use crate::context::Context;
 use crate::operations::applied;
@@ -38,7 +38,8 @@ fn value<S: NodeRead, W: Looks>(
     seq: &mut S,
     looks: &mut W,
 ) -> Result<XValue, SeqError>
-    ensures run { Runs S.reads W.saw S.contents (program.value (paths.plain expr.now) (stands context.now)) meant seq.old looks.old result seq.new looks.new }
+    ensures run { RunsIn S.reads W.saw S.contents context.now
+        (program.value (paths.plain expr.now)) meant seq.old looks.old result seq.new looks.new }
     ensures unchanged { S.unchanged seq.old seq.new }
     ensures cause { HasCause SeqError.DiskFault (S.count seq.old) (S.count seq.new) result }
 {
@@ -71,7 +72,8 @@ fn chain<S: NodeRead, W: Looks>(
     seq: &mut S,
     looks: &mut W,
 ) -> Result<XValue, SeqError>
-    ensures run { Runs S.reads W.saw S.contents (chain_of operands.now operators.now (stands context.now)) meant seq.old looks.old result seq.new looks.new }
+    ensures run { RunsIn S.reads W.saw S.contents context.now
+        (chain_of operands.now operators.now) meant seq.old looks.old result seq.new looks.new }
     ensures unchanged { S.unchanged seq.old seq.new }
     ensures cause { HasCause SeqError.DiskFault (S.count seq.old) (S.count seq.new) result }
 {
@@ -99,8 +101,9 @@ fn link<S: NodeRead, W: Looks>(
     seq: &mut S,
     looks: &mut W,
 ) -> Result<XValue, SeqError>
-    ensures run { Runs S.reads W.saw S.contents
-        (linked op (meant left) (paths.plain operand.now) (stands context.now)) meant seq.old looks.old result seq.new looks.new }
+    ensures run { RunsIn S.reads W.saw S.contents context.now
+        (linked op (meant left) (paths.plain operand.now)) meant
+        seq.old looks.old result seq.new looks.new }
     ensures unchanged { S.unchanged seq.old seq.new }
     ensures cause { HasCause SeqError.DiskFault (S.count seq.old) (S.count seq.new) result }
 {
@@ -121,8 +124,9 @@ fn apply<S: NodeRead, W: Looks>(
     seq: &mut S,
     looks: &mut W,
 ) -> Result<XValue, SeqError>
-    ensures run { Runs S.reads W.saw S.contents
-        (program.value (apply op (plain_row operands.now)) (stands context.now)) meant seq.old looks.old result seq.new looks.new }
+    ensures run { RunsIn S.reads W.saw S.contents context.now
+        (program.value (apply op (plain_row operands.now))) meant
+        seq.old looks.old result seq.new looks.new }
     ensures unchanged { S.unchanged seq.old seq.new }
     ensures cause { HasCause SeqError.DiskFault (S.count seq.old) (S.count seq.new) result }
 {
@@ -146,8 +150,9 @@ fn settled<S: NodeRead, W: Looks>(
     seq: &mut S,
     looks: &mut W,
 ) -> Result<XValue, SeqError>
-    ensures run { Runs S.reads W.saw S.contents
-        (program.settled by (plain_row operands.now) (stands context.now)) meant seq.old looks.old result seq.new looks.new }
+    ensures run { RunsIn S.reads W.saw S.contents context.now
+        (program.settled by (plain_row operands.now)) meant
+        seq.old looks.old result seq.new looks.new }
     ensures unchanged { S.unchanged seq.old seq.new }
     ensures cause { HasCause SeqError.DiskFault (S.count seq.old) (S.count seq.new) result }
 {
@@ -169,8 +174,9 @@ fn values_of<S: NodeRead, W: Looks>(
     seq: &mut S,
     looks: &mut W,
 ) -> Result<List<XValue>, SeqError>
-    ensures run { Runs S.reads W.saw S.contents
-        (program.operands (plain_row operands.now) (stands context.now)) all_meant seq.old looks.old result seq.new looks.new }
+    ensures run { RunsIn S.reads W.saw S.contents context.now
+        (program.operands (plain_row operands.now)) all_meant
+        seq.old looks.old result seq.new looks.new }
     ensures unchanged { S.unchanged seq.old seq.new }
     ensures cause { HasCause SeqError.DiskFault (S.count seq.old) (S.count seq.new) result }
 {
@@ -326,8 +332,8 @@ fn kept<S: NodeRead, W: Looks>(
     looks: &mut W,
 ) -> Result<List<Position>, SeqError>
     ensures run { Runs S.reads W.saw S.contents
-        (program.kept_by (λ c. program.value (paths.plain test.now) c) (length (all_plain nodes)) 1
-        (all_plain nodes)) all_plain seq.old looks.old result seq.new looks.new }
+        (kept_where test.now (all_plain nodes)) all_plain
+        seq.old looks.old result seq.new looks.new }
     ensures unchanged { S.unchanged seq.old seq.new }
     ensures cause { HasCause SeqError.DiskFault (S.count seq.old) (S.count seq.new) result }
 {
@@ -347,8 +353,8 @@ fn kept_one_by_one<S: NodeRead, W: Looks>(
     looks: &mut W,
 ) -> Result<List<Position>, SeqError>
     ensures run { Runs S.reads W.saw S.contents
-        (program.kept_by (λ c. program.value (paths.plain test.now) c) (length (all_plain nodes)) 1
-        (all_plain nodes)) all_plain seq.old looks.old result seq.new looks.new }
+        (kept_where test.now (all_plain nodes)) all_plain
+        seq.old looks.old result seq.new looks.new }
     ensures unchanged { S.unchanged seq.old seq.new }
     ensures cause { HasCause SeqError.DiskFault (S.count seq.old) (S.count seq.new) result }
 {
@@ -378,7 +384,8 @@ fn both<S: NodeRead, W: Looks>(
     seq: &mut S,
     looks: &mut W,
 ) -> Result<XValue, SeqError>
-    ensures run { Runs S.reads W.saw S.contents (both op (meant left) (meant right) (stands context.now)) meant seq.old looks.old result seq.new looks.new }
+    ensures run { RunsIn S.reads W.saw S.contents context.now
+        (both op (meant left) (meant right)) meant seq.old looks.old result seq.new looks.new }
     ensures unchanged { S.unchanged seq.old seq.new }
     ensures cause { HasCause SeqError.DiskFault (S.count seq.old) (S.count seq.new) result }
 {

@@ -1,19 +1,15 @@
 //! Operators and functions on values (XPath 1.0, sections 3 and 4). Each takes the string-values that it needs once all its operands are there.
-ghost use Rattle.std.specs.Prelude.{◌≡◌, IfOk, drop, length, false, not};
-ghost use Rattle.std.specs.Str.{chars};
+ghost use Rattle.std.specs.Prelude.{◌≡◌, IfOk, drop, false};
 ghost use Rattle.outside_traits.specs.Faults.{HasCause};
 ghost use Rattle.path_model.specs.Evaluation as program;
 ghost use Rattle.path_model.specs.Functions as spec;
 ghost use Rattle.path_model.specs.Positions.{own_name};
-ghost use Rattle.path_model.specs.Numbers.{minus};
-ghost use Rattle.path_model.specs.Programs.{and_then, ends};
-ghost use Rattle.path_model.specs.Texts.{joined, normal_from};
 ghost use Rattle.path_model.specs.Values as value;
 ghost use Rattle.xpath_axes.specs.Positions.{plain, all_plain};
 ghost use Rattle.xpath_axes.specs.Runs.{Runs};
 ghost use Rattle.xpath_eval.specs.Values.{meant, all_meant};
-ghost use Rattle.xpath_eval.specs.inside.Contexts.{stands};
-ghost use Rattle.xpath_eval.specs.inside.Operations.{calculation, text_function, is_set_with_flag};
+ghost use Rattle.xpath_eval.specs.inside.Contexts.{RunsIn, stands};
+ghost use Rattle.xpath_eval.specs.inside.Operations.{by_texts, calculated, calculation, is_set_with_flag, own_operand, text_function};
 ghost use Rattle.xpath_eval.specs.inside.Texts.{as_text, as_number};
 
 use crate::context::Context;
@@ -71,7 +67,9 @@ fn compared<S: NodeRead, W: Looks>(
     seq: &mut S,
     looks: &mut W,
 ) -> Result<XValue, SeqError>
-    ensures run { Runs S.reads W.saw S.contents (program.compared by (meant left.now) (meant right.now)) (meant) seq.old looks.old result seq.new looks.new }
+    ensures run { Runs S.reads W.saw S.contents
+        (program.compared by (meant left.now) (meant right.now)) meant
+        seq.old looks.old result seq.new looks.new }
     ensures unchanged { S.unchanged seq.old seq.new }
     ensures cause { HasCause SeqError.DiskFault (S.count seq.old) (S.count seq.new) result }
 {
@@ -101,7 +99,9 @@ fn by_strings<S: NodeRead, W: Looks>(
     seq: &mut S,
     looks: &mut W,
 ) -> Result<XValue, SeqError>
-    ensures run { Runs S.reads W.saw S.contents (program.by_strings by (meant left.now) (meant right.now)) (meant) seq.old looks.old result seq.new looks.new }
+    ensures run { Runs S.reads W.saw S.contents
+        (program.by_strings by (meant left.now) (meant right.now)) meant
+        seq.old looks.old result seq.new looks.new }
     ensures unchanged { S.unchanged seq.old seq.new }
     ensures cause { HasCause SeqError.DiskFault (S.count seq.old) (S.count seq.new) result }
 {
@@ -118,8 +118,9 @@ fn calculated<S: NodeRead, W: Looks>(
     seq: &mut S,
     looks: &mut W,
 ) -> Result<XValue, SeqError>
-    ensures run { Runs S.reads W.saw S.contents (program.in_numbers (calculation by) (meant left.now) (meant right.now))
-        (meant) seq.old looks.old result seq.new looks.new }
+    ensures run { Runs S.reads W.saw S.contents
+        (calculated by (meant left.now) (meant right.now)) meant
+        seq.old looks.old result seq.new looks.new }
     ensures unchanged { S.unchanged seq.old seq.new }
     ensures cause { HasCause SeqError.DiskFault (S.count seq.old) (S.count seq.new) result }
 {
@@ -144,8 +145,8 @@ fn negated<S: NodeRead, W: Looks>(
     seq: &mut S,
     looks: &mut W,
 ) -> Result<XValue, SeqError>
-    ensures run { Runs S.reads W.saw S.contents (program.in_number (λ x. value.number (minus spec.zero_number x)) (meant of.now))
-        (meant) seq.old looks.old result seq.new looks.new }
+    ensures run { Runs S.reads W.saw S.contents
+        (program.negated (meant of.now)) meant seq.old looks.old result seq.new looks.new }
     ensures unchanged { S.unchanged seq.old seq.new }
     ensures cause { HasCause SeqError.DiskFault (S.count seq.old) (S.count seq.new) result }
 {
@@ -160,8 +161,7 @@ fn summed<S: NodeRead, W: Looks>(
     looks: &mut W,
 ) -> Result<XValue, SeqError>
     ensures run { Runs S.reads W.saw S.contents
-        (and_then (program.string_values (spec.nodes_in (meant of.now))) (λ ss. ends (value.number (spec.added_up spec.zero_number ss))))
-        (meant) seq.old looks.old result seq.new looks.new }
+        (program.summed (meant of.now)) meant seq.old looks.old result seq.new looks.new }
     ensures unchanged { S.unchanged seq.old seq.new }
     ensures cause { HasCause SeqError.DiskFault (S.count seq.old) (S.count seq.new) result }
 {
@@ -212,8 +212,9 @@ fn own_text<S: NodeRead, W: Looks>(
     seq: &mut S,
     looks: &mut W,
 ) -> Result<Text, SeqError>
-    ensures run { Runs S.reads W.saw S.contents (as_text (spec.first_or_context (all_meant operands.now) (stands context.now)))
-        (λ s. s) seq.old looks.old result seq.new looks.new }
+    ensures run { Runs S.reads W.saw S.contents
+        (as_text (own_operand operands.now context.now)) (λ s. s)
+        seq.old looks.old result seq.new looks.new }
     ensures unchanged { S.unchanged seq.old seq.new }
     ensures cause { HasCause SeqError.DiskFault (S.count seq.old) (S.count seq.new) result }
 {
@@ -231,8 +232,9 @@ fn own_number<S: NodeRead, W: Looks>(
     seq: &mut S,
     looks: &mut W,
 ) -> Result<Option<i64>, SeqError>
-    ensures run { Runs S.reads W.saw S.contents (as_number (spec.first_or_context (all_meant operands.now) (stands context.now)))
-        (λ n. n) seq.old looks.old result seq.new looks.new }
+    ensures run { Runs S.reads W.saw S.contents
+        (as_number (own_operand operands.now context.now)) (λ n. n)
+        seq.old looks.old result seq.new looks.new }
     ensures unchanged { S.unchanged seq.old seq.new }
     ensures cause { HasCause SeqError.DiskFault (S.count seq.old) (S.count seq.new) result }
 {
@@ -252,8 +254,9 @@ fn as_string<S: NodeRead, W: Looks>(
     seq: &mut S,
     looks: &mut W,
 ) -> Result<XValue, SeqError>
-    ensures run { Runs S.reads W.saw S.contents (program.in_text value.text (spec.first_or_context (all_meant operands.now) (stands context.now)))
-        (meant) seq.old looks.old result seq.new looks.new }
+    ensures run { Runs S.reads W.saw S.contents
+        (program.string_of (own_operand operands.now context.now)) meant
+        seq.old looks.old result seq.new looks.new }
     ensures unchanged { S.unchanged seq.old seq.new }
     ensures cause { HasCause SeqError.DiskFault (S.count seq.old) (S.count seq.new) result }
 {
@@ -269,8 +272,8 @@ fn counted_characters<S: NodeRead, W: Looks>(
     looks: &mut W,
 ) -> Result<XValue, SeqError>
     ensures run { Runs S.reads W.saw S.contents
-        (program.in_text (λ s. spec.whole (length (chars s))) (spec.first_or_context (all_meant operands.now) (stands context.now)))
-        (meant) seq.old looks.old result seq.new looks.new }
+        (program.string_length_of (own_operand operands.now context.now)) meant
+        seq.old looks.old result seq.new looks.new }
     ensures unchanged { S.unchanged seq.old seq.new }
     ensures cause { HasCause SeqError.DiskFault (S.count seq.old) (S.count seq.new) result }
 {
@@ -286,8 +289,8 @@ fn normalized<S: NodeRead, W: Looks>(
     looks: &mut W,
 ) -> Result<XValue, SeqError>
     ensures run { Runs S.reads W.saw S.contents
-        (program.in_text (λ s. value.text (normal_from false s)) (spec.first_or_context (all_meant operands.now) (stands context.now)))
-        (meant) seq.old looks.old result seq.new looks.new }
+        (program.normalized (own_operand operands.now context.now)) meant
+        seq.old looks.old result seq.new looks.new }
     ensures unchanged { S.unchanged seq.old seq.new }
     ensures cause { HasCause SeqError.DiskFault (S.count seq.old) (S.count seq.new) result }
 {
@@ -303,8 +306,8 @@ fn as_number<S: NodeRead, W: Looks>(
     looks: &mut W,
 ) -> Result<XValue, SeqError>
     ensures run { Runs S.reads W.saw S.contents
-        (program.in_number (λ x. value.number x) (spec.first_or_context (all_meant operands.now) (stands context.now)))
-        (meant) seq.old looks.old result seq.new looks.new }
+        (program.number_of (own_operand operands.now context.now)) meant
+        seq.old looks.old result seq.new looks.new }
     ensures unchanged { S.unchanged seq.old seq.new }
     ensures cause { HasCause SeqError.DiskFault (S.count seq.old) (S.count seq.new) result }
 {
@@ -318,8 +321,9 @@ fn joined<S: NodeRead, W: Looks>(
     seq: &mut S,
     looks: &mut W,
 ) -> Result<XValue, SeqError>
-    ensures run { Runs S.reads W.saw S.contents (and_then (program.texts_of (all_meant operands.now)) (λ ss. ends (value.text (joined ss))))
-        (meant) seq.old looks.old result seq.new looks.new }
+    ensures run { Runs S.reads W.saw S.contents
+        (program.concatenated (all_meant operands.now)) meant
+        seq.old looks.old result seq.new looks.new }
     ensures unchanged { S.unchanged seq.old seq.new }
     ensures cause { HasCause SeqError.DiskFault (S.count seq.old) (S.count seq.new) result }
 {
@@ -335,8 +339,9 @@ fn by_texts<S: NodeRead, W: Looks>(
     seq: &mut S,
     looks: &mut W,
 ) -> Result<XValue, SeqError>
-    ensures run { Runs S.reads W.saw S.contents (program.in_texts (text_function by) (meant left.now) (meant right.now))
-        (meant) seq.old looks.old result seq.new looks.new }
+    ensures run { Runs S.reads W.saw S.contents
+        (by_texts by (meant left.now) (meant right.now)) meant
+        seq.old looks.old result seq.new looks.new }
     ensures unchanged { S.unchanged seq.old seq.new }
     ensures cause { HasCause SeqError.DiskFault (S.count seq.old) (S.count seq.new) result }
 {
@@ -364,7 +369,8 @@ fn part<S: NodeRead, W: Looks>(
     seq: &mut S,
     looks: &mut W,
 ) -> Result<XValue, SeqError>
-    ensures run { Runs S.reads W.saw S.contents (program.part (all_meant operands.now)) (meant) seq.old looks.old result seq.new looks.new }
+    ensures run { Runs S.reads W.saw S.contents (program.part (all_meant operands.now)) meant
+        seq.old looks.old result seq.new looks.new }
     ensures unchanged { S.unchanged seq.old seq.new }
     ensures cause { HasCause SeqError.DiskFault (S.count seq.old) (S.count seq.new) result }
 {
@@ -402,8 +408,9 @@ pub(crate) fn applied<S: NodeRead, W: Looks>(
     seq: &mut S,
     looks: &mut W,
 ) -> Result<XValue, SeqError>
-    ensures run { Runs S.reads W.saw S.contents (program.applied op (all_meant operands.now) (stands context.now))
-        (meant) seq.old looks.old result seq.new looks.new }
+    ensures run { RunsIn S.reads W.saw S.contents context.now
+        (program.applied op (all_meant operands.now)) meant
+        seq.old looks.old result seq.new looks.new }
     ensures unchanged { S.unchanged seq.old seq.new }
     ensures cause { HasCause SeqError.DiskFault (S.count seq.old) (S.count seq.new) result }
 {

@@ -3,7 +3,7 @@ ghost use Rattle.std.specs.Prelude.{◌≡◌, IfOk};
 ghost use Rattle.outside_traits.specs.Faults.{HasCause};
 ghost use Rattle.path_model.specs.Evaluation as program;
 ghost use Rattle.path_model.specs.Meaning as meaning;
-ghost use Rattle.path_model.specs.Programs.{at_tree, ends, looks as looks_at};
+ghost use Rattle.path_model.specs.Programs.{at_tree, by_look};
 ghost use Rattle.xpath_axes.specs.Positions.{plain, all_plain};
 ghost use Rattle.xpath_axes.specs.Runs.{Runs};
 ghost use Rattle.xpath_values.specs.PlainValues as strings;
@@ -46,8 +46,9 @@ fn tree_text<S: NodeRead, W: Looks>(
     seq: &mut S,
     looks: &mut W,
 ) -> Result<Text, SeqError>
-    ensures run { Runs S.reads W.saw S.contents (looks_at (at_tree at.now) (λ s. ends (meaning.joined_texts s)))
-        (λ s. s) seq.old looks.old result seq.new looks.new }
+    ensures run { Runs S.reads W.saw S.contents
+        (by_look (at_tree at.now) meaning.joined_texts) (λ s. s)
+        seq.old looks.old result seq.new looks.new }
     ensures unchanged { S.unchanged seq.old seq.new }
     ensures cause { HasCause SeqError.DiskFault (S.count seq.old) (S.count seq.new) result }
 {

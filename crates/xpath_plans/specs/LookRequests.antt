@@ -8,6 +8,11 @@ use Rattle.lock_resources.specs.declared.resource.Resource.TheVariants.{Node, At
 use Rattle.lock_resources.specs.declared.request.Request.{Request}
 use Rattle.lock_resources.specs.Intentions.{with_intentions}
 use Rattle.tree_model.specs.Tree.{Tree}
+use Rattle.path_model.specs.declared.path.Axis.{Axis}
+use Rattle.path_model.specs.declared.path.NodeTest.{NodeTest}
+use Rattle.path_model.specs.Evaluation.{taken}
+use Rattle.path_model.specs.Paths.{bare_step}
+use Rattle.path_model.specs.Positions.{Position}
 use Rattle.path_model.specs.Programs.{Look, at_node, at_row, at_tree, at_attributes, at_attribute, Program, looked}
 
 -- where a look asks: at the node, at its attributes, or at one of them
@@ -34,3 +39,7 @@ requests_of (o ∷ os) = with_intentions (resource_of o) (mode_of o) ++ requests
 -- what a program asks for on a tree
 abbrev pub requests : {A : Type 0} → Tree → Program A → List Request
 requests t p = requests_of (looked t p)
+
+-- what a step without predicates on an axis asks for, from each of these positions
+abbrev pub requests_on : Tree → Axis → NodeTest → List Position → List Request
+requests_on t axis test ns = requests t (taken (bare_step axis test) ns)

@@ -1,9 +1,9 @@
 //! The laws of what paths ask for, each the contract of a function that does nothing.
-ghost use Rattle.std.specs.Prelude.{◌≡◌, ◌≢◌, ℕ, suc, true, false, take, List};
+ghost use Rattle.std.specs.Prelude.{◌≡◌, ◌≢◌, ℕ, suc, true, false, List};
 ghost use Rattle.dewey_labels.specs.Labels.{Label, IsLabel, is_label};
 ghost use Rattle.lock_resources.specs.Resources.{label_of};
 ghost use Rattle.tree_cells.specs.Cells.{Cell};
-ghost use Rattle.tree_cells.specs.Covers.{Agree, reads, writes};
+ghost use Rattle.tree_cells.specs.Covers.{reads, writes};
 ghost use Rattle.tree_cells.specs.Forms.{AreRows};
 ghost use Rattle.tree_model.specs.Tree.{Tree};
 ghost use Rattle.tree_model.specs.ValidTrees.{IsValidTree};
@@ -11,14 +11,13 @@ ghost use Rattle.call_contract.specs.Calls.{CallLaws};
 ghost use Rattle.path_model.specs.declared.path.Axis.{Axis};
 ghost use Rattle.path_model.specs.declared.path.Axis.TheVariants.{Attribute};
 ghost use Rattle.path_model.specs.declared.path.NodeTest.{NodeTest};
-ghost use Rattle.path_model.specs.Evaluation.{taken};
 ghost use Rattle.path_model.specs.Finds.{find, found_at};
-ghost use Rattle.path_model.specs.Paths.{Path, no_more, no_steps, step};
+ghost use Rattle.path_model.specs.Paths.{Path};
 ghost use Rattle.path_model.specs.Positions.{Position};
 ghost use Rattle.path_model.specs.Programs.{Look, looked, seen};
-ghost use Rattle.xpath_plans.specs.Finds.{Find, IsValidFind, find_meaning, find_requests};
+ghost use Rattle.xpath_plans.specs.Finds.{Find, IsValidFind, OnAgreement, find_meaning, find_requests, requested};
 ghost use Rattle.xpath_plans.specs.LookCells.{ShowTheSame, some_look_into};
-ghost use Rattle.xpath_plans.specs.LookRequests.{requests, requests_of, resource_of};
+ghost use Rattle.xpath_plans.specs.LookRequests.{requests_of, resource_of, requests_on};
 
 /// What a look shows is told by the cells that it reads alone, and the requests of looks cover each of these.
 /// So a path's requests cover every cell that its evaluation reads, also where it finds nothing or drops what it looked at.
@@ -35,17 +34,18 @@ pub fn looks_are_covered()
 #[tactic(auto, using(crate::proofs::StepLooks::step_asks))]
 pub fn steps_ask_whatever_they_find()
     ensures { (t : Tree) (axis : Axis) (one other : NodeTest) (ns : List Position) → axis ≢ Attribute
-        → requests t (taken (step axis one no_more no_steps) ns) ≡ requests t (taken (step axis other no_more no_steps) ns) }
+        → requests_on t axis one ns ≡ requests_on t axis other ns }
 {}
 
 /// The requests of every path are rows of the table of requests, each with its intentions before it. Trees that agree on what they cover for reading give the same answer,
 /// and trees that agree so far have the same next request. They cover no cell for writing.
 pub fn paths_keep_the_laws()
     ensures rows { (l : Label) (p : Path) (t : Tree) → IsLabel l → IsValidTree t → AreRows (find_requests l p t) }
-    ensures same_reply { (l : Label) (p : Path) (t u : Tree) → IsLabel l → IsValidTree t → IsValidTree u → Agree (find_requests l p t) t u
-        → found_at l p t ≡ found_at l p u }
-    ensures same_next { (l : Label) (p : Path) (t u : Tree) (k : ℕ) → IsLabel l → IsValidTree t → IsValidTree u → Agree (take k (find_requests l p t)) t u
-        → take (suc k) (find_requests l p t) ≡ take (suc k) (find_requests l p u) }
+    ensures same_reply { (l : Label) (p : Path) (t u : Tree)
+        → OnAgreement l (find_requests l p t) t u (found_at l p t ≡ found_at l p u) }
+    ensures same_next { (l : Label) (p : Path) (t u : Tree) (k : ℕ)
+        → OnAgreement l (requested k l p t) t u
+        (requested (suc k) l p t ≡ requested (suc k) l p u) }
     ensures writes_nothing { (l : Label) (p : Path) (t : Tree) (x : Cell) → writes (find_requests l p t) x ≡ false }
 {}
 

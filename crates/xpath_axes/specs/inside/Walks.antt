@@ -1,5 +1,5 @@
 -- Walks over the nodes below a node, and over the attributes of one: what is found, and from where the next one is sought.
-use Rattle.std.specs.Prelude.{◌≡◌, ◌&&◌, cond, ℕ, true, false, List, if◌then◌else◌, Option, Some, None}
+use Rattle.std.specs.Prelude.{◌≡◌, ◌≤◌, ◌+◌, ◌&&◌, cond, ℕ, true, false, List, length, if◌then◌else◌, Option, Some, None}
 use Rattle.std.specs.List.{filter}
 use Rattle.dewey_labels.specs.Labels.{Label, is_child}
 use Rattle.dewey_labels.specs.Lists.{is_empty}
@@ -7,10 +7,12 @@ use Rattle.dewey_labels.specs.Sides.{side, is_under}
 use Rattle.tree_model.specs.declared.key.Key.{Key}
 use Rattle.tree_model.specs.declared.record.Record.{Record}
 use Rattle.tree_model.specs.declared.record.Record.TheVariants.{Attr}
+use Rattle.tree_model.specs.Entries.{Entries}
 use Rattle.tree_model.specs.inside.Seeks.{behind_attributes, behind_tree}
 use Rattle.tree_model.specs.Places.{is_root}
-use Rattle.tree_model.specs.Tree.{Forest, below}
+use Rattle.tree_model.specs.Tree.{Forest, Tree, at, below}
 use Rattle.tree_model.specs.ValidTrees.{same_label}
+use Rattle.node_seq.specs.Trees.{StandsFor}
 use Rattle.path_model.specs.AxisPrograms.{on_right}
 use Rattle.path_model.specs.Positions.{Position}
 use Rattle.path_model.specs.Programs.{row_seen, all_seen}
@@ -30,6 +32,16 @@ abbrev pub CanBegin : Reach → Label → Type 0
 CanBegin Children l = is_root l ≡ false
 CanBegin (ChildrenBehind m) l = (is_root l ≡ false) × (is_child l m.now ≡ true)
 CanBegin Descendants l = is_root l ≡ false
+
+-- where a walk can begin, this holds of the nodes of a tree that it meets below the label
+abbrev pub OnNodesMet : Reach → Label → Tree → (List Position → Type 0) → Type 0
+OnNodesMet reach l t holds = CanBegin reach l → holds (nodes_below reach (at l t.documents))
+
+-- the count of reads rose by no more than one for each node that is read, of those that the walk meets in the tree
+-- that the known map stands for, and one, however the call ended
+abbrev pub ReadsOnWalk : Option Entries → Reach → Label → (List Position → List Position) → ℕ → ℕ → Type 0
+ReadsOnWalk contents reach l read before after =
+    (t : Tree) → StandsFor contents t → OnNodesMet reach l t (λ met. after ≤ before + (length (read met) + 1))
 
 -- from where the first of them is sought
 abbrev pub start_key : Reach → Label → Key

@@ -6,11 +6,12 @@ use Rattle.tree_model.specs.Tree.{Tree}
 use Rattle.node_seq.specs.Trees.{StandsFor}
 use Rattle.path_model.specs.declared.path.Axis.TheVariants.{DescendantOrSelf}
 use Rattle.path_model.specs.declared.path.NodeTest.TheVariants.{Node}
+use Rattle.path_model.specs.declared.path.Expr.{Expr}
 use Rattle.path_model.specs.declared.path.Step.{Step, out-Step}
 use Rattle.path_model.specs.AxisPrograms.{along}
-use Rattle.path_model.specs.Evaluation.{filtered, find_from}
+use Rattle.path_model.specs.Evaluation.{filtered, find_from, kept_by, value}
 use Rattle.path_model.specs.Paths.{Path, no_more}
-use Rattle.path_model.specs.PlainPaths.{plain_row}
+use Rattle.path_model.specs.PlainPaths.{plain, plain_row}
 use Rattle.path_model.specs.Positions.{Position, passes}
 use Rattle.path_model.specs.Programs.{Program, and_then}
 use Rattle.xpath_axes.specs.Wholes.{IsWhole}
@@ -18,6 +19,10 @@ use Rattle.xpath_axes.specs.Wholes.{IsWhole}
 -- a step from one node: what its predicates keep of its axis
 abbrev pub from_node : Step → Position → Program (List Position)
 from_node s n = and_then (along (out-Step s).axis (out-Step s).test n) (λ ms. filtered (plain_row (out-Step s).tests) (filter (passes (out-Step s).axis (out-Step s).test) ms))
+
+-- the nodes of a row that are kept where a predicate holds
+abbrev pub kept_where : Expr → List Position → Program (List Position)
+kept_where test ns = kept_by (λ c. value (plain test) c) (length ns) 1 ns
 
 -- a path from a position
 abbrev pub from_path : Path → Position → Program (List Position)
