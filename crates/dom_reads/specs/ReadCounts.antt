@@ -9,6 +9,7 @@ use Rattle.tree_model.specs.Entries.{Entries}
 use Rattle.tree_model.specs.NodeKinds.{is_element}
 use Rattle.tree_model.specs.Tree.{Tree, at, attributes_of, children_of, first_of, last_child_of}
 use Rattle.node_seq.specs.Trees.{StandsFor}
+use Rattle.dom_reads.specs.FoundNodes.{children_at}
 use Rattle.dom_reads.specs.SubtreeWalks.{subtree_of}
 
 -- how many items a reply lists
@@ -22,6 +23,10 @@ items_listed reply = 0
 abbrev pub child_reads : Option Label → ℕ
 child_reads (Some child) = 1
 child_reads None = 2
+
+-- of the children of a node that is there each one, and one read that finds no more
+abbrev pub children_reads : Label → Tree → ℕ
+children_reads l t = length (children_at l t) + 1
 
 -- of a subtree the node, and what comes behind each of its entries; where no node is, one read tells it
 abbrev pub subtree_reads : Label → Tree → ℕ

@@ -5,7 +5,8 @@ use Rattle.dewey_labels.specs.Labels.{Label}
 use Rattle.dewey_labels.specs.Sides.{side, is_in}
 use Rattle.tree_model.specs.declared.key.Key.{Key}
 use Rattle.tree_model.specs.declared.record.Record.{Record}
-use Rattle.tree_model.specs.Entries.{Entries}
+use Rattle.tree_model.specs.Entries.{Entries, entries_above}
+use Rattle.tree_model.specs.Keys.{node_key}
 use Rattle.tree_model.specs.Tree.{Forest, none, node, Tree, entries_of, at}
 use Rattle.node_seq.specs.Reads.{IsEntryOfTrees, LiesAbove}
 use Rattle.node_seq.specs.WalkSteps.{from_entry, steps_left}
@@ -32,6 +33,10 @@ abbrev pub as_long : {A : Type 0} → (A → Bool) → List A → List A
 as_long q [] = []
 as_long q (x ∷ xs) = cond (q x) (x ∷ as_long q xs) []
 
+-- the entries of a map in the subtree of a label that come behind its node's own: those of attributes, and of all that lies under it
+abbrev pub entries_under : Label → Entries → Entries
+entries_under l es = as_long (lies_in l) (entries_above (node_key l) es)
+
 -- a walk below the node with a label, and the entry that it stands before; none at its end
 pub record Stand : Type 0 where
   pub at : Label
@@ -40,6 +45,10 @@ pub record Stand : Type 0 where
 -- the entries that the walk is still to answer
 abbrev pub still_to_come : Stand → Entries → Entries
 still_to_come walk es = as_long (lies_in walk.at) (from_entry walk.next es)
+
+-- of a known map: this holds of the entries that the walk is still to answer
+abbrev pub OnWalk : Option Entries → Stand → (Entries → Type 0) → Type 0
+OnWalk contents walk P = (es : Entries) → contents ≡ Some es → P (still_to_come walk es)
 
 -- a walk has answered the entry that it stood before, and stands before the next one of its subtree
 pub record HasStepped (contents : Option Entries) (old new : Stand) (found : Option (Key × Record)) : Type 0 where
@@ -51,4 +60,4 @@ pub record HasStepped (contents : Option Entries) (old new : Stand) (found : Opt
 
 -- of a known map the count of reads rises by at most one for each entry that the walk was still to answer, however it ends
 abbrev pub WalksWithin : Option Entries → Stand → ℕ → ℕ → Type 0
-WalksWithin contents walk before after = (es : Entries) → contents ≡ Some es → after ≤ before + length (still_to_come walk es)
+WalksWithin contents walk before after = OnWalk contents walk (λ met. after ≤ before + length met)

@@ -6,3 +6,4 @@ pub mod FragmentBuilders
 pub mod Gathered
 pub mod InSubtrees
 pub mod Steps
+pub mod Substrings

@@ -1,13 +1,14 @@
 //! What a node is, and the calls that lead from node to node (DOM Level 3 Core, interface Node).
-ghost use Rattle.std.specs.Prelude.{◌≡◌, ◌≢◌, IfOk, IsTrue, Ok, Some, ◌≤◌, ◌+◌, length};
+ghost use Rattle.std.specs.Prelude.{◌≡◌, ◌≢◌, IfOk, Ok, Some, ◌≤◌, ◌+◌, length};
 ghost use Rattle.dewey_labels.specs.Labels.{Label, root};
 ghost use Rattle.tree_model.specs.declared.dom_call.DomCall.TheVariants as call;
 ghost use Rattle.tree_model.specs.declared.reply.Reply.TheVariants.{Place};
 ghost use Rattle.tree_model.specs.Navigation as navigation;
-ghost use Rattle.tree_model.specs.Tree.{Tree, at as node_at, children_of, found};
+ghost use Rattle.tree_model.specs.Tree.{Tree};
 ghost use Rattle.node_seq.specs.Trees.{OnTree, StandsFor};
 ghost use Rattle.outside_traits.specs.Faults.{HasCause};
-ghost use Rattle.dom_reads.specs.ReadCounts.{ReadsOfTree, items_listed, most_reads};
+ghost use Rattle.dom_reads.specs.FoundNodes.{HasNodeAt, children_at};
+ghost use Rattle.dom_reads.specs.ReadCounts.{ReadsOfTree, children_reads, items_listed, most_reads};
 
 use crate::kinds::is_document;
 use crate::refusals::not_found;
@@ -141,12 +142,12 @@ fn child_labels<S: NodeRead>(
     at: &Label,
     seq: &mut S,
 ) -> Result<List<Label>, SeqError>
-    ensures labels { OnTree (S.contents seq.old) result (λ t labels. IsTrue (found (node_at at.now t.documents))
-        → labels ≡ children_of (node_at at.now t.documents)) }
+    ensures labels { OnTree (S.contents seq.old) result (λ t labels. HasNodeAt at.now t
+        → labels ≡ children_at at.now t) }
     ensures unchanged { S.unchanged seq.old seq.new }
     ensures reads { IfOk result (λ labels. S.reads seq.new ≤ S.reads seq.old + (length labels + 1)) }
-    ensures reads_of_tree { (t : Tree) → StandsFor (S.contents seq.old) t → IsTrue (found (node_at at.now t.documents))
-        → S.reads seq.new ≤ S.reads seq.old + (length (children_of (node_at at.now t.documents)) + 1) }
+    ensures reads_of_tree { (t : Tree) → StandsFor (S.contents seq.old) t → HasNodeAt at.now t
+        → S.reads seq.new ≤ S.reads seq.old + children_reads at.now t }
     ensures cause { HasCause SeqError.DiskFault (S.count seq.old) (S.count seq.new) result }
 {
     let mut labels = List::new(alloc);

@@ -7,10 +7,11 @@ ghost use Rattle.dewey_labels.specs.Labels.{IsLabel, is_child, parent as parent_
 ghost use Rattle.tree_model.specs.Entries.{get};
 ghost use Rattle.tree_model.specs.Keys.{node_key};
 ghost use Rattle.tree_model.specs.Places.{attributes_at, first_in, last_in};
-ghost use Rattle.tree_model.specs.Tree.{at as node_at, beside, found, next_of, prev_of, record_of};
+ghost use Rattle.tree_model.specs.Tree.{at as node_at, beside, next_of, prev_of, record_of};
 ghost use Rattle.node_seq.specs.Reads.{Finds, IsRecordOfTrees};
 ghost use Rattle.node_seq.specs.Trees.{OnTree};
 ghost use Rattle.outside_traits.specs.Faults.{HasCause};
+ghost use Rattle.dom_reads.specs.FoundNodes.{HasNodeAt};
 ghost use Rattle.dom_reads.specs.inside.Steps.{value_of, toward_key, if_behind};
 
 use dewey_labels::{Label, NoMemory, Text};
@@ -110,7 +111,8 @@ pub fn next_sibling<S: NodeRead>(
     at: &Label,
     seq: &mut S,
 ) -> Result<Option<Label>, SeqError>
-    ensures found { OnTree (S.contents seq.old) result (λ t next. IsTrue (found (node_at at.now t.documents)) → next ≡ next_of (node_at at.now t.documents)) }
+    ensures found { OnTree (S.contents seq.old) result (λ t next. HasNodeAt at.now t
+        → next ≡ next_of (node_at at.now t.documents)) }
     ensures sibling { IfOk result (λ next. IfSome next (λ n. IsTrue (is_child (parent_of at.now) n))) }
     ensures label { IfOk result (λ next. IfSome next IsLabel) }
     ensures behind { IfOk result (λ next. IfSome next (λ n. slice_cmp nat_cmp at.now n ≡ Less)) }
@@ -133,7 +135,7 @@ pub fn previous_sibling<S: NodeRead>(
     at: &Label,
     seq: &mut S,
 ) -> Result<Option<Label>, SeqError>
-    ensures found { OnTree (S.contents seq.old) result (λ t previous. IsTrue (found (node_at at.now t.documents))
+    ensures found { OnTree (S.contents seq.old) result (λ t previous. HasNodeAt at.now t
         → previous ≡ prev_of None at.now t.documents) }
     ensures sibling { IfOk result (λ previous. IfSome previous (λ p. IsTrue (is_child (parent_of at.now) p))) }
     ensures label { IfOk result (λ previous. IfSome previous IsLabel) }

@@ -1,12 +1,12 @@
 //! Walks over a subtree in the map: the entries of a node, of its attributes and of all that lies under it, each read once.
 ghost use Rattle.std.specs.Prelude.{◌≡◌, ◌++◌, IfOk, OnErr, OnOk, Some, None, ◌≤◌, ◌+◌, length};
 ghost use Rattle.dewey_labels.specs.Sides.{is_in, side};
-ghost use Rattle.tree_model.specs.Entries.{Entries, Sorted, entries_above};
+ghost use Rattle.tree_model.specs.Entries.{Entries, Sorted};
 ghost use Rattle.tree_model.specs.Keys.{node_key};
 ghost use Rattle.node_seq.specs.Reads.{IsEntryOfTrees, LiesAbove};
 ghost use Rattle.node_seq.specs.Trees.{OnTree};
 ghost use Rattle.dom_reads.specs.ReadCounts.{ReadsOfTree, subtree_reads};
-ghost use Rattle.dom_reads.specs.SubtreeWalks.{HasStepped, WalksWithin, as_long, lies_in, still_to_come, subtree_of};
+ghost use Rattle.dom_reads.specs.SubtreeWalks.{HasStepped, OnWalk, WalksWithin, entries_under, still_to_come, subtree_of};
 ghost use Rattle.dom_reads.specs.inside.InSubtrees.{RisesTo, if_in};
 ghost use Rattle.outside_traits.specs.Faults.{HasCause};
 
@@ -44,8 +44,8 @@ impl SubtreeWalk {
         at: &Label,
         seq: &mut S,
     ) -> Result<SubtreeWalk, SeqError>
-        ensures rest { IfOk result (λ walk. (es : Entries) → S.contents seq.old ≡ Some es
-            → still_to_come walk es ≡ as_long (lies_in at.now) (entries_above (node_key at.now) es)) }
+        ensures rest { IfOk result (λ walk. (es : Entries)
+            → S.contents seq.old ≡ Some es → still_to_come walk es ≡ entries_under at.now es) }
         ensures above { IfOk result (λ walk. LiesAbove (node_key at.now) walk.next) }
         ensures valid { S.contents seq.old ≡ None → IfOk result (λ walk. IsEntryOfTrees walk.next) }
         ensures unchanged { S.unchanged seq.old seq.new }
@@ -139,7 +139,8 @@ fn gather<S: NodeRead>(
 ) -> Result<(), SeqError>
     requires valid { S.contents seq.old ≡ None → IsEntryOfTrees walk.old.next }
     requires rise { RisesTo walk.old.next entries.old }
-    ensures gathered { OnOk result ((es : Entries) → S.contents seq.old ≡ Some es → entries.new ≡ entries.old ++ still_to_come walk.old es) }
+    ensures gathered { OnOk result (OnWalk (S.contents seq.old) walk.old (λ met.
+        entries.new ≡ entries.old ++ met)) }
     ensures rise { OnOk result (Sorted entries.new) }
     ensures unchanged { S.unchanged seq.old seq.new }
     ensures reads { OnOk result (S.reads seq.new + length entries.old ≤ S.reads seq.old + length entries.new) }

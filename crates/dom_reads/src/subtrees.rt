@@ -1,15 +1,14 @@
 //! The calls that read a whole subtree (DOM Level 3 Core: `textContent` and `getElementsByTagName`), and a subtree as a fragment.
 //! Each makes one read for an entry of the subtree and one more at most; the text of a text or a document takes one.
-ghost use Rattle.std.specs.Prelude.{◌≡◌, ◌++◌, [], ◌∷◌, if◌then◌else◌, string_bytes, IfOk, OnOk, Some, None};
+ghost use Rattle.std.specs.Prelude.{◌≡◌, ◌++◌, [], ◌∷◌, if◌then◌else◌, string_bytes, IfOk, OnOk, None};
 ghost use Rattle.tree_model.specs.declared.dom_call.DomCall.TheVariants as call;
-ghost use Rattle.tree_model.specs.Entries.{Entries};
 ghost use Rattle.tree_model.specs.Navigation.{tags as tags_reply};
 ghost use Rattle.tree_model.specs.Subtrees.{dump as dump_reply};
 ghost use Rattle.tree_model.specs.Texts.{text_content as text_content_reply};
 ghost use Rattle.node_seq.specs.Reads.{IsEntryOfTrees};
 ghost use Rattle.node_seq.specs.Trees.{OnTree};
 ghost use Rattle.dom_reads.specs.ReadCounts.{ReadsOfTree, most_reads};
-ghost use Rattle.dom_reads.specs.SubtreeWalks.{WalksWithin, still_to_come};
+ghost use Rattle.dom_reads.specs.SubtreeWalks.{OnWalk, WalksWithin};
 ghost use Rattle.dom_reads.specs.inside.FragmentBuilders.{add_all, making_of};
 ghost use Rattle.dom_reads.specs.inside.Gathered.{data_of, has_tag, labels_in, texts_in};
 ghost use Rattle.outside_traits.specs.Faults.{HasCause};
@@ -52,7 +51,8 @@ fn join_texts<S: NodeRead>(
     seq: &mut S,
 ) -> Result<Text, SeqError>
     requires valid { S.contents seq.old ≡ None → IsEntryOfTrees walk.old.next }
-    ensures texts { IfOk result (λ joined. (es : Entries) → S.contents seq.old ≡ Some es → joined ≡ texts_in (still_to_come walk.old es)) }
+    ensures texts { IfOk result (λ joined.
+        OnWalk (S.contents seq.old) walk.old (λ met. joined ≡ texts_in met)) }
     ensures unchanged { S.unchanged seq.old seq.new }
     ensures reads { WalksWithin (S.contents seq.old) walk.old (S.reads seq.old) (S.reads seq.new) }
     ensures cause { HasCause SeqError.DiskFault (S.count seq.old) (S.count seq.new) result }
@@ -102,7 +102,8 @@ fn tagged<S: NodeRead>(
     seq: &mut S,
 ) -> Result<List<Label>, SeqError>
     requires valid { S.contents seq.old ≡ None → IsEntryOfTrees walk.old.next }
-    ensures labels { IfOk result (λ labels. (es : Entries) → S.contents seq.old ≡ Some es → labels ≡ labels_in name.now (still_to_come walk.old es)) }
+    ensures labels { IfOk result (λ labels.
+        OnWalk (S.contents seq.old) walk.old (λ met. labels ≡ labels_in name.now met)) }
     ensures unchanged { S.unchanged seq.old seq.new }
     ensures reads { WalksWithin (S.contents seq.old) walk.old (S.reads seq.old) (S.reads seq.new) }
     ensures cause { HasCause SeqError.DiskFault (S.count seq.old) (S.count seq.new) result }
@@ -161,8 +162,8 @@ fn add_rest<S: NodeRead>(
     seq: &mut S,
 ) -> Result<(), SeqError>
     requires valid { S.contents seq.old ≡ None → IsEntryOfTrees walk.old.next }
-    ensures added { OnOk result ((es : Entries) → S.contents seq.old ≡ Some es
-        → making_of builder.new ≡ add_all (still_to_come walk.old es) (making_of builder.old)) }
+    ensures added { OnOk result (OnWalk (S.contents seq.old) walk.old (λ met.
+        making_of builder.new ≡ add_all met (making_of builder.old))) }
     ensures unchanged { S.unchanged seq.old seq.new }
     ensures reads { WalksWithin (S.contents seq.old) walk.old (S.reads seq.old) (S.reads seq.new) }
     ensures cause { HasCause SeqError.DiskFault (S.count seq.old) (S.count seq.new) result }

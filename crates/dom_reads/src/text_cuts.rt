@@ -1,14 +1,15 @@
 //! Texts cut between characters.
-ghost use Rattle.std.specs.Prelude.{◌≡◌, ◌≤◌, false, length, take, IsTrue, MatchOption};
+ghost use Rattle.std.specs.Prelude.{◌≡◌, ◌≤◌, length, take, IsTrue, MatchOption};
 ghost use Rattle.std.specs.Str.{IsUtf8};
-ghost use Rattle.tree_model.specs.Texts.{data_before, data_from, is_past};
+ghost use Rattle.tree_model.specs.Texts.{is_past};
+ghost use Rattle.dom_reads.specs.TextCuts.{IsCutAt};
 
 use std::str;
 
 /// A text cut behind its first characters: what stands before the cut, and behind it. None where it has fewer. It looks at no character behind the cut.
 pub fn cut(text: &str, characters: u32) -> Option<(&str, &str)>
-    ensures { MatchOption result (IsTrue (is_past characters text.now)) (λ parts. (is_past characters text.now ≡ false)
-        × (parts.0.now ≡ data_before characters text.now) × (parts.1.now ≡ data_from characters text.now)) }
+    ensures { MatchOption result (IsTrue (is_past characters text.now)) (λ parts.
+        IsCutAt characters text.now parts.0.now parts.1.now) }
 {
     let mut rest = text.chars();
     let mut taken = 0;

@@ -1,13 +1,11 @@
 //! The calls on a text's characters (DOM Level 3 Core, interface CharacterData).
-ghost use Rattle.std.specs.Prelude.{◌≡◌, ◌-◌, ◌^◌, drop, encode_utf8_all, if◌then◌else◌, length as length_of, take, IfOk, ◌≤◌, ◌+◌};
+ghost use Rattle.std.specs.Prelude.{◌≡◌, ◌-◌, ◌^◌, length as length_of, IfOk, ◌≤◌, ◌+◌};
 ghost use Rattle.std.specs.Str.{chars};
-ghost use Rattle.tree_model.specs.Outcomes.{index_size_err};
 ghost use Rattle.tree_model.specs.Texts as texts;
-ghost use Rattle.tree_model.specs.declared.refusal.Refusal.TheVariants.{Dom};
-ghost use Rattle.tree_model.specs.declared.reply.Reply.TheVariants.{Chars, Refused};
 ghost use Rattle.node_seq.specs.Trees.{OnTree};
 ghost use Rattle.outside_traits.specs.Faults.{HasCause};
 ghost use Rattle.dom_reads.specs.inside.Counts.{at_most};
+ghost use Rattle.dom_reads.specs.inside.Substrings.{substring_in};
 
 use crate::record_at;
 use crate::refusals::{index_size, not_found, not_supported};
@@ -71,8 +69,7 @@ pub fn substring<S: NodeRead>(
 
 /// The characters of a text from an offset on, at most a count of them.
 fn part(alloc: Global, text: &str, offset: u32, count: u32) -> Result<Reply, NoMemory>
-    ensures { IfOk result (λ reply. reply ≡ (if texts.is_past offset text.now then Refused (Dom index_size_err) else
-        Chars (encode_utf8_all (take count (drop offset (chars text.now)))))) }
+    ensures { IfOk result (λ reply. reply ≡ substring_in offset count text.now) }
 {
     match cut(text, offset) {
         Some((_, rest)) => {
