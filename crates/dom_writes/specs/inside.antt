@@ -7,4 +7,5 @@ pub mod NewPlaces
 pub mod NormalTexts
 pub mod Outcomes
 pub mod Records
+pub mod Splits
 pub mod TextsSet

@@ -1,11 +1,9 @@
 //! The calls that change an element's attributes and its name (DOM Level 3 Core, interface Element, and `renameNode`). Each makes two reads at most.
 ghost use Rattle.std.specs.Prelude.{◌≡◌, [], OnErr, ◌≤◌, ◌+◌};
 ghost use Rattle.tree_model.specs.Attributes as attributes;
-ghost use Rattle.tree_model.specs.Changes.{differences};
-ghost use Rattle.tree_model.specs.Tree.{map_of};
 ghost use Rattle.node_seq.specs.ChangeLists.{IsChangeList};
-ghost use Rattle.node_seq.specs.Trees.{OnTree};
 ghost use Rattle.outside_traits.specs.Faults.{HasCause};
+ghost use Rattle.dom_writes.specs.Changing.{ChangesAs, RepliesAs};
 
 use crate::refusals::{invalid_character, text_limit};
 use crate::written::{add_change, change_key, is_too_long, node_at};
@@ -25,9 +23,10 @@ pub fn set_attr<S: NodeRead>(
     out: &mut Changes,
 ) -> Result<Reply, SeqError>
     requires empty { out.old ≡ [] }
-    ensures reply { OnTree (S.contents seq.old) result (λ t reply. reply ≡ (attributes.set_attr at.now name.now value.now t).0) }
-    ensures changes { OnTree (S.contents seq.old) result (λ t _.
-        out.new ≡ differences (map_of t) (map_of (attributes.set_attr at.now name.now value.now t).1)) }
+    ensures reply { RepliesAs (S.contents seq.old) result
+        (attributes.set_attr at.now name.now value.now) }
+    ensures changes { ChangesAs (S.contents seq.old) result out.new
+        (attributes.set_attr at.now name.now value.now) }
     ensures rise { IsChangeList out.new }
     ensures err { OnErr result (out.new ≡ out.old) }
     ensures unchanged { S.unchanged seq.old seq.new }
@@ -61,8 +60,9 @@ pub fn remove_attr<S: NodeRead>(
     out: &mut Changes,
 ) -> Result<Reply, SeqError>
     requires empty { out.old ≡ [] }
-    ensures reply { OnTree (S.contents seq.old) result (λ t reply. reply ≡ (attributes.remove_attr at.now name.now t).0) }
-    ensures changes { OnTree (S.contents seq.old) result (λ t _. out.new ≡ differences (map_of t) (map_of (attributes.remove_attr at.now name.now t).1)) }
+    ensures reply { RepliesAs (S.contents seq.old) result (attributes.remove_attr at.now name.now) }
+    ensures changes { ChangesAs (S.contents seq.old) result out.new
+        (attributes.remove_attr at.now name.now) }
     ensures rise { IsChangeList out.new }
     ensures err { OnErr result (out.new ≡ out.old) }
     ensures unchanged { S.unchanged seq.old seq.new }
@@ -92,8 +92,9 @@ pub fn rename<S: NodeRead>(
     out: &mut Changes,
 ) -> Result<Reply, SeqError>
     requires empty { out.old ≡ [] }
-    ensures reply { OnTree (S.contents seq.old) result (λ t reply. reply ≡ (attributes.rename at.now name.now t).0) }
-    ensures changes { OnTree (S.contents seq.old) result (λ t _. out.new ≡ differences (map_of t) (map_of (attributes.rename at.now name.now t).1)) }
+    ensures reply { RepliesAs (S.contents seq.old) result (attributes.rename at.now name.now) }
+    ensures changes { ChangesAs (S.contents seq.old) result out.new
+        (attributes.rename at.now name.now) }
     ensures rise { IsChangeList out.new }
     ensures err { OnErr result (out.new ≡ out.old) }
     ensures unchanged { S.unchanged seq.old seq.new }

@@ -2,12 +2,12 @@
 ghost use Rattle.std.specs.Prelude.{◌≡◌, ◌≤◌, [], option_map, Err, IfOk, OnErr, OnOk, None, true, false};
 ghost use Rattle.std.specs.List.{AllByRecursion};
 ghost use Rattle.dewey_labels.specs.Labels.{level};
-ghost use Rattle.tree_model.specs.Changes.{differences, put_change};
+ghost use Rattle.tree_model.specs.Changes.{put_change};
 ghost use Rattle.tree_model.specs.Graft.{all_within};
 ghost use Rattle.tree_model.specs.Keys.{node_key};
 ghost use Rattle.tree_model.specs.Limits.{deepest_level};
 ghost use Rattle.tree_model.specs.Texts as texts;
-ghost use Rattle.tree_model.specs.Tree.{at as node_at, below, entries_of, map_of};
+ghost use Rattle.tree_model.specs.Tree.{at as node_at, below, entries_of};
 ghost use Rattle.tree_model.specs.declared.record.Record.TheVariants.{Text as text_record};
 ghost use Rattle.tree_model.specs.declared.reply.Reply.TheVariants.{Refused};
 ghost use Rattle.node_seq.specs.ChangeLists.{IsChangeList};
@@ -15,6 +15,7 @@ ghost use Rattle.node_seq.specs.Reads.{IsValidEntry};
 ghost use Rattle.node_seq.specs.Trees.{OnTree};
 ghost use Rattle.outside_traits.specs.Faults.{HasCause};
 ghost use Rattle.dom_reads.specs.ReadCounts.{ReadsOfTree, subtree_reads};
+ghost use Rattle.dom_writes.specs.Changing.{ChangesAs, RepliesAs};
 ghost use Rattle.dom_writes.specs.ReadCounts.{set_text_reads};
 ghost use Rattle.dom_writes.specs.inside.TextsSet.{data_changes, data_refused, one_text, past_limits, reply_of, text_changes, text_refused};
 
@@ -37,8 +38,9 @@ pub fn set_text<S: NodeRead>(
     out: &mut Changes,
 ) -> Result<Reply, SeqError>
     requires empty { out.old ≡ [] }
-    ensures reply { OnTree (S.contents seq.old) result (λ t reply. reply ≡ (texts.set_text at.now data.now t).0) }
-    ensures changes { OnTree (S.contents seq.old) result (λ t _. out.new ≡ differences (map_of t) (map_of (texts.set_text at.now data.now t).1)) }
+    ensures reply { RepliesAs (S.contents seq.old) result (texts.set_text at.now data.now) }
+    ensures changes { ChangesAs (S.contents seq.old) result out.new
+        (texts.set_text at.now data.now) }
     ensures rise { IsChangeList out.new }
     ensures err { OnErr result (out.new ≡ out.old) }
     ensures unchanged { S.unchanged seq.old seq.new }

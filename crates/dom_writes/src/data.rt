@@ -1,17 +1,14 @@
 //! The calls that change a text's data (DOM Level 3 Core, interface CharacterData). Offsets and counts are of characters. Each makes one read.
-ghost use Rattle.std.specs.Prelude.{◌≡◌, [], ◌++◌, if◌then◌else◌, IfOk, OnErr, OnOk, Some, ◌≤◌, ◌+◌};
-ghost use Rattle.tree_changes.specs.KeyChanges.{change_at};
-ghost use Rattle.tree_model.specs.Changes.{differences};
+ghost use Rattle.std.specs.Prelude.{◌≡◌, [], ◌++◌, if◌then◌else◌, IfOk, OnErr, OnOk, ◌≤◌, ◌+◌};
 ghost use Rattle.tree_model.specs.Keys.{IsValidKey, node_key};
 ghost use Rattle.tree_model.specs.Limits.{is_too_long};
 ghost use Rattle.tree_model.specs.Texts as texts;
-ghost use Rattle.tree_model.specs.Tree.{map_of};
-ghost use Rattle.tree_model.specs.declared.record.Record.TheVariants.{Text as TextRecord};
 ghost use Rattle.tree_model.specs.declared.refusal.Refusal.TheVariants.{TextLimit};
 ghost use Rattle.tree_model.specs.declared.reply.Reply.TheVariants.{Nothing, Refused};
 ghost use Rattle.node_seq.specs.ChangeLists.{IsChangeList};
-ghost use Rattle.node_seq.specs.Trees.{OnTree};
 ghost use Rattle.outside_traits.specs.Faults.{HasCause};
+ghost use Rattle.dom_writes.specs.Changing.{ChangesAs, RepliesAs};
+ghost use Rattle.dom_writes.specs.inside.TextsSet.{text_change};
 
 use crate::refusals::text_limit;
 use crate::written::{add_change, is_too_long, node_at};
@@ -30,8 +27,9 @@ pub fn set_data<S: NodeRead>(
     out: &mut Changes,
 ) -> Result<Reply, SeqError>
     requires empty { out.old ≡ [] }
-    ensures reply { OnTree (S.contents seq.old) result (λ t reply. reply ≡ (texts.set_data at.now «data».now t).0) }
-    ensures changes { OnTree (S.contents seq.old) result (λ t _. out.new ≡ differences (map_of t) (map_of (texts.set_data at.now «data».now t).1)) }
+    ensures reply { RepliesAs (S.contents seq.old) result (texts.set_data at.now «data».now) }
+    ensures changes { ChangesAs (S.contents seq.old) result out.new
+        (texts.set_data at.now «data».now) }
     ensures rise { IsChangeList out.new }
     ensures err { OnErr result (out.new ≡ out.old) }
     ensures unchanged { S.unchanged seq.old seq.new }
@@ -59,7 +57,8 @@ fn change_data(
     requires empty { out.old ≡ [] }
     requires key { IsValidKey (node_key at.now) }
     ensures reply { IfOk result (λ reply. reply ≡ (if is_too_long now then Refused TextLimit else Nothing)) }
-    ensures changes { OnOk result (out.new ≡ (if is_too_long now then [] else change_at (node_key at.now) (Some (TextRecord before)) (Some (TextRecord now)))) }
+    ensures changes { OnOk result (out.new
+        ≡ (if is_too_long now then [] else text_change at.now before now)) }
     ensures rise { IsChangeList out.new }
     ensures err { OnErr result (out.new ≡ out.old) }
 {
@@ -85,8 +84,9 @@ pub fn append_data<S: NodeRead>(
     out: &mut Changes,
 ) -> Result<Reply, SeqError>
     requires empty { out.old ≡ [] }
-    ensures reply { OnTree (S.contents seq.old) result (λ t reply. reply ≡ (texts.append_data at.now «data».now t).0) }
-    ensures changes { OnTree (S.contents seq.old) result (λ t _. out.new ≡ differences (map_of t) (map_of (texts.append_data at.now «data».now t).1)) }
+    ensures reply { RepliesAs (S.contents seq.old) result (texts.append_data at.now «data».now) }
+    ensures changes { ChangesAs (S.contents seq.old) result out.new
+        (texts.append_data at.now «data».now) }
     ensures rise { IsChangeList out.new }
     ensures err { OnErr result (out.new ≡ out.old) }
     ensures unchanged { S.unchanged seq.old seq.new }
@@ -123,9 +123,10 @@ pub fn insert_data<S: NodeRead>(
     out: &mut Changes,
 ) -> Result<Reply, SeqError>
     requires empty { out.old ≡ [] }
-    ensures reply { OnTree (S.contents seq.old) result (λ t reply. reply ≡ (texts.replace_data at.now offset 0 «data».now t).0) }
-    ensures changes { OnTree (S.contents seq.old) result (λ t _.
-        out.new ≡ differences (map_of t) (map_of (texts.replace_data at.now offset 0 «data».now t).1)) }
+    ensures reply { RepliesAs (S.contents seq.old) result
+        (texts.replace_data at.now offset 0 «data».now) }
+    ensures changes { ChangesAs (S.contents seq.old) result out.new
+        (texts.replace_data at.now offset 0 «data».now) }
     ensures rise { IsChangeList out.new }
     ensures err { OnErr result (out.new ≡ out.old) }
     ensures unchanged { S.unchanged seq.old seq.new }
@@ -145,8 +146,10 @@ pub fn delete_data<S: NodeRead>(
     out: &mut Changes,
 ) -> Result<Reply, SeqError>
     requires empty { out.old ≡ [] }
-    ensures reply { OnTree (S.contents seq.old) result (λ t reply. reply ≡ (texts.replace_data at.now offset count [] t).0) }
-    ensures changes { OnTree (S.contents seq.old) result (λ t _. out.new ≡ differences (map_of t) (map_of (texts.replace_data at.now offset count [] t).1)) }
+    ensures reply { RepliesAs (S.contents seq.old) result
+        (texts.replace_data at.now offset count []) }
+    ensures changes { ChangesAs (S.contents seq.old) result out.new
+        (texts.replace_data at.now offset count []) }
     ensures rise { IsChangeList out.new }
     ensures err { OnErr result (out.new ≡ out.old) }
     ensures unchanged { S.unchanged seq.old seq.new }
@@ -168,9 +171,10 @@ pub fn replace_data<S: NodeRead>(
     out: &mut Changes,
 ) -> Result<Reply, SeqError>
     requires empty { out.old ≡ [] }
-    ensures reply { OnTree (S.contents seq.old) result (λ t reply. reply ≡ (texts.replace_data at.now offset count «data».now t).0) }
-    ensures changes { OnTree (S.contents seq.old) result (λ t _.
-        out.new ≡ differences (map_of t) (map_of (texts.replace_data at.now offset count «data».now t).1)) }
+    ensures reply { RepliesAs (S.contents seq.old) result
+        (texts.replace_data at.now offset count «data».now) }
+    ensures changes { ChangesAs (S.contents seq.old) result out.new
+        (texts.replace_data at.now offset count «data».now) }
     ensures rise { IsChangeList out.new }
     ensures err { OnErr result (out.new ≡ out.old) }
     ensures unchanged { S.unchanged seq.old seq.new }

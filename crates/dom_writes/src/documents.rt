@@ -1,18 +1,16 @@
 //! The call that makes a document, with its entry in the catalogue.
 ghost use Rattle.std.specs.Prelude.{◌≡◌, ◌++◌, [], IfOk, IfSome, IsTrue, OnErr, OnOk, option_map, ◌≤◌, ◌+◌};
 ghost use Rattle.dewey_labels.specs.Labels.{is_child, root};
-ghost use Rattle.tree_model.specs.Changes.{differences};
 ghost use Rattle.tree_model.specs.Documents as documents;
 ghost use Rattle.tree_model.specs.Documents.{document_at};
 ghost use Rattle.tree_model.specs.Fragments.{IsValid, plain_or_none};
 ghost use Rattle.tree_model.specs.Graft.{all_within};
-ghost use Rattle.tree_model.specs.Tree.{entries_of, map_of};
+ghost use Rattle.tree_model.specs.Tree.{entries_of};
 ghost use Rattle.node_seq.specs.ChangeLists.{IsChangeList};
-ghost use Rattle.node_seq.specs.Trees.{OnTree};
 ghost use Rattle.outside_traits.specs.Faults.{HasCause};
-ghost use Rattle.dom_writes.specs.Changing.{MayBring};
+ghost use Rattle.dom_writes.specs.Changing.{ChangesAs, MayBring, RepliesAs};
 ghost use Rattle.dom_writes.specs.inside.NewDocuments as new_documents;
-ghost use Rattle.dom_writes.specs.inside.NewPlaces.{answer};
+ghost use Rattle.dom_writes.specs.inside.NewPlaces.{PlacesAs, answer};
 
 use crate::grafts::{child_label, push_graft, puts};
 use crate::refusals::{
@@ -36,10 +34,10 @@ pub fn create<S: NodeRead>(
     out: &mut Changes,
 ) -> Result<Reply, SeqError>
     requires may_bring { MayBring out.old (plain_or_none (option_map (λ f. f.now) fragment)) }
-    ensures reply { OnTree (S.contents seq.old) result (λ t reply.
-        reply ≡ (documents.create name.now (plain_or_none (option_map (λ f. f.now) fragment.entry)) t).0) }
-    ensures changes { OnTree (S.contents seq.old) result (λ t _.
-        out.new ≡ differences (map_of t) (map_of (documents.create name.now (plain_or_none (option_map (λ f. f.now) fragment.entry)) t).1)) }
+    ensures reply { RepliesAs (S.contents seq.old) result
+        (documents.create name.now (plain_or_none (option_map (λ f. f.now) fragment.entry))) }
+    ensures changes { ChangesAs (S.contents seq.old) result out.new
+        (documents.create name.now (plain_or_none (option_map (λ f. f.now) fragment.entry))) }
     ensures rise { IsChangeList out.new }
     ensures err { OnErr result (out.new ≡ out.old) }
     ensures unchanged { S.unchanged seq.old seq.new }
@@ -57,8 +55,8 @@ fn document_place<S: NodeRead>(
     fragment: Option<&Fragment>,
     seq: &mut S,
 ) -> Result<Result<Label, Reply>, SeqError>
-    ensures place { OnTree (S.contents seq.old) result (λ t place.
-        answer place ≡ (documents.create name.now (plain_or_none (option_map (λ f. f.now) fragment.entry)) t).0) }
+    ensures place { PlacesAs (S.contents seq.old) result
+        (documents.create name.now (plain_or_none (option_map (λ f. f.now) fragment.entry))) }
     ensures suits { IfOk result (new_documents.SuitsOrRefused name.now (plain_or_none (option_map (λ f. f.now) fragment.entry))) }
     ensures unchanged { S.unchanged seq.old seq.new }
     ensures reads { S.reads seq.new ≤ S.reads seq.old + 2 }

@@ -1,12 +1,12 @@
 //! The call that takes a document out.
 ghost use Rattle.std.specs.Prelude.{◌≡◌, [], IfOk, OnErr, ◌≤◌, ◌+◌};
-ghost use Rattle.tree_model.specs.Changes.{differences};
 ghost use Rattle.tree_model.specs.Documents as documents;
-ghost use Rattle.tree_model.specs.Tree.{beside, map_of};
+ghost use Rattle.tree_model.specs.Tree.{beside};
 ghost use Rattle.node_seq.specs.ChangeLists.{IsChangeList};
 ghost use Rattle.node_seq.specs.Trees.{OnTree};
 ghost use Rattle.outside_traits.specs.Faults.{HasCause};
 ghost use Rattle.dom_reads.specs.ReadCounts.{ReadsOfTree};
+ghost use Rattle.dom_writes.specs.Changing.{ChangesAs, RepliesAs};
 ghost use Rattle.dom_writes.specs.ReadCounts.{drop_reads};
 ghost use Rattle.dom_writes.specs.inside.Outcomes.{reply_and_changes};
 ghost use Rattle.dom_writes.specs.inside.Above.{is_head_above};
@@ -26,8 +26,9 @@ pub fn drop_document<S: NodeRead>(
     out: &mut Changes,
 ) -> Result<Reply, SeqError>
     requires empty { out.old ≡ [] }
-    ensures reply { OnTree (S.contents seq.old) result (λ t reply. reply ≡ (documents.drop_document name.now t).0) }
-    ensures changes { OnTree (S.contents seq.old) result (λ t _. out.new ≡ differences (map_of t) (map_of (documents.drop_document name.now t).1)) }
+    ensures reply { RepliesAs (S.contents seq.old) result (documents.drop_document name.now) }
+    ensures changes { ChangesAs (S.contents seq.old) result out.new
+        (documents.drop_document name.now) }
     ensures rise { IsChangeList out.new }
     ensures err { OnErr result (out.new ≡ out.old) }
     ensures unchanged { S.unchanged seq.old seq.new }

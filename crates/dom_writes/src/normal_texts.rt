@@ -1,14 +1,14 @@
 //! Adjacent texts joined, from the entries below a node in the order of their keys.
 ghost use Rattle.std.specs.Prelude.{◌≡◌, ◌↔◌, ◌++◌, [], ◌∷◌, if◌then◌else◌, string_bytes, IsTrue, IfOk, OnErr, OnOk};
 ghost use Rattle.std.specs.List.{AllByRecursion};
-ghost use Rattle.tree_model.specs.Changes.{differences, put_unless, same_record};
+ghost use Rattle.tree_model.specs.Changes.{differences};
 ghost use Rattle.tree_model.specs.Entries.{Sorted};
 ghost use Rattle.tree_model.specs.declared.record.Record.TheVariants.{Text as text_record};
 ghost use Rattle.node_seq.specs.ChangeLists.{IsChangeList, PutsValidEntry};
 ghost use Rattle.node_seq.specs.Reads.{IsValidEntry};
 ghost use Rattle.dom_reads.specs.inside.Gathered.{data_of, texts_in};
-ghost use Rattle.dom_writes.specs.inside.NormalTexts.{IsRun, IsValidText, behind_run, first_run, joined as all_joined};
-ghost use Rattle.dom_writes.specs.inside.NormalTexts.{joined_run, joins, past_joining, run_changes};
+ghost use Rattle.dom_writes.specs.inside.NormalTexts.{AddsIfValid, IsRun, IsValidText, behind_run, first_run, joined as all_joined};
+ghost use Rattle.dom_writes.specs.inside.NormalTexts.{joined_run, joins, past_joining, put_unless_same, run_changes};
 
 use crate::merges::{push_drop, push_drops};
 use dewey_labels::{List, NoMemory, Text};
@@ -98,7 +98,8 @@ fn join_run(alloc: Global, run: &[(Key, Record)], changes: &mut Changes) -> Resu
     requires one { IsRun run.now }
     requires sorted { Sorted run.now }
     ensures valid { IfOk result (λ valid. IsTrue valid ↔ AllByRecursion IsValidText (joined_run run.now)) }
-    ensures changes { IfOk result (λ valid. IsTrue valid → changes.new ≡ changes.old ++ differences run.now (joined_run run.now)) }
+    ensures changes { AddsIfValid result changes.old changes.new
+        (differences run.now (joined_run run.now)) }
 {
     let [(key, record), others @ ..] = run else {
         return Ok(true);
@@ -116,8 +117,8 @@ fn join_run(alloc: Global, run: &[(Key, Record)], changes: &mut Changes) -> Resu
 /// An entry by itself stays, unless it is a text without data.
 fn keep(alloc: Global, key: &Key, record: &Record, changes: &mut Changes) -> Result<bool, NoMemory>
     ensures valid { IfOk result (λ valid. IsTrue valid ↔ AllByRecursion IsValidText (joined_run ((key.now, «record».now) ∷ []))) }
-    ensures changes { IfOk result (λ valid. IsTrue valid
-        → changes.new ≡ changes.old ++ differences ((key.now, «record».now) ∷ []) (joined_run ((key.now, «record».now) ∷ []))) }
+    ensures changes { AddsIfValid result changes.old changes.new
+        (differences ((key.now, «record».now) ∷ []) (joined_run ((key.now, «record».now) ∷ []))) }
 {
     let Record::Text(data) = record else {
         return Ok(true);
@@ -138,8 +139,8 @@ fn join_into(
     changes: &mut Changes,
 ) -> Result<bool, NoMemory>
     ensures valid { IfOk result (λ valid. IsTrue valid ↔ AllByRecursion IsValidText (joined_run ((key.now, text_record first.now) ∷ others.now))) }
-    ensures changes { IfOk result (λ valid. IsTrue valid
-        → changes.new ≡ changes.old ++ run_changes (key.now, text_record first.now) others.now (first.now ++ texts_in others.now)) }
+    ensures changes { AddsIfValid result changes.old changes.new (run_changes
+        (key.now, text_record first.now) others.now (first.now ++ texts_in others.now)) }
 {
     let joined = joined_data(alloc, first, others)?;
     if joined.as_str().is_empty() {
@@ -160,8 +161,8 @@ fn put_joined(
     changes: &mut Changes,
 ) -> Result<bool, NoMemory>
     ensures valid { IfOk result (λ valid. IsTrue valid ↔ IsValidEntry (key.now, text_record joined)) }
-    ensures changes { IfOk result (λ valid. IsTrue valid
-        → changes.new ≡ changes.old ++ put_unless (same_record (text_record joined) (text_record first.now)) (key.now, text_record joined)) }
+    ensures changes { AddsIfValid result changes.old changes.new
+        (put_unless_same key.now (text_record first.now) (text_record joined)) }
 {
     let same = joined == *first;
     let text = Record::Text(joined);

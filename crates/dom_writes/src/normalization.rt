@@ -1,12 +1,10 @@
 //! Adjacent texts below a node joined (DOM Level 3 Core, interface Node: `normalize`).
 ghost use Rattle.std.specs.Prelude.{◌≡◌, [], OnErr};
-ghost use Rattle.tree_model.specs.Changes.{differences};
 ghost use Rattle.tree_model.specs.Texts as texts;
-ghost use Rattle.tree_model.specs.Tree.{map_of};
 ghost use Rattle.node_seq.specs.ChangeLists.{IsChangeList};
-ghost use Rattle.node_seq.specs.Trees.{OnTree};
 ghost use Rattle.outside_traits.specs.Faults.{HasCause};
 ghost use Rattle.dom_reads.specs.ReadCounts.{ReadsOfTree};
+ghost use Rattle.dom_writes.specs.Changing.{ChangesAs, RepliesAs};
 ghost use Rattle.dom_writes.specs.ReadCounts.{normalize_reads};
 
 use crate::normal_texts::join_texts;
@@ -27,8 +25,8 @@ pub fn normalize<S: NodeRead>(
     out: &mut Changes,
 ) -> Result<Reply, SeqError>
     requires empty { out.old ≡ [] }
-    ensures reply { OnTree (S.contents seq.old) result (λ t reply. reply ≡ (texts.normalize at.now t).0) }
-    ensures changes { OnTree (S.contents seq.old) result (λ t _. out.new ≡ differences (map_of t) (map_of (texts.normalize at.now t).1)) }
+    ensures reply { RepliesAs (S.contents seq.old) result (texts.normalize at.now) }
+    ensures changes { ChangesAs (S.contents seq.old) result out.new (texts.normalize at.now) }
     ensures rise { IsChangeList out.new }
     ensures err { OnErr result (out.new ≡ out.old) }
     ensures unchanged { S.unchanged seq.old seq.new }

@@ -1,15 +1,12 @@
 //! The calls that put a fragment below a node (DOM Level 3 Core, interface Node: `appendChild` and `insertBefore`).
 //! The one makes two reads at most, the other three, and then a put for each entry of the fragment.
 ghost use Rattle.std.specs.Prelude.{◌≡◌, [], Some, IfOk, IsTrue, OnErr, OnOk, option_map, ◌≤◌, ◌+◌, is_some, if◌then◌else◌};
-ghost use Rattle.tree_model.specs.Changes.{differences};
 ghost use Rattle.tree_model.specs.Fragments.{IsValid, plain};
 ghost use Rattle.tree_model.specs.Placing as placing;
-ghost use Rattle.tree_model.specs.Tree.{map_of};
 ghost use Rattle.node_seq.specs.ChangeLists.{IsChangeList};
-ghost use Rattle.node_seq.specs.Trees.{OnTree};
 ghost use Rattle.outside_traits.specs.Faults.{HasCause};
-ghost use Rattle.dom_writes.specs.Changing.{MayBring};
-ghost use Rattle.dom_writes.specs.inside.NewPlaces.{SuitsOrRefused, answer, changes};
+ghost use Rattle.dom_writes.specs.Changing.{ChangesAs, MayBring, RepliesAs};
+ghost use Rattle.dom_writes.specs.inside.NewPlaces.{PlacesAs, SuitsOrRefused, answer, changes};
 
 use crate::grafts::graft_changes;
 use crate::places::{has_child, takes_none, within_limits};
@@ -29,8 +26,10 @@ pub fn append<S: NodeRead>(
     out: &mut Changes,
 ) -> Result<Reply, SeqError>
     requires may_bring { MayBring out.old (plain fragment.now) }
-    ensures reply { OnTree (S.contents seq.old) result (λ t reply. reply ≡ (placing.append at.now (plain fragment.now) t).0) }
-    ensures changes { OnTree (S.contents seq.old) result (λ t _. out.new ≡ differences (map_of t) (map_of (placing.append at.now (plain fragment.now) t).1)) }
+    ensures reply { RepliesAs (S.contents seq.old) result
+        (placing.append at.now (plain fragment.now)) }
+    ensures changes { ChangesAs (S.contents seq.old) result out.new
+        (placing.append at.now (plain fragment.now)) }
     ensures rise { IsChangeList out.new }
     ensures err { OnErr result (out.new ≡ out.old) }
     ensures unchanged { S.unchanged seq.old seq.new }
@@ -48,7 +47,8 @@ fn place_at_end<S: NodeRead>(
     fragment: &Fragment,
     seq: &mut S,
 ) -> Result<Result<Label, Reply>, SeqError>
-    ensures place { OnTree (S.contents seq.old) result (λ t place. answer place ≡ (placing.append at.now (plain fragment.now) t).0) }
+    ensures place { PlacesAs (S.contents seq.old) result
+        (placing.append at.now (plain fragment.now)) }
     ensures suits { IfOk result (SuitsOrRefused at.now (plain fragment.now)) }
     ensures unchanged { S.unchanged seq.old seq.new }
     ensures reads { S.reads seq.new ≤ S.reads seq.old + 2 }
@@ -107,10 +107,10 @@ pub fn insert<S: NodeRead>(
     out: &mut Changes,
 ) -> Result<Reply, SeqError>
     requires may_bring { MayBring out.old (plain fragment.now) }
-    ensures reply { OnTree (S.contents seq.old) result (λ t reply.
-        reply ≡ (placing.insert at.now (option_map (λ l. l.now) before.entry) (plain fragment.now) t).0) }
-    ensures changes { OnTree (S.contents seq.old) result (λ t _.
-        out.new ≡ differences (map_of t) (map_of (placing.insert at.now (option_map (λ l. l.now) before.entry) (plain fragment.now) t).1)) }
+    ensures reply { RepliesAs (S.contents seq.old) result
+        (placing.insert at.now (option_map (λ l. l.now) before.entry) (plain fragment.now)) }
+    ensures changes { ChangesAs (S.contents seq.old) result out.new
+        (placing.insert at.now (option_map (λ l. l.now) before.entry) (plain fragment.now)) }
     ensures rise { IsChangeList out.new }
     ensures err { OnErr result (out.new ≡ out.old) }
     ensures unchanged { S.unchanged seq.old seq.new }
@@ -132,7 +132,8 @@ fn place_before<S: NodeRead>(
     fragment: &Fragment,
     seq: &mut S,
 ) -> Result<Result<Label, Reply>, SeqError>
-    ensures place { OnTree (S.contents seq.old) result (λ t place. answer place ≡ (placing.insert at.now (Some child.now) (plain fragment.now) t).0) }
+    ensures place { PlacesAs (S.contents seq.old) result
+        (placing.insert at.now (Some child.now) (plain fragment.now)) }
     ensures suits { IfOk result (SuitsOrRefused at.now (plain fragment.now)) }
     ensures unchanged { S.unchanged seq.old seq.new }
     ensures reads { S.reads seq.new ≤ S.reads seq.old + 3 }

@@ -1,17 +1,15 @@
 //! The calls that take a subtree out (DOM Level 3 Core, interface Node: `removeChild` and `replaceChild`).
 ghost use Rattle.std.specs.Prelude.{◌≡◌, [], IfOk, OnErr, ◌≤◌, ◌+◌};
-ghost use Rattle.tree_model.specs.Changes.{differences};
 ghost use Rattle.tree_model.specs.Fragments.{IsValid, plain};
 ghost use Rattle.tree_model.specs.Placing as placing;
-ghost use Rattle.tree_model.specs.Tree.{map_of};
 ghost use Rattle.node_seq.specs.ChangeLists.{IsChangeList};
 ghost use Rattle.node_seq.specs.Trees.{OnTree};
 ghost use Rattle.outside_traits.specs.Faults.{HasCause};
 ghost use Rattle.dom_reads.specs.ReadCounts.{ReadsOfTree};
-ghost use Rattle.dom_writes.specs.Changing.{MayBring};
+ghost use Rattle.dom_writes.specs.Changing.{ChangesAs, MayBring, RepliesAs};
 ghost use Rattle.dom_writes.specs.ReadCounts.{removal_reads, replace_reads};
 ghost use Rattle.dom_writes.specs.inside.NewPlaces.{SuitsOrRefused};
-ghost use Rattle.dom_writes.specs.inside.Outcomes.{parent_of, placed_instead, reply_and_changes};
+ghost use Rattle.dom_writes.specs.inside.Outcomes.{IsPlaceToReplace, parent_of, reply_and_changes};
 
 use crate::grafts::graft_entries;
 use crate::merges::{differences_between, push_drops};
@@ -35,8 +33,9 @@ pub fn remove<S: NodeRead>(
     out: &mut Changes,
 ) -> Result<Reply, SeqError>
     requires empty { out.old ≡ [] }
-    ensures reply { OnTree (S.contents seq.old) result (λ t reply. reply ≡ (placing.remove at.now child.now t).0) }
-    ensures changes { OnTree (S.contents seq.old) result (λ t _. out.new ≡ differences (map_of t) (map_of (placing.remove at.now child.now t).1)) }
+    ensures reply { RepliesAs (S.contents seq.old) result (placing.remove at.now child.now) }
+    ensures changes { ChangesAs (S.contents seq.old) result out.new
+        (placing.remove at.now child.now) }
     ensures rise { IsChangeList out.new }
     ensures err { OnErr result (out.new ≡ out.old) }
     ensures unchanged { S.unchanged seq.old seq.new }
@@ -85,9 +84,10 @@ pub fn replace<S: NodeRead>(
     out: &mut Changes,
 ) -> Result<Reply, SeqError>
     requires may_bring { MayBring out.old (plain fragment.now) }
-    ensures reply { OnTree (S.contents seq.old) result (λ t reply. reply ≡ (placing.replace at.now old.now (plain fragment.now) t).0) }
-    ensures changes { OnTree (S.contents seq.old) result (λ t _.
-        out.new ≡ differences (map_of t) (map_of (placing.replace at.now old.now (plain fragment.now) t).1)) }
+    ensures reply { RepliesAs (S.contents seq.old) result
+        (placing.replace at.now old.now (plain fragment.now)) }
+    ensures changes { ChangesAs (S.contents seq.old) result out.new
+        (placing.replace at.now old.now (plain fragment.now)) }
     ensures rise { IsChangeList out.new }
     ensures err { OnErr result (out.new ≡ out.old) }
     ensures unchanged { S.unchanged seq.old seq.new }
@@ -142,8 +142,8 @@ fn place_instead<S: NodeRead>(
     fragment: &Fragment,
     seq: &mut S,
 ) -> Result<Result<Label, Reply>, SeqError>
-    ensures place { OnTree (S.contents seq.old) result (λ t place.
-        placed_instead old.now (plain fragment.now) t place ≡ placing.replace at.now old.now (plain fragment.now) t) }
+    ensures place { OnTree (S.contents seq.old) result
+        (IsPlaceToReplace at.now old.now (plain fragment.now)) }
     ensures suits { IfOk result (SuitsOrRefused at.now (plain fragment.now)) }
     ensures unchanged { S.unchanged seq.old seq.new }
     ensures reads { S.reads seq.new ≤ S.reads seq.old + 4 }

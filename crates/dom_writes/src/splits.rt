@@ -1,20 +1,19 @@
 //! The call that splits a text (DOM Level 3 Core, interface Text).
-ghost use Rattle.std.specs.Prelude.{◌≡◌, [], ◌∷◌, ◌++◌, IfOk, IfSome, IsTrue, OnErr, OnOk, Some, ◌≤◌, ◌+◌};
+ghost use Rattle.std.specs.Prelude.{◌≡◌, [], IfOk, IfSome, OnErr, OnOk, ◌≤◌, ◌+◌};
 ghost use Rattle.std.specs.Ordering.{nat_cmp};
 ghost use Rattle.std.specs.Cmp.Lexicographic.{slice_cmp};
 ghost use Rattle.std.specs.declared.cmp.Ordering.TheVariants.{Less};
-ghost use Rattle.dewey_labels.specs.Labels.{IsLabel, level, parent as parent_of};
-ghost use Rattle.dewey_labels.specs.NewLabels.{new_label};
-ghost use Rattle.tree_changes.specs.KeyChanges.{change_at};
-ghost use Rattle.tree_model.specs.Changes.{differences, put_change};
+ghost use Rattle.dewey_labels.specs.Labels.{IsLabel, level};
 ghost use Rattle.tree_model.specs.Keys.{node_key};
 ghost use Rattle.tree_model.specs.Texts as texts;
-ghost use Rattle.tree_model.specs.Tree.{at as node_at, found, map_of, next_of};
 ghost use Rattle.tree_model.specs.declared.record.Record.TheVariants.{Text as TextRecord};
 ghost use Rattle.node_seq.specs.ChangeLists.{IsChangeList};
 ghost use Rattle.node_seq.specs.Reads.{IsValidEntry};
 ghost use Rattle.node_seq.specs.Trees.{OnTree};
 ghost use Rattle.outside_traits.specs.Faults.{HasCause};
+ghost use Rattle.dom_reads.specs.FoundNodes.{HasNodeAt};
+ghost use Rattle.dom_writes.specs.Changing.{ChangesAs, RepliesAs};
+ghost use Rattle.dom_writes.specs.inside.Splits.{label_behind, split_changes};
 
 use crate::refusals::label_limit;
 use crate::written::{add_change, is_too_long, node_at};
@@ -33,8 +32,9 @@ pub fn split_text<S: NodeRead>(
     out: &mut Changes,
 ) -> Result<Reply, SeqError>
     requires empty { out.old ≡ [] }
-    ensures reply { OnTree (S.contents seq.old) result (λ t reply. reply ≡ (texts.split_text at.now offset t).0) }
-    ensures changes { OnTree (S.contents seq.old) result (λ t _. out.new ≡ differences (map_of t) (map_of (texts.split_text at.now offset t).1)) }
+    ensures reply { RepliesAs (S.contents seq.old) result (texts.split_text at.now offset) }
+    ensures changes { ChangesAs (S.contents seq.old) result out.new
+        (texts.split_text at.now offset) }
     ensures rise { IsChangeList out.new }
     ensures err { OnErr result (out.new ≡ out.old) }
     ensures unchanged { S.unchanged seq.old seq.new }
@@ -69,8 +69,8 @@ fn label_behind<S: NodeRead>(
     at: &Label,
     seq: &mut S,
 ) -> Result<Option<Label>, SeqError>
-    ensures label { OnTree (S.contents seq.old) result (λ t new. IsTrue (found (node_at at.now t.documents))
-        → new ≡ new_label (parent_of at.now) (Some at.now) (next_of (node_at at.now t.documents))) }
+    ensures label { OnTree (S.contents seq.old) result (λ t new. HasNodeAt at.now t
+        → new ≡ label_behind at.now t) }
     ensures level { IfOk result (λ new. IfSome new (λ n. IsLabel n × (level n ≡ level at.now))) }
     ensures behind { IfOk result (λ new. IfSome new (λ n. slice_cmp nat_cmp at.now n ≡ Less)) }
     ensures unchanged { S.unchanged seq.old seq.new }
@@ -101,8 +101,7 @@ fn put_parts(
     requires left { IsValidEntry (node_key at.now, TextRecord before) }
     requires right { IsValidEntry (node_key new.now, TextRecord behind) }
     requires order { slice_cmp nat_cmp at.now new.now ≡ Less }
-    ensures ok { OnOk result (out.new ≡ change_at (node_key at.now) (Some (TextRecord «data»)) (Some (TextRecord before))
-        ++ (put_change (node_key new.now, TextRecord behind) ∷ [])) }
+    ensures ok { OnOk result (out.new ≡ split_changes at.now «data» before new.now behind) }
     ensures rise { IsChangeList out.new }
     ensures err { OnErr result (out.new ≡ out.old) }
 {

@@ -10,12 +10,14 @@ use Rattle.tree_model.specs.declared.refusal.Refusal.TheVariants.{LabelLimit}
 use Rattle.tree_model.specs.declared.reply.Reply.{Reply}
 use Rattle.tree_model.specs.declared.reply.Reply.TheVariants.{Place, Refused}
 use Rattle.tree_model.specs.Changes.{put_change}
+use Rattle.tree_model.specs.Entries.{Entries}
 use Rattle.tree_model.specs.Fragments.{Fragments, is_text_fragment}
 use Rattle.tree_model.specs.Graft.{all_within, graft}
-use Rattle.tree_model.specs.Outcomes.{is_refused}
+use Rattle.tree_model.specs.Outcomes.{Outcome, is_refused}
 use Rattle.tree_model.specs.Placing.{is_too_deep}
 use Rattle.tree_model.specs.StoredTree.{is_document_record}
-use Rattle.tree_model.specs.Tree.{entries_of, none}
+use Rattle.tree_model.specs.Tree.{Tree, entries_of, none}
+use Rattle.node_seq.specs.Trees.{OnTree}
 
 -- ---- the parent's kind
 
@@ -34,6 +36,10 @@ within_limits f (Some new) = if all_within (graft new f none) then Ok new else E
 abbrev pub answer : Result Label Reply → Reply
 answer (Ok new) = Place (Some new)
 answer (Err reply) = reply
+
+-- this place, or this refusal, is answered as the call answers on whichever tree the known map stands for
+abbrev pub PlacesAs : {E : Type 0} → Option Entries → Result (Result Label Reply) E → (Tree → Outcome) → Type 0
+PlacesAs contents result call = OnTree contents result (λ t place. answer place ≡ (call t).0)
 
 -- what is changed
 abbrev pub changes : Fragments → Result Label Reply → List Change

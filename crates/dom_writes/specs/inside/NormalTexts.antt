@@ -1,5 +1,5 @@
 -- Adjacent texts joined, among the entries below a node.
-use Rattle.std.specs.Prelude.{◌≡◌, ℕ, Bool, true, false, cond, ◌&&◌, ◌==◌, List, [], ◌∷◌, ◌++◌, map, IsTrue, Some}
+use Rattle.std.specs.Prelude.{◌≡◌, ℕ, Bool, true, false, cond, ◌&&◌, ◌==◌, List, [], ◌∷◌, ◌++◌, map, IfOk, IsTrue, Result, Some}
 use Rattle.std.specs.List.{AllByRecursion}
 use Rattle.dewey_labels.specs.Labels.{level}
 use Rattle.tree_model.specs.Changes.{drop_change, put_unless, same_record}
@@ -80,7 +80,15 @@ joined es = joined_runs (runs es)
 abbrev pub IsValidText : Key × Record → Type 0
 IsValidText e = IsTrue (is_text_record (Some e.1)) → IsValidEntry e
 
+-- a record put at a key, unless the one that stands there is the same
+abbrev pub put_unless_same : Key → Record → Record → List Change
+put_unless_same k old r = put_unless (same_record r old) (k, r)
+
 -- the changes of a run, by the data of all its texts: those of the first one and of the others
 abbrev pub run_changes : Key × Record → Entries → List ℕ → List Change
 run_changes e r [] = map drop_change (e ∷ r)
-run_changes e r (b ∷ d) = put_unless (same_record (Text (b ∷ d)) e.1) (e.0, Text (b ∷ d)) ++ map drop_change r
+run_changes e r (b ∷ d) = put_unless_same e.0 e.1 (Text (b ∷ d)) ++ map drop_change r
+
+-- where the answer is that a tree may have the text, these changes stand behind those from before
+abbrev pub AddsIfValid : {E : Type 0} → Result Bool E → List Change → List Change → List Change → Type 0
+AddsIfValid result before after more = IfOk result (λ valid. IsTrue valid → after ≡ before ++ more)

@@ -50,6 +50,10 @@ unless_refused (Some why) cs = []
 abbrev pub text_changes : Label → List ℕ → Entries → List Change
 text_changes l d old = unless_refused (text_refused l d) (differences old (entries_of (one_text l d)))
 
+-- the change of a text's data; none where they are the same
+abbrev pub text_change : Label → List ℕ → List ℕ → List Change
+text_change l old d = change_at (node_key l) (Some (Text old)) (Some (Text d))
+
 -- the changes of a text whose data is set
 abbrev pub data_changes : Label → List ℕ → List ℕ → List Change
-data_changes l old d = unless_refused (data_refused d) (change_at (node_key l) (Some (Text old)) (Some (Text d)))
+data_changes l old d = unless_refused (data_refused d) (text_change l old d)
