@@ -6,7 +6,7 @@ ghost use Rattle.tree_model.specs.Changes.{Rising};
 ghost use Rattle.tree_model.specs.declared.change.Change.{Change};
 ghost use Rattle.overlays.specs.declared.gaps.Stretch.{Stretch};
 ghost use Rattle.tree_model.specs.declared.key.Key as declared;
-ghost use Rattle.overlays.specs.Stretches.{is_in, is_covered, AreEmpty, AreWithin, IsOut};
+ghost use Rattle.overlays.specs.Stretches.{is_in, is_covered, AreWithin, IsOut, StayEmpty};
 ghost use Rattle.overlays.specs.Steps.{end_toward};
 ghost use Rattle.overlays.specs.inside.Passing.{start_toward, Skips, meets, with_piece, IsEndOf};
 ghost use Rattle.overlays.specs.declared.direction.Direction as declared_direction;
@@ -422,12 +422,12 @@ fn changed_beside<'o>(
 
 /// What is kept of a transaction's stretches after its own changes is empty after them.
 pub fn own_changes_keep_stretches_empty()
-    ensures { (new old : List Stretch) (cs : List Change) (es : Entries) → Rising cs → Sorted es → AreWithin new old → AllByRecursion (IsOut new) cs
-        → AreEmpty old es → AreEmpty new (changed cs es) }
+    ensures { (new old : List Stretch) (cs : List Change) (es : Entries) → Rising cs → Sorted es
+        → StayEmpty new old cs (λ seen. seen) es }
 {}
 
 /// So it is after another's commit, which lies under the transaction's own changes.
 pub fn commits_keep_stretches_empty()
-    ensures { (new old : List Stretch) (own cs : List Change) (es : Entries) → Rising cs → Sorted es → AreWithin new old → AllByRecursion (IsOut new) cs
-        → AreEmpty old (changed own es) → AreEmpty new (changed own (changed cs es)) }
+    ensures { (new old : List Stretch) (own cs : List Change) (es : Entries) → Rising cs → Sorted es
+        → StayEmpty new old cs (changed own) es }
 {}

@@ -1,11 +1,11 @@
 // A map that owns its base and the layers over it.
-ghost use Rattle.std.specs.Prelude.{◌≡◌, ◌≤◌, ◌+◌, ◌⊎◌, Some, None, IfOk, [], option_map};
+ghost use Rattle.std.specs.Prelude.{◌≡◌, ◌≤◌, ◌+◌, None, IfOk, []};
 ghost use Rattle.outside_traits.specs.Faults.{HasCause};
-ghost use Rattle.tree_model.specs.Entries.{Entries, get, first_above, last_below};
+ghost use Rattle.tree_model.specs.Entries.{get, first_above, last_below};
 ghost use Rattle.node_seq.specs.declared.node_read.SeqError.TheVariants.{DiskFault};
 ghost use Rattle.node_seq.specs.Reads.{Finds, IsEntryOfTrees, IsRecordOfTrees, IsKeyOfTrees, LiesAbove, LiesBelow, key_above, key_below, IsKeyAbove, IsKeyBelow};
 ghost use Rattle.overlays.specs.Views.{contents_after};
-ghost use Rattle.overlays.specs.Steps.{most_steps, NoneOpen};
+ghost use Rattle.overlays.specs.Steps.{most_steps, key_found, IsNotedInStack};
 ghost use Rattle.overlays.specs.declared.direction.Direction.TheVariants.{Up, Down};
 
 use crate::direction::Direction;
@@ -31,17 +31,15 @@ pub struct Stacked<B: NodeRead + Drop> {
 }
 
 impl<B: NodeRead + Drop> Model for Stacked<B> {
-    ghost use Rattle.std.specs.Prelude.{◌≡◌, [], Some};
-    ghost use Rattle.tree_model.specs.Entries.{Entries};
+    ghost use Rattle.std.specs.Prelude.{◌≡◌, []};
     ghost use Rattle.overlays.specs.Layered.{Stack};
-    ghost use Rattle.overlays.specs.Stretches.{AreEmpty};
-    ghost use Rattle.overlays.specs.Views.{contents_after};
+    ghost use Rattle.overlays.specs.Views.{AreEmptyIn, contents_seen};
 
     ghost Value = { Stack B };
 
     ghost view = { λ s. record { base = s.base; layers = s.layers; gaps = s.gaps } };
 
-    ghost invariant = { λ s. (s.none ≡ []) × ((es : Entries) → contents_after s.none (contents_after s.layers.changes (B.contents s.base)) ≡ Some es → AreEmpty s.gaps es) };
+    ghost invariant = { λ s. (s.none ≡ []) × AreEmptyIn s.gaps (contents_seen s.none s.layers.changes (B.contents s.base)) };
 }
 
 impl<B: NodeRead + Drop> Stacked<B> {
@@ -101,8 +99,8 @@ impl<B: NodeRead + Drop> NodeRead for Stacked<B> {
         ensures unchanged { B.unchanged self.old.base self.new.base × (self.old.layers ≡ self.new.layers) }
         ensures reads { 0 ≤ 0 + 1 }
         ensures of_base { B.reads self.new.base ≤ B.reads self.old.base + (1 + most_steps Up key.now self.old.gaps self.old.layers.changes) }
-        ensures noted { IfOk result (λ found. (es : Entries) → B.contents self.old.base ≡ Some es → (B.reads self.new.base ≤ B.reads self.old.base + 6)
-            ⊎ NoneOpen Up key.now (option_map (λ e. e.0) found) self.old.layers.changes self.old.gaps self.new.gaps) }
+        ensures noted { IfOk result (λ found.
+            IsNotedInStack B.contents B.reads self.old self.new Up key.now (key_found found)) }
         ensures cause { HasCause DiskFault (B.count self.old.base) (B.count self.new.base) result }
     {
         seen_beside(
@@ -123,8 +121,8 @@ impl<B: NodeRead + Drop> NodeRead for Stacked<B> {
         ensures unchanged { B.unchanged self.old.base self.new.base × (self.old.layers ≡ self.new.layers) }
         ensures reads { 0 ≤ 0 + 1 }
         ensures of_base { B.reads self.new.base ≤ B.reads self.old.base + (1 + most_steps Down key.now self.old.gaps self.old.layers.changes) }
-        ensures noted { IfOk result (λ found. (es : Entries) → B.contents self.old.base ≡ Some es → (B.reads self.new.base ≤ B.reads self.old.base + 6)
-            ⊎ NoneOpen Down key.now (option_map (λ e. e.0) found) self.old.layers.changes self.old.gaps self.new.gaps) }
+        ensures noted { IfOk result (λ found.
+            IsNotedInStack B.contents B.reads self.old self.new Down key.now (key_found found)) }
         ensures cause { HasCause DiskFault (B.count self.old.base) (B.count self.new.base) result }
     {
         seen_beside(
@@ -145,8 +143,8 @@ impl<B: NodeRead + Drop> NodeRead for Stacked<B> {
         ensures unchanged { B.unchanged self.old.base self.new.base × (self.old.layers ≡ self.new.layers) }
         ensures reads { 0 ≤ 0 + 1 }
         ensures of_base { B.reads self.new.base ≤ B.reads self.old.base + (1 + most_steps Up key.now self.old.gaps self.old.layers.changes) }
-        ensures noted { IfOk result (λ found. (es : Entries) → B.contents self.old.base ≡ Some es → (B.reads self.new.base ≤ B.reads self.old.base + 6)
-            ⊎ NoneOpen Up key.now found self.old.layers.changes self.old.gaps self.new.gaps) }
+        ensures noted { IfOk result
+            (IsNotedInStack B.contents B.reads self.old self.new Up key.now) }
         ensures cause { HasCause DiskFault (B.count self.old.base) (B.count self.new.base) result }
     {
         key_seen_beside(
@@ -167,8 +165,8 @@ impl<B: NodeRead + Drop> NodeRead for Stacked<B> {
         ensures unchanged { B.unchanged self.old.base self.new.base × (self.old.layers ≡ self.new.layers) }
         ensures reads { 0 ≤ 0 + 1 }
         ensures of_base { B.reads self.new.base ≤ B.reads self.old.base + (1 + most_steps Down key.now self.old.gaps self.old.layers.changes) }
-        ensures noted { IfOk result (λ found. (es : Entries) → B.contents self.old.base ≡ Some es → (B.reads self.new.base ≤ B.reads self.old.base + 6)
-            ⊎ NoneOpen Down key.now found self.old.layers.changes self.old.gaps self.new.gaps) }
+        ensures noted { IfOk result
+            (IsNotedInStack B.contents B.reads self.old self.new Down key.now) }
         ensures cause { HasCause DiskFault (B.count self.old.base) (B.count self.new.base) result }
     {
         key_seen_beside(

@@ -3,19 +3,18 @@ ghost use Rattle.std.specs.Prelude.{◌≡◌, ◌≤◌, ◌+◌, ◌⊎◌, So
 ghost use Rattle.outside_traits.specs.Faults.{HasCause};
 ghost use Rattle.tree_model.specs.declared.key.Key as declared;
 ghost use Rattle.tree_model.specs.declared.record.Record as declared_record;
-ghost use Rattle.tree_model.specs.Entries.{Entries, get, first_above, last_below};
-ghost use Rattle.tree_model.specs.Changes.{now_at, laid, seen};
+ghost use Rattle.tree_model.specs.Entries.{get, first_above, last_below};
+ghost use Rattle.tree_model.specs.Changes.{now_at, laid};
 ghost use Rattle.node_seq.specs.declared.node_read.SeqError.TheVariants.{DiskFault};
 ghost use Rattle.node_seq.specs.Reads.{Finds, IsEntryOfTrees, IsRecordOfTrees, IsKeyOfTrees, LiesAbove, LiesBelow, key_above, key_below, IsKeyAbove, IsKeyBelow};
 ghost use Rattle.node_seq.specs.ChangeLists.{IsChangeList};
 ghost use Rattle.overlays.specs.Directions.{Ahead};
 ghost use Rattle.overlays.specs.declared.direction.Direction.TheVariants.{Up, Down};
-ghost use Rattle.overlays.specs.inside.Runs.{ChangeList};
-ghost use Rattle.overlays.specs.inside.Nearest.{IsNearest, as_pair, entry_beside, LiesAhead, comes_before, key_beside, KeyLiesAhead, key_before};
-ghost use Rattle.overlays.specs.Views.{contents_after};
-ghost use Rattle.overlays.specs.Stretches.{AreEmpty, AreWithin, IsEmpty};
-ghost use Rattle.overlays.specs.Steps.{most_steps, NoneOpen};
-ghost use Rattle.overlays.specs.inside.Passing.{first_gone, first_seen, first_key_seen, Sees, SeesKey, key_gone, Spans, IsSettled, HasCome, AllCovered, NoneGone, with_piece};
+ghost use Rattle.overlays.specs.inside.Nearest.{entry_beside, LiesAhead, comes_before, key_beside, KeyLiesAhead, key_before, IsNearestChange, IfNearest};
+ghost use Rattle.overlays.specs.Views.{contents_seen, IfKnown, AreEmptyIn};
+ghost use Rattle.overlays.specs.Stretches.{AreWithin, IsEmpty};
+ghost use Rattle.overlays.specs.Steps.{most_steps, key_found, IsNoted};
+ghost use Rattle.overlays.specs.inside.Passing.{first_seen, first_key_seen, Sees, SeesKey, key_gone, Spans, HasCome, with_piece, gone_beside, IfSettled, HasCovered};
 
 use crate::direction::Direction;
 use crate::run::Hint;
@@ -37,7 +36,7 @@ pub struct View<'a, S: NodeRead> {
     pub own: &'a Overlay,
     /// Where nothing is seen, as far as earlier reads have found it.
     pub gaps: &'a mut Gaps,
-    ghost empty: { (es : Entries) → contents_after own.now (contents_after layers.now.changes (S.contents base.now)) ≡ Some es → AreEmpty gaps.now es },
+    ghost empty: { AreEmptyIn gaps.now (contents_seen own.now layers.now.changes (S.contents base.now)) },
 }
 
 /// The record at a key, with the changes laid over the base.
@@ -48,8 +47,10 @@ pub(crate) fn seen_at<S: NodeRead>(
     own: &Overlay,
     key: &Key,
 ) -> Result<Option<Record>, SeqError>
-    ensures value { Finds (contents_after own.now (contents_after layers.now.changes (S.contents base.old))) result (get key.now) }
-    ensures valid { contents_after own.now (contents_after layers.now.changes (S.contents base.old)) ≡ None → IfOk result IsRecordOfTrees }
+    ensures value { Finds (contents_seen own.now layers.now.changes (S.contents base.old))
+        result (get key.now) }
+    ensures valid { contents_seen own.now layers.now.changes (S.contents base.old) ≡ None
+        → IfOk result IsRecordOfTrees }
     ensures unchanged { S.unchanged base.old base.new }
     ensures reads { S.reads base.new ≤ S.reads base.old + 1 }
     ensures cause { HasCause DiskFault (S.count base.old) (S.count base.new) result }
@@ -96,14 +97,15 @@ fn pass_gone<'g, 'o: 'g, S: NodeRead>(
     key: &'g Key,
     hint: &mut Hint,
 ) -> Result<(Come<'o>, Option<Stretch>), SeqError>
-    requires empty { (es : Entries) → contents_after own.now (contents_after layers.now.changes (S.contents base.old)) ≡ Some es → AreEmpty gaps.now es }
+    requires empty { AreEmptyIn gaps.now
+        (contents_seen own.now layers.now.changes (S.contents base.old)) }
     ensures come { IfOk result (λ c. HasCome toward key.now (laid own.now layers.now.changes) (S.contents base.old) (unwrap_or c.0.at key.now)) }
-    ensures next { IfOk result (λ c. IsNearest toward (unwrap_or c.0.at key.now) (λ j. now_at j (laid own.now layers.now.changes))
-        (as_pair (option_copied c.0.next))) }
-    ensures passed { IfOk result (λ c. IfSome c.1 (λ s. (es : Entries) → contents_after own.now (contents_after layers.now.changes (S.contents base.old))
-        ≡ Some es → IsEmpty s es)) }
-    ensures noted { IfOk result (λ c. (S.reads base.new ≤ S.reads base.old + 5)
-        ⊎ AllCovered toward key.now (unwrap_or c.0.at key.now) (laid own.now layers.now.changes) gaps.now (with_piece c.1 [])) }
+    ensures next { IfOk result (λ c. IsNearestChange toward (unwrap_or c.0.at key.now)
+        (laid own.now layers.now.changes) (option_copied c.0.next)) }
+    ensures passed { IfOk result (λ c. IfSome c.1 (λ s.
+        IfKnown (contents_seen own.now layers.now.changes (S.contents base.old)) (IsEmpty s))) }
+    ensures noted { IfOk result (λ c. HasCovered S.reads base.old base.new toward key.now c.0.at
+        (laid own.now layers.now.changes) gaps.now (with_piece c.1 [])) }
     ensures own { IsChangeList own.now }
     ensures layers { IsChangeList layers.now.changes }
     ensures unchanged { S.unchanged base.old base.new }
@@ -175,8 +177,8 @@ fn next_gone<'o, S: NodeRead>(
     at: &Key,
     change: Option<&'o Change>,
 ) -> Result<Option<&'o Key>, SeqError>
-    ensures value { IfOk result (λ gone. (es : Entries) → S.contents base.old ≡ Some es
-        → option_copied gone ≡ first_gone toward (entry_beside toward at.now es) (option_copied change.entry)) }
+    ensures value { IfOk result (λ gone. IfKnown (S.contents base.old) (λ es.
+        option_copied gone ≡ gone_beside toward at.now (option_copied change.entry) es)) }
     ensures gone { IfOk result (λ gone. IfSome (option_copied gone) (λ k. key_gone (option_copied change.entry) ≡ Some k)) }
     ensures unchanged { S.unchanged base.old base.new }
     ensures unread { key_gone (option_copied change.entry) ≡ None → S.reads base.new ≤ S.reads base.old }
@@ -228,13 +230,15 @@ fn note_gone<'o, S: NodeRead>(
     toward: Direction,
     key: &Key,
 ) -> Result<Come<'o>, SeqError>
-    requires empty { (es : Entries) → contents_after own.now (contents_after layers.now.changes (S.contents base.old)) ≡ Some es → AreEmpty gaps.old es }
+    requires empty { AreEmptyIn gaps.old
+        (contents_seen own.now layers.now.changes (S.contents base.old)) }
     ensures come { IfOk result (λ c. HasCome toward key.now (laid own.now layers.now.changes) (S.contents base.old) (unwrap_or c.at key.now)) }
-    ensures next { IfOk result (λ c. IsNearest toward (unwrap_or c.at key.now) (λ j. now_at j (laid own.now layers.now.changes))
-        (as_pair (option_copied c.next))) }
-    ensures empty { (es : Entries) → contents_after own.now (contents_after layers.now.changes (S.contents base.old)) ≡ Some es → AreEmpty gaps.new es }
-    ensures noted { IfOk result (λ c. (S.reads base.new ≤ S.reads base.old + 5)
-        ⊎ AllCovered toward key.now (unwrap_or c.at key.now) (laid own.now layers.now.changes) gaps.old gaps.new) }
+    ensures next { IfOk result (λ c. IsNearestChange toward (unwrap_or c.at key.now)
+        (laid own.now layers.now.changes) (option_copied c.next)) }
+    ensures empty { AreEmptyIn gaps.new
+        (contents_seen own.now layers.now.changes (S.contents base.old)) }
+    ensures noted { IfOk result (λ c. HasCovered S.reads base.old base.new toward key.now c.at
+        (laid own.now layers.now.changes) gaps.old gaps.new) }
     ensures own { IsChangeList own.now }
     ensures layers { IsChangeList layers.now.changes }
     ensures unchanged { S.unchanged base.old base.new }
@@ -278,7 +282,8 @@ fn change_ahead<'o>(
     key: &Key,
     hint: &mut Hint,
 ) -> Option<&'o Change>
-    ensures nearest { IsNearest toward key.now (λ j. now_at j (laid own.now layers.now.changes)) (as_pair (option_copied result)) }
+    ensures nearest { IsNearestChange toward key.now (laid own.now layers.now.changes)
+        (option_copied result) }
     ensures own { IsChangeList own.now }
     ensures layers { IsChangeList layers.now.changes }
 {
@@ -396,13 +401,13 @@ fn seen_behind<S: NodeRead>(
     at: &Key,
     next: Option<&Change>,
 ) -> Result<Option<(Key, Record)>, SeqError>
-    ensures value { IfOk result (λ found. (cs : ChangeList) (es : Entries) → IsNearest toward at.now (λ j. now_at j cs) (as_pair (option_copied next.entry))
-        → S.contents base.old ≡ Some es
-        → IsSettled toward at.now cs es → Sees toward at.now cs es found) }
-    ensures ahead { (cs : ChangeList) → IsNearest toward at.now (λ j. now_at j cs) (as_pair (option_copied next.entry))
-        → IfOk result (LiesAhead toward at.now) }
-    ensures valid { (cs : ChangeList) → IsNearest toward at.now (λ j. now_at j cs) (as_pair (option_copied next.entry)) → IsChangeList cs
-        → S.contents base.old ≡ None → IfOk result IsEntryOfTrees }
+    ensures value { IfOk result (λ found.
+        IfSettled toward at.now (option_copied next.entry) (S.contents base.old)
+        (λ cs es. Sees toward at.now cs es found)) }
+    ensures ahead { IfNearest toward at.now (option_copied next.entry)
+        (λ cs. IfOk result (LiesAhead toward at.now)) }
+    ensures valid { IfNearest toward at.now (option_copied next.entry) (λ cs. IsChangeList cs
+        → S.contents base.old ≡ None → IfOk result IsEntryOfTrees) }
     ensures unchanged { S.unchanged base.old base.new }
     ensures reads { S.reads base.new ≤ S.reads base.old + 1 }
     ensures cause { HasCause DiskFault (S.count base.old) (S.count base.new) result }
@@ -420,13 +425,13 @@ fn key_behind<S: NodeRead>(
     at: &Key,
     next: Option<&Change>,
 ) -> Result<Option<Key>, SeqError>
-    ensures value { IfOk result (λ found. (cs : ChangeList) (es : Entries) → IsNearest toward at.now (λ j. now_at j cs) (as_pair (option_copied next.entry))
-        → S.contents base.old ≡ Some es
-        → IsSettled toward at.now cs es → SeesKey toward at.now cs es found) }
-    ensures ahead { (cs : ChangeList) → IsNearest toward at.now (λ j. now_at j cs) (as_pair (option_copied next.entry))
-        → IfOk result (KeyLiesAhead toward at.now) }
-    ensures valid { (cs : ChangeList) → IsNearest toward at.now (λ j. now_at j cs) (as_pair (option_copied next.entry)) → IsChangeList cs
-        → S.contents base.old ≡ None → IfOk result IsKeyOfTrees }
+    ensures value { IfOk result (λ found.
+        IfSettled toward at.now (option_copied next.entry) (S.contents base.old)
+        (λ cs es. SeesKey toward at.now cs es found)) }
+    ensures ahead { IfNearest toward at.now (option_copied next.entry)
+        (λ cs. IfOk result (KeyLiesAhead toward at.now)) }
+    ensures valid { IfNearest toward at.now (option_copied next.entry) (λ cs. IsChangeList cs
+        → S.contents base.old ≡ None → IfOk result IsKeyOfTrees) }
     ensures unchanged { S.unchanged base.old base.new }
     ensures reads { S.reads base.new ≤ S.reads base.old + 1 }
     ensures cause { HasCause DiskFault (S.count base.old) (S.count base.new) result }
@@ -446,13 +451,17 @@ pub(crate) fn seen_beside<S: NodeRead>(
     toward: Direction,
     key: &Key,
 ) -> Result<Option<(Key, Record)>, SeqError>
-    requires empty { (es : Entries) → contents_after own.now (contents_after layers.now.changes (S.contents base.old)) ≡ Some es → AreEmpty gaps.old es }
-    ensures value { Finds (contents_after own.now (contents_after layers.now.changes (S.contents base.old))) result (entry_beside toward key.now) }
+    requires empty { AreEmptyIn gaps.old
+        (contents_seen own.now layers.now.changes (S.contents base.old)) }
+    ensures value { Finds (contents_seen own.now layers.now.changes (S.contents base.old))
+        result (entry_beside toward key.now) }
     ensures ahead { IfOk result (LiesAhead toward key.now) }
-    ensures valid { contents_after own.now (contents_after layers.now.changes (S.contents base.old)) ≡ None → IfOk result IsEntryOfTrees }
-    ensures empty { (es : Entries) → contents_after own.now (contents_after layers.now.changes (S.contents base.old)) ≡ Some es → AreEmpty gaps.new es }
-    ensures noted { IfOk result (λ found. (es : Entries) → S.contents base.old ≡ Some es → (S.reads base.new ≤ S.reads base.old + 6)
-        ⊎ NoneOpen toward key.now (option_map (λ e. e.0) found) (laid own.now layers.now.changes) gaps.old gaps.new) }
+    ensures valid { contents_seen own.now layers.now.changes (S.contents base.old) ≡ None
+        → IfOk result IsEntryOfTrees }
+    ensures empty { AreEmptyIn gaps.new
+        (contents_seen own.now layers.now.changes (S.contents base.old)) }
+    ensures noted { IfOk result (λ found. IsNoted S.contents S.reads base.old base.new toward key.now
+        own.now layers.now gaps.old gaps.new (key_found found)) }
     ensures unchanged { S.unchanged base.old base.new }
     ensures reads { S.reads base.new ≤ S.reads base.old + (1 + most_steps toward key.now gaps.old (laid own.now layers.now.changes)) }
     ensures cause { HasCause DiskFault (S.count base.old) (S.count base.new) result }
@@ -472,13 +481,17 @@ pub(crate) fn key_seen_beside<S: NodeRead>(
     toward: Direction,
     key: &Key,
 ) -> Result<Option<Key>, SeqError>
-    requires empty { (es : Entries) → contents_after own.now (contents_after layers.now.changes (S.contents base.old)) ≡ Some es → AreEmpty gaps.old es }
-    ensures value { Finds (contents_after own.now (contents_after layers.now.changes (S.contents base.old))) result (key_beside toward key.now) }
+    requires empty { AreEmptyIn gaps.old
+        (contents_seen own.now layers.now.changes (S.contents base.old)) }
+    ensures value { Finds (contents_seen own.now layers.now.changes (S.contents base.old))
+        result (key_beside toward key.now) }
     ensures ahead { IfOk result (KeyLiesAhead toward key.now) }
-    ensures valid { contents_after own.now (contents_after layers.now.changes (S.contents base.old)) ≡ None → IfOk result IsKeyOfTrees }
-    ensures empty { (es : Entries) → contents_after own.now (contents_after layers.now.changes (S.contents base.old)) ≡ Some es → AreEmpty gaps.new es }
-    ensures noted { IfOk result (λ found. (es : Entries) → S.contents base.old ≡ Some es → (S.reads base.new ≤ S.reads base.old + 6)
-        ⊎ NoneOpen toward key.now found (laid own.now layers.now.changes) gaps.old gaps.new) }
+    ensures valid { contents_seen own.now layers.now.changes (S.contents base.old) ≡ None
+        → IfOk result IsKeyOfTrees }
+    ensures empty { AreEmptyIn gaps.new
+        (contents_seen own.now layers.now.changes (S.contents base.old)) }
+    ensures noted { IfOk result (IsNoted S.contents S.reads base.old base.new toward key.now
+        own.now layers.now gaps.old gaps.new) }
     ensures unchanged { S.unchanged base.old base.new }
     ensures reads { S.reads base.new ≤ S.reads base.old + (1 + most_steps toward key.now gaps.old (laid own.now layers.now.changes)) }
     ensures cause { HasCause DiskFault (S.count base.old) (S.count base.new) result }
@@ -493,22 +506,19 @@ impl<'a, S: NodeRead> NodeRead for View<'a, S> {
     ghost use Rattle.std.specs.Prelude.{◌≡◌, refl};
     ghost use Rattle.std.proofs.Common.{◌∙◌, sym, ap};
     ghost use Rattle.overlays.specs.Layered.{Layered};
+    ghost use Rattle.overlays.specs.ViewReads.{changes_in_view, map_in_view, IsSameView, IsNotedInView};
     ghost use Rattle.overlays.specs.Views.{contents_after};
 
-    ghost contents = { λ v. contents_after v.own.now (contents_after v.layers.now.changes (S.contents v.base.now)) };
+    ghost contents = { λ v. contents_seen v.own.now v.layers.now.changes (S.contents v.base.now) };
 
     ghost count = { λ v. S.count v.base.now };
 
     ghost unchanged = { λ v w. S.unchanged v.base.now w.base.now × (v.layers.now ≡ w.layers.now) × (v.own.now ≡ w.own.now) × (v.base.ghost_name ≡ w.base.ghost_name) × (v.gaps.ghost_name ≡ w.gaps.ghost_name) };
 
     fn get(&mut self, alloc: Global, key: &Key) -> Result<Option<Record>, SeqError>
-        ensures value { Finds (contents_after self.old.own.now (contents_after self.old.layers.now.changes (S.contents self.old.base.now))) result
-            (get key.now) }
-        ensures valid { contents_after self.old.own.now (contents_after self.old.layers.now.changes (S.contents self.old.base.now)) ≡ None
-            → IfOk result IsRecordOfTrees }
-        ensures unchanged { S.unchanged self.old.base.now self.new.base.now × (self.old.layers.now ≡ self.new.layers.now)
-            × (self.old.own.now ≡ self.new.own.now) × (self.old.base.ghost_name ≡ self.new.base.ghost_name)
-            × (self.old.gaps.ghost_name ≡ self.new.gaps.ghost_name) }
+        ensures value { Finds (map_in_view self.old) result (get key.now) }
+        ensures valid { map_in_view self.old ≡ None → IfOk result IsRecordOfTrees }
+        ensures unchanged { IsSameView self.old self.new }
         ensures reads { 0 ≤ 0 + 1 }
         ensures of_base { S.reads self.new.base.now ≤ S.reads self.old.base.now + 1 }
         ensures cause { HasCause DiskFault (S.count self.old.base.now) (S.count self.new.base.now) result }
@@ -517,20 +527,15 @@ impl<'a, S: NodeRead> NodeRead for View<'a, S> {
     }
 
     fn next_from(&mut self, alloc: Global, key: &Key) -> Result<Option<(Key, Record)>, SeqError>
-        ensures value { Finds (contents_after self.old.own.now (contents_after self.old.layers.now.changes (S.contents self.old.base.now))) result
-            (first_above key.now) }
+        ensures value { Finds (map_in_view self.old) result (first_above key.now) }
         ensures above { IfOk result (LiesAbove key.now) }
-        ensures valid { contents_after self.old.own.now (contents_after self.old.layers.now.changes (S.contents self.old.base.now)) ≡ None
-            → IfOk result IsEntryOfTrees }
-        ensures unchanged { S.unchanged self.old.base.now self.new.base.now × (self.old.layers.now ≡ self.new.layers.now)
-            × (self.old.own.now ≡ self.new.own.now) × (self.old.base.ghost_name ≡ self.new.base.ghost_name)
-            × (self.old.gaps.ghost_name ≡ self.new.gaps.ghost_name) }
+        ensures valid { map_in_view self.old ≡ None → IfOk result IsEntryOfTrees }
+        ensures unchanged { IsSameView self.old self.new }
         ensures reads { 0 ≤ 0 + 1 }
-        ensures of_base { S.reads self.new.base.now
-            ≤ S.reads self.old.base.now + (1 + most_steps Up key.now self.old.gaps.now (laid self.old.own.now self.old.layers.now.changes)) }
-        ensures noted { IfOk result (λ found. (es : Entries) → S.contents self.old.base.now ≡ Some es
-            → (S.reads self.new.base.now ≤ S.reads self.old.base.now + 6)
-            ⊎ NoneOpen Up key.now (option_map (λ e. e.0) found) (laid self.old.own.now self.old.layers.now.changes) self.old.gaps.now self.new.gaps.now) }
+        ensures of_base { S.reads self.new.base.now ≤ S.reads self.old.base.now
+            + (1 + most_steps Up key.now self.old.gaps.now (changes_in_view self.old)) }
+        ensures noted { IfOk result (λ found.
+            IsNotedInView self.old self.new Up key.now (key_found found)) }
         ensures cause { HasCause DiskFault (S.count self.old.base.now) (S.count self.new.base.now) result }
     {
         seen_beside(
@@ -545,20 +550,15 @@ impl<'a, S: NodeRead> NodeRead for View<'a, S> {
     }
 
     fn prev_from(&mut self, alloc: Global, key: &Key) -> Result<Option<(Key, Record)>, SeqError>
-        ensures value { Finds (contents_after self.old.own.now (contents_after self.old.layers.now.changes (S.contents self.old.base.now))) result
-            (last_below key.now) }
+        ensures value { Finds (map_in_view self.old) result (last_below key.now) }
         ensures below { IfOk result (LiesBelow key.now) }
-        ensures valid { contents_after self.old.own.now (contents_after self.old.layers.now.changes (S.contents self.old.base.now)) ≡ None
-            → IfOk result IsEntryOfTrees }
-        ensures unchanged { S.unchanged self.old.base.now self.new.base.now × (self.old.layers.now ≡ self.new.layers.now)
-            × (self.old.own.now ≡ self.new.own.now) × (self.old.base.ghost_name ≡ self.new.base.ghost_name)
-            × (self.old.gaps.ghost_name ≡ self.new.gaps.ghost_name) }
+        ensures valid { map_in_view self.old ≡ None → IfOk result IsEntryOfTrees }
+        ensures unchanged { IsSameView self.old self.new }
         ensures reads { 0 ≤ 0 + 1 }
-        ensures of_base { S.reads self.new.base.now
-            ≤ S.reads self.old.base.now + (1 + most_steps Down key.now self.old.gaps.now (laid self.old.own.now self.old.layers.now.changes)) }
-        ensures noted { IfOk result (λ found. (es : Entries) → S.contents self.old.base.now ≡ Some es
-            → (S.reads self.new.base.now ≤ S.reads self.old.base.now + 6)
-            ⊎ NoneOpen Down key.now (option_map (λ e. e.0) found) (laid self.old.own.now self.old.layers.now.changes) self.old.gaps.now self.new.gaps.now) }
+        ensures of_base { S.reads self.new.base.now ≤ S.reads self.old.base.now
+            + (1 + most_steps Down key.now self.old.gaps.now (changes_in_view self.old)) }
+        ensures noted { IfOk result (λ found.
+            IsNotedInView self.old self.new Down key.now (key_found found)) }
         ensures cause { HasCause DiskFault (S.count self.old.base.now) (S.count self.new.base.now) result }
     {
         seen_beside(
@@ -573,20 +573,14 @@ impl<'a, S: NodeRead> NodeRead for View<'a, S> {
     }
 
     fn key_above(&mut self, alloc: Global, key: &Key) -> Result<Option<Key>, SeqError>
-        ensures value { Finds (contents_after self.old.own.now (contents_after self.old.layers.now.changes (S.contents self.old.base.now))) result
-            (key_above key.now) }
+        ensures value { Finds (map_in_view self.old) result (key_above key.now) }
         ensures above { IfOk result (IsKeyAbove key.now) }
-        ensures valid { contents_after self.old.own.now (contents_after self.old.layers.now.changes (S.contents self.old.base.now)) ≡ None
-            → IfOk result IsKeyOfTrees }
-        ensures unchanged { S.unchanged self.old.base.now self.new.base.now × (self.old.layers.now ≡ self.new.layers.now)
-            × (self.old.own.now ≡ self.new.own.now) × (self.old.base.ghost_name ≡ self.new.base.ghost_name)
-            × (self.old.gaps.ghost_name ≡ self.new.gaps.ghost_name) }
+        ensures valid { map_in_view self.old ≡ None → IfOk result IsKeyOfTrees }
+        ensures unchanged { IsSameView self.old self.new }
         ensures reads { 0 ≤ 0 + 1 }
-        ensures of_base { S.reads self.new.base.now
-            ≤ S.reads self.old.base.now + (1 + most_steps Up key.now self.old.gaps.now (laid self.old.own.now self.old.layers.now.changes)) }
-        ensures noted { IfOk result (λ found. (es : Entries) → S.contents self.old.base.now ≡ Some es
-            → (S.reads self.new.base.now ≤ S.reads self.old.base.now + 6)
-            ⊎ NoneOpen Up key.now found (laid self.old.own.now self.old.layers.now.changes) self.old.gaps.now self.new.gaps.now) }
+        ensures of_base { S.reads self.new.base.now ≤ S.reads self.old.base.now
+            + (1 + most_steps Up key.now self.old.gaps.now (changes_in_view self.old)) }
+        ensures noted { IfOk result (IsNotedInView self.old self.new Up key.now) }
         ensures cause { HasCause DiskFault (S.count self.old.base.now) (S.count self.new.base.now) result }
     {
         key_seen_beside(
@@ -601,20 +595,14 @@ impl<'a, S: NodeRead> NodeRead for View<'a, S> {
     }
 
     fn key_below(&mut self, alloc: Global, key: &Key) -> Result<Option<Key>, SeqError>
-        ensures value { Finds (contents_after self.old.own.now (contents_after self.old.layers.now.changes (S.contents self.old.base.now))) result
-            (key_below key.now) }
+        ensures value { Finds (map_in_view self.old) result (key_below key.now) }
         ensures below { IfOk result (IsKeyBelow key.now) }
-        ensures valid { contents_after self.old.own.now (contents_after self.old.layers.now.changes (S.contents self.old.base.now)) ≡ None
-            → IfOk result IsKeyOfTrees }
-        ensures unchanged { S.unchanged self.old.base.now self.new.base.now × (self.old.layers.now ≡ self.new.layers.now)
-            × (self.old.own.now ≡ self.new.own.now) × (self.old.base.ghost_name ≡ self.new.base.ghost_name)
-            × (self.old.gaps.ghost_name ≡ self.new.gaps.ghost_name) }
+        ensures valid { map_in_view self.old ≡ None → IfOk result IsKeyOfTrees }
+        ensures unchanged { IsSameView self.old self.new }
         ensures reads { 0 ≤ 0 + 1 }
-        ensures of_base { S.reads self.new.base.now
-            ≤ S.reads self.old.base.now + (1 + most_steps Down key.now self.old.gaps.now (laid self.old.own.now self.old.layers.now.changes)) }
-        ensures noted { IfOk result (λ found. (es : Entries) → S.contents self.old.base.now ≡ Some es
-            → (S.reads self.new.base.now ≤ S.reads self.old.base.now + 6)
-            ⊎ NoneOpen Down key.now found (laid self.old.own.now self.old.layers.now.changes) self.old.gaps.now self.new.gaps.now) }
+        ensures of_base { S.reads self.new.base.now ≤ S.reads self.old.base.now
+            + (1 + most_steps Down key.now self.old.gaps.now (changes_in_view self.old)) }
+        ensures noted { IfOk result (IsNotedInView self.old self.new Down key.now) }
         ensures cause { HasCause DiskFault (S.count self.old.base.now) (S.count self.new.base.now) result }
     {
         key_seen_beside(

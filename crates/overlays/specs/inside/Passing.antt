@@ -1,5 +1,5 @@
 -- How a walk passes over what is gone.
-use Rattle.std.specs.Prelude.{not, ◌≡◌, ◌⊎◌, Bool, true, false, ◌&&◌, cond, List, [], ◌∷◌, Option, Some, None, IfSome, option_map}
+use Rattle.std.specs.Prelude.{not, ◌≡◌, ◌⊎◌, ◌≤◌, ◌+◌, ℕ, Bool, true, false, ◌&&◌, cond, List, [], ◌∷◌, Option, Some, None, IfSome, option_map, unwrap_or}
 use Rattle.std.specs.Ordering.{is_lt, is_le}
 use Rattle.tree_model.specs.Keys.{key_cmp}
 use Rattle.tree_model.specs.Changes.{now_at, seen}
@@ -13,7 +13,7 @@ use Rattle.overlays.specs.declared.gaps.Stretch.{Stretch}
 use Rattle.overlays.specs.Directions.{cmp_toward, Ahead}
 use Rattle.overlays.specs.Stretches.{is_covered}
 use Rattle.overlays.specs.Steps.{end_toward}
-use Rattle.overlays.specs.inside.Nearest.{IsNearest, as_pair, entry_beside, comes_before, key_before}
+use Rattle.overlays.specs.inside.Nearest.{IsNearest, IsNearestChange, entry_beside, comes_before, key_before}
 
 -- whether two stretches have a key in common
 abbrev pub meets : Stretch → Stretch → Bool
@@ -39,6 +39,10 @@ gone_key c (Some r) = None
 abbrev pub first_gone : Direction → Option (Key × Record) → Option Change → Option Key
 first_gone w o None = None
 first_gone w o (Some c) = cond (comes_before w o c.key) None (gone_key c c.now)
+
+-- the key that a walk comes to next, where that is one of a deletion
+abbrev pub gone_beside : Direction → Key → Option Change → Entries → Option Key
+gone_beside w k change es = first_gone w (entry_beside w k es) change
 
 -- what a change puts
 abbrev pub entry_put : Change → Option Record → Option (Key × Record)
@@ -86,7 +90,12 @@ is_past w (Some near) j = not (is_lt (cmp_toward w j near))
 
 -- behind the key comes no deletion before what the map has there
 abbrev pub IsSettled : Direction → Key → List Change → Entries → Type 0
-IsSettled w k cs es = (c : Option Change) → IsNearest w k (λ j. now_at j cs) (as_pair c) → first_gone w (entry_beside w k es) c ≡ None
+IsSettled w k cs es = (c : Option Change) → IsNearestChange w k cs c → gone_beside w k c es ≡ None
+
+-- of any changes of which this one is the nearest ahead, over a known map, where no deletion comes first
+abbrev pub IfSettled : Direction → Key → Option Change → Option Entries → (List Change → Entries → Type 0) → Type 0
+IfSettled w k change contents fact =
+    (cs : List Change) (es : Entries) → IsNearestChange w k cs change → contents ≡ Some es → IsSettled w k cs es → fact cs es
 
 -- a walk from the key over a map with changes has come to another one: it passed nothing that is seen, and no deletion comes next
 pub record HasCome (w : Direction) (k : Key) (cs : List Change) (contents : Option Entries) (r : Key) : Type 0 where
@@ -97,6 +106,10 @@ pub record HasCome (w : Direction) (k : Key) (cs : List Change) (contents : Opti
 -- the deletions from a key to the one that a walk has come to lie in the new stretches, where they lay in none before
 abbrev pub AllCovered : Direction → Key → Key → List Change → List Stretch → List Stretch → Type 0
 AllCovered w k r cs ss new = (j : Key) → Ahead w k j → is_lt (cmp_toward w r j) ≡ false → now_at j cs ≡ Some None → is_covered ss j ≡ false → is_covered new j ≡ true
+
+-- a walk to this place asked the map below five times at most, or the deletions on its way that lay in none of the stretches lie in the new ones
+abbrev pub HasCovered : {B : Type 0} → (B → ℕ) → B → B → Direction → Key → Option Key → List Change → List Stretch → List Stretch → Type 0
+HasCovered reads base after w k at cs ss new = (reads after ≤ reads base + 5) ⊎ AllCovered w k (unwrap_or at k) cs ss new
 
 -- behind the key, and before what was found, is no deletion
 abbrev pub NoneGone : Direction → Key → Option Key → List Change → Type 0
