@@ -1,15 +1,14 @@
 //! The requests of the calls on the catalogue.
-ghost use Rattle.std.specs.Prelude.{◌≡◌, ◌++◌, ◌∷◌, [], IfOk};
+ghost use Rattle.std.specs.Prelude.{◌≡◌, ◌∷◌, [], IfOk};
 ghost use Rattle.dewey_labels.specs.Labels.{root};
 ghost use Rattle.tree_model.specs.declared.dom_call.DomCall.TheVariants as call;
 ghost use Rattle.tree_model.specs.Fragments.{plain_or_none};
-ghost use Rattle.tree_model.specs.Outcomes.{Outcome};
 ghost use Rattle.tree_model.specs.Tree.{Tree, beside};
 ghost use Rattle.node_seq.specs.Trees.{OnTree};
 ghost use Rattle.outside_traits.specs.Faults.{HasCause};
 ghost use Rattle.lock_plans.specs.DomPlans.{requests};
 ghost use Rattle.lock_plans.specs.inside.PlacedReplies.{placed_label};
-ghost use Rattle.lock_plans.specs.inside.PlanSteps.{asked_by, create_end};
+ghost use Rattle.lock_plans.specs.inside.PlanSteps.{EndsPlan, create_end};
 
 use crate::placing::take_out_child;
 use crate::plan::Plan;
@@ -118,7 +117,8 @@ fn place_document<S: NodeRead>(
     seq: &mut S,
     mut plan: Plan,
 ) -> Result<Plan, SeqError>
-    ensures value { OnTree (S.contents seq.old) result (λ t whole. (end : Outcome) → whole ≡ plan ++ asked_by (create_end (plain_or_none fragment.now) t) end) }
+    ensures value { OnTree (S.contents seq.old) result (λ t whole.
+        EndsPlan plan (create_end (plain_or_none fragment.now) t) whole) }
     ensures unchanged { S.unchanged seq.old seq.new }
     ensures cause { HasCause SeqError.DiskFault (S.count seq.old) (S.count seq.new) result }
 {

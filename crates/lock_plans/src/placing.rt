@@ -1,14 +1,12 @@
 //! The requests of the calls that put a subtree into the tree and take one out.
-ghost use Rattle.std.specs.Prelude.{◌≡◌, ◌++◌, IsTrue, None};
+ghost use Rattle.std.specs.Prelude.{◌≡◌, IsTrue, None};
 ghost use Rattle.dewey_labels.specs.Labels.{is_child, parent as parent_of};
 ghost use Rattle.tree_model.specs.declared.dom_call.DomCall.TheVariants as call;
 ghost use Rattle.tree_model.specs.Fragments.{plain};
-ghost use Rattle.tree_model.specs.Outcomes.{Outcome};
-ghost use Rattle.tree_model.specs.Tree.{at as node_at, found as is_found};
 ghost use Rattle.node_seq.specs.Trees.{OnTree};
 ghost use Rattle.outside_traits.specs.Faults.{HasCause};
 ghost use Rattle.lock_plans.specs.DomPlans.{requests};
-ghost use Rattle.lock_plans.specs.inside.PlanSteps.{append_end, asked_by, insert_end, remove_end, replace_end};
+ghost use Rattle.lock_plans.specs.inside.PlanSteps.{EndsPlanAt, append_end, insert_end, remove_end, replace_end};
 
 use crate::gaps::place_fragment;
 use crate::plan::Plan;
@@ -62,8 +60,8 @@ fn append_last<S: NodeRead>(
     seq: &mut S,
     mut plan: Plan,
 ) -> Result<Plan, SeqError>
-    ensures value { OnTree (S.contents seq.old) result (λ t whole. IsTrue (is_found (node_at at.now t.documents)) → (end : Outcome)
-        → whole ≡ plan ++ asked_by (append_end at.now (plain fragment.now) t) end) }
+    ensures value { EndsPlanAt (S.contents seq.old) result at.now plan
+        (append_end at.now (plain fragment.now)) }
     ensures unchanged { S.unchanged seq.old seq.new }
     ensures cause { HasCause SeqError.DiskFault (S.count seq.old) (S.count seq.new) result }
 {
@@ -115,8 +113,8 @@ fn insert_before<S: NodeRead>(
 ) -> Result<Plan, SeqError>
     requires child { IsTrue (is_child at.now child.now) }
     requires parent { parent_of child.now ≡ at.now }
-    ensures value { OnTree (S.contents seq.old) result (λ t whole. IsTrue (is_found (node_at child.now t.documents)) → (end : Outcome)
-        → whole ≡ plan ++ asked_by (insert_end at.now child.now (plain fragment.now) t) end) }
+    ensures value { EndsPlanAt (S.contents seq.old) result child.now plan
+        (insert_end at.now child.now (plain fragment.now)) }
     ensures unchanged { S.unchanged seq.old seq.new }
     ensures cause { HasCause SeqError.DiskFault (S.count seq.old) (S.count seq.new) result }
 {
@@ -166,8 +164,8 @@ fn replace_child<S: NodeRead>(
 ) -> Result<Plan, SeqError>
     requires child { IsTrue (is_child at.now old.now) }
     requires parent { parent_of old.now ≡ at.now }
-    ensures value { OnTree (S.contents seq.old) result (λ t whole. IsTrue (is_found (node_at old.now t.documents)) → (end : Outcome)
-        → whole ≡ plan ++ asked_by (replace_end at.now old.now (plain fragment.now) t) end) }
+    ensures value { EndsPlanAt (S.contents seq.old) result old.now plan
+        (replace_end at.now old.now (plain fragment.now)) }
     ensures unchanged { S.unchanged seq.old seq.new }
     ensures cause { HasCause SeqError.DiskFault (S.count seq.old) (S.count seq.new) result }
 {
@@ -210,8 +208,8 @@ pub fn take_out_child<S: NodeRead>(
     seq: &mut S,
     mut plan: Plan,
 ) -> Result<Plan, SeqError>
-    ensures value { OnTree (S.contents seq.old) result (λ t whole. IsTrue (is_found (node_at old.now t.documents)) → (end : Outcome)
-        → whole ≡ plan ++ asked_by (remove_end at.now old.now t) end) }
+    ensures value { EndsPlanAt (S.contents seq.old) result old.now plan
+        (remove_end at.now old.now) }
     ensures unchanged { S.unchanged seq.old seq.new }
     ensures cause { HasCause SeqError.DiskFault (S.count seq.old) (S.count seq.new) result }
 {

@@ -1,16 +1,14 @@
 //! The requests of the calls on a text's characters, and of `set_text`.
-ghost use Rattle.std.specs.Prelude.{◌≡◌, ◌++◌, ◌&&◌, not, IsTrue, Some};
+ghost use Rattle.std.specs.Prelude.{◌≡◌, ◌++◌, ◌&&◌, not, Some};
 ghost use Rattle.tree_model.specs.declared.dom_call.DomCall.TheVariants as call;
 ghost use Rattle.tree_model.specs.Limits.{is_too_long as is_past_limit};
 ghost use Rattle.tree_model.specs.NodeKinds.{is_text_record};
-ghost use Rattle.tree_model.specs.Outcomes.{Outcome};
 ghost use Rattle.tree_model.specs.Placing.{is_too_deep};
 ghost use Rattle.tree_model.specs.Texts.{data_from, text_below};
-ghost use Rattle.tree_model.specs.Tree.{at as node_at, found};
 ghost use Rattle.node_seq.specs.Trees.{OnTree};
 ghost use Rattle.outside_traits.specs.Faults.{HasCause};
 ghost use Rattle.lock_plans.specs.DomPlans.{requests};
-ghost use Rattle.lock_plans.specs.inside.PlanSteps.{asked_by, split_end};
+ghost use Rattle.lock_plans.specs.inside.PlanSteps.{EndsPlanAt, split_end};
 
 use crate::plan::Plan;
 use dewey_labels::{Label, Text, child_beside};
@@ -137,8 +135,7 @@ fn split<S: NodeRead>(
     seq: &mut S,
     mut plan: Plan,
 ) -> Result<Plan, SeqError>
-    ensures value { OnTree (S.contents seq.old) result (λ t whole. IsTrue (found (node_at at.now t.documents)) → (end : Outcome)
-        → whole ≡ plan ++ asked_by (split_end at.now t) end) }
+    ensures value { EndsPlanAt (S.contents seq.old) result at.now plan (split_end at.now) }
     ensures unchanged { S.unchanged seq.old seq.new }
     ensures cause { HasCause SeqError.DiskFault (S.count seq.old) (S.count seq.new) result }
 {

@@ -1,5 +1,5 @@
 -- What the steps at edges, children and new labels add to a plan.
-use Rattle.std.specs.Prelude.{ℕ, Bool, true, false, if◌then◌else◌, List, [], ◌∷◌, ◌++◌, Option, Some, None}
+use Rattle.std.specs.Prelude.{◌≡◌, ℕ, Bool, true, false, if◌then◌else◌, List, [], ◌∷◌, ◌++◌, Option, Some, None, Result}
 use Rattle.dewey_labels.specs.Labels.{Label, parent, root}
 use Rattle.dewey_labels.specs.NewLabels.{new_label}
 use Rattle.lock_modes.specs.declared.ask.Ask.TheVariants as ask
@@ -15,11 +15,14 @@ use Rattle.tree_model.specs.declared.record.Record.{Record}
 use Rattle.tree_model.specs.declared.record.Record.TheVariants.{Text}
 use Rattle.tree_model.specs.declared.refusal.Refusal.TheVariants.{TooDeep}
 use Rattle.tree_model.specs.Documents.{document_at, document_label}
+use Rattle.tree_model.specs.Entries.{Entries}
 use Rattle.tree_model.specs.Fragments.{Fragments}
 use Rattle.tree_model.specs.Outcomes.{Outcome}
 use Rattle.tree_model.specs.Placing.{is_too_deep}
 use Rattle.tree_model.specs.Tree.{Tree, none, node, at, last_child_of, last_label, next_of, prev_of}
 use Rattle.tree_model.specs.ValidTrees.{same_label}
+use Rattle.node_seq.specs.Trees.{OnTree}
+use Rattle.dom_reads.specs.FoundNodes.{HasNodeAt}
 use Rattle.lock_plans.specs.Plans.{Step, before, end_of, ends, grafted, in_turn, place, refuses, take_edge, take_out, take_right, take_tree}
 
 -- whether a call leads on from a node, to the one that stands first or last below it or beside it
@@ -61,6 +64,14 @@ sees_child p c = if same_label (parent c) p then with_intentions (Node c) (ask.N
 -- the requests of the last steps of a call with an outcome
 abbrev pub asked_by : List Step → Outcome → List Request
 asked_by steps end = (in_turn steps (ends end)).requests
+
+-- whichever outcome the call ends with, the requests of its last steps stand behind those from before
+abbrev pub EndsPlan : List Request → List Step → List Request → Type 0
+EndsPlan plan steps whole = (end : Outcome) → whole ≡ plan ++ asked_by steps end
+
+-- the same of steps on whichever tree the known map stands for, if it has the node
+abbrev pub EndsPlanAt : {E : Type 0} → Option Entries → Result (List Request) E → Label → List Request → (Tree → List Step) → Type 0
+EndsPlanAt contents result l plan steps = OnTree contents result (λ t whole. HasNodeAt l t → EndsPlan plan (steps t) whole)
 
 -- the last steps of `split_text`
 abbrev pub split_end : Label → Tree → List Step
