@@ -48,6 +48,10 @@ abbrev pub IsRun : {C : Type 0} → CallMeaning C → State C → Book C → Typ
 IsRun m st [] = Unit {0}
 IsRun m st (n ∷ ns) = IsAnswer n.answer (step m st n.session n.event) × IsRun m (next m st n) ns
 
+-- if a book is a run from the state after opening, this holds of the state that it comes to
+abbrev pub IfRun : {C : Type 0} → CallMeaning C → Tree → ℕ → ℕ → Book C → (State C → Type 0) → Type 0
+IfRun m t n limit b Q = IsRun m (start t n limit) b → Q (last m (start t n limit) b)
+
 -- ---- faults
 
 -- the count of faults that an event tells

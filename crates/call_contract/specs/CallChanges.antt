@@ -16,14 +16,22 @@ with_calls m (a ∷ cs) t changes = with_calls m cs (m.after a.call t) (laid (ch
 abbrev pub changes_of_calls : {C : Type 0} → CallMeaning C → List (Answered C) → Tree → List Change
 changes_of_calls m cs t = with_calls m cs t []
 
+-- the changes of calls, with those of one more call after them laid over
+abbrev pub changes_with_one_more : {C : Type 0} → CallMeaning C → List (Answered C) → Answered C → Tree → List Change
+changes_with_one_more m cs a t = laid (changes_of m a.call (view m cs t)) (changes_of_calls m cs t)
+
 -- these changes lead from a tree to another: their keys rise, and laid over the one's map they make the other's
 pub record LeadTo (changes : List Change) (t u : Tree) : Type 0 where
   pub rise : Rising changes
   pub map : changed changes (map_of t) ≡ map_of u
 
+-- the changes of calls on a tree lead from it to what is seen after them
+abbrev pub CallsLead : {C : Type 0} → CallMeaning C → List (Answered C) → Tree → Type 0
+CallsLead m cs t = LeadTo (changes_of_calls m cs t) t (view m cs t)
+
 -- each live transaction's changes lead from the committed tree to what it sees
 abbrev pub ChangesLead : {C : Type 0} → CallMeaning C → State C → Type 0
-ChangesLead {C = C} m st = (s : ℕ) (x : Live C) → of_session s st.live ≡ Some x → LeadTo (changes_of_calls m x.calls st.tree) st.tree (view m x.calls st.tree)
+ChangesLead {C = C} m st = (s : ℕ) (x : Live C) → of_session s st.live ≡ Some x → CallsLead m x.calls st.tree
 
 -- if one live transaction commits, every other one's changes are on the new tree what they were
 abbrev pub ChangesStay : {C : Type 0} → CallMeaning C → State C → Type 0

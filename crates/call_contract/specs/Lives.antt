@@ -1,5 +1,9 @@
 -- What holds of the live transactions of a state that a legal book comes to.
-use Rattle.std.specs.Prelude.{◌≡◌, ◌≢◌, ℕ, true, false, Some}
+use Rattle.std.specs.Prelude.{◌≡◌, ◌≢◌, ℕ, true, false, List, Some}
+use Rattle.lock_resources.specs.declared.request.Request.{Request}
+use Rattle.lock_resources.specs.declared.resource.Resource.{Resource}
+use Rattle.lock_table.specs.Asks.{is_barred}
+use Rattle.lock_table.specs.Grants.{join_of}
 use Rattle.tree_cells.specs.Cells.{Cell, value_at}
 use Rattle.tree_cells.specs.Covers.{reads, writes, Agree}
 use Rattle.call_contract.specs.Calls.{CallMeaning}
@@ -30,3 +34,7 @@ CommitsReplay {C = C} m st = (s u : ℕ) (x y : Live C) → of_session s st.live
 abbrev pub NoCellIsShared : {C : Type 0} → State C → Type 0
 NoCellIsShared {C = C} st = (s u : ℕ) (x y : Live C) → of_session s st.live ≡ Some x → of_session u st.live ≡ Some y → s ≢ u
     → (c : Cell) → reads x.grants c ≡ true → writes y.grants c ≡ false
+
+-- at some resource the mode that these requests come to doesn't go together with that of those
+abbrev pub BarSomewhere : List Request → List Request → Type 0
+BarSomewhere gs hs = (r : Resource) × (is_barred (join_of gs r) (join_of hs r) ≡ true)

@@ -3,11 +3,9 @@
 ghost use Rattle.std.specs.Prelude.{◌≡◌, ◌↔◌, ◌+◌, ◌++◌, ◌∷◌, [], ℕ, List, map, true, Option};
 ghost use Rattle.std.specs.List.{AllByRecursion};
 ghost use Rattle.lock_resources.specs.declared.request.Request.{Request};
-ghost use Rattle.lock_resources.specs.declared.resource.Resource.{Resource};
-ghost use Rattle.tree_model.specs.Changes.{laid};
 ghost use Rattle.tree_model.specs.Tree.{Tree};
 ghost use Rattle.tree_model.specs.ValidTrees.{IsValidTree};
-ghost use Rattle.lock_table.specs.Asks.{is_barred, is_barred_by};
+ghost use Rattle.lock_table.specs.Asks.{is_barred_by};
 ghost use Rattle.lock_table.specs.Grants.{join_of};
 ghost use Rattle.tree_cells.specs.Cells.{Cell};
 ghost use Rattle.tree_cells.specs.Clashes.{bars};
@@ -17,16 +15,15 @@ ghost use Rattle.wait_cycles.specs.Walks.{Rises};
 ghost use Rattle.call_contract.specs.declared.events.Event.TheVariants.{Abort};
 ghost use Rattle.call_contract.specs.declared.events.EventAnswer.{EventAnswer};
 ghost use Rattle.call_contract.specs.declared.events.Noted.{Noted};
-ghost use Rattle.call_contract.specs.Calls.{changes_of};
-ghost use Rattle.call_contract.specs.CallChanges.{changes_of_calls, LeadTo, ChangesLead, ChangesStay};
-ghost use Rattle.call_contract.specs.States.{Answered, Live, State, start, others, view};
+ghost use Rattle.call_contract.specs.CallChanges.{changes_of_calls, changes_with_one_more, CallsLead, ChangesLead, ChangesStay};
+ghost use Rattle.call_contract.specs.States.{Answered, Live, State, start, others};
 ghost use Rattle.call_contract.specs.Attempts.{holders};
 ghost use Rattle.call_contract.specs.Waits.{NoCycle};
 ghost use Rattle.call_contract.specs.Steps.{step};
-ghost use Rattle.call_contract.specs.Books.{Book, entry, next, last, IsAnswer, IsRun, FaultsRise, last_fault, IsBookFrom, IsReached, IsSerial};
+ghost use Rattle.call_contract.specs.Books.{Book, entry, next, last, IsAnswer, IsRun, IfRun, FaultsRise, last_fault, IsBookFrom, IsReached, IsSerial};
 ghost use Rattle.call_contract.specs.Sessions.{live_after, without_grants, queue_after, begins, begins_of, commits_in};
 ghost use Rattle.call_contract.specs.Replays.{IsAskedTheSame};
-ghost use Rattle.call_contract.specs.Lives.{RepliesStand, WritesAreCovered, CommitsReplay, NoCellIsShared};
+ghost use Rattle.call_contract.specs.Lives.{RepliesStand, WritesAreCovered, CommitsReplay, NoCellIsShared, BarSomewhere};
 ghost use Rattle.call_contract.specs.Ends.{LeavesAllElse};
 ghost use Rattle.call_contract.specs.Deadlocks.{DeadlockIsTrue};
 
@@ -45,8 +42,8 @@ pub fn holding_is_the_join_of_grants()
 
 /// Where one owner covers a cell for reading and another one covers it for writing, both having asked in the form, the modes that they hold don't go together at some resource.
 pub fn shared_cells_are_barred()
-    ensures { (gs hs : List Request) (x : Cell) → HasForm gs → HasForm hs → reads gs x ≡ true → writes hs x ≡ true
-        → (r : Resource) × (is_barred (join_of hs r) (join_of gs r) ≡ true) }
+    ensures { (gs hs : List Request) (x : Cell) → HasForm gs → HasForm hs
+        → reads gs x ≡ true → writes hs x ≡ true → BarSomewhere hs gs }
 {}
 
 /// Every legal book is serial: its commits, made one after another by one thread on the opening's tree, give the replies that the book gave, and the committed tree.
@@ -70,10 +67,10 @@ pub fn commit_replays_others<C: TreeCall>()
 /// What a transaction's calls change leads from the tree that they are made on to the tree that it sees, and one more call's changes are laid over those before.
 /// So it is of each live one on the committed tree.
 pub fn changes_lead_to_what_is_seen<C: TreeCall>()
-    ensures calls { (cs : List (Answered C)) (t : Tree) → IsValidTree t → AllByRecursion (λ a. C.is_valid a.call) cs
-        → LeadTo (changes_of_calls C.meaning cs t) t (view C.meaning cs t) }
+    ensures calls { (cs : List (Answered C)) (t : Tree) → IsValidTree t
+        → AllByRecursion (λ a. C.is_valid a.call) cs → CallsLead C.meaning cs t }
     ensures one_more { (cs : List (Answered C)) (a : Answered C) (t : Tree)
-        → changes_of_calls C.meaning (cs ++ a ∷ []) t ≡ laid (changes_of C.meaning a.call (view C.meaning cs t)) (changes_of_calls C.meaning cs t) }
+        → changes_of_calls C.meaning (cs ++ a ∷ []) t ≡ changes_with_one_more C.meaning cs a t }
     ensures live { (st : State C) → IsReached C.is_valid C.meaning st → ChangesLead C.meaning st }
 {}
 
@@ -112,13 +109,14 @@ pub fn books_append<C: TreeCall>()
 
 /// What the book of a run tells of its sessions is so in the state after it: who is live, with which answered calls and waits, who waits in which order, and the counts.
 pub fn books_tell_of_sessions<C: TreeCall>()
-    ensures live { (t : Tree) (n limit : ℕ) (b : Book C) → IsRun C.meaning (start t n limit) b
-        → live_after [] b ≡ map without_grants (last C.meaning (start t n limit) b).live }
-    ensures queue { (t : Tree) (n limit : ℕ) (b : Book C) → IsRun C.meaning (start t n limit) b
-        → queue_after [] b ≡ (last C.meaning (start t n limit) b).waiting }
-    ensures begun { (t : Tree) (n limit : ℕ) (b : Book C) → IsRun C.meaning (start t n limit) b → begins b ≡ (last C.meaning (start t n limit) b).begun }
-    ensures ordinals { (t : Tree) (n limit : ℕ) (b : Book C) (s : ℕ) → IsRun C.meaning (start t n limit) b
-        → begins_of b s ≡ (last C.meaning (start t n limit) b).ordinals s }
-    ensures number { (t : Tree) (n limit : ℕ) (b : Book C) → IsRun C.meaning (start t n limit) b
-        → n + commits_in b ≡ (last C.meaning (start t n limit) b).number }
+    ensures live { (t : Tree) (n limit : ℕ) (b : Book C)
+        → IfRun C.meaning t n limit b (λ st. live_after [] b ≡ map without_grants st.live) }
+    ensures queue { (t : Tree) (n limit : ℕ) (b : Book C)
+        → IfRun C.meaning t n limit b (λ st. queue_after [] b ≡ st.waiting) }
+    ensures begun { (t : Tree) (n limit : ℕ) (b : Book C)
+        → IfRun C.meaning t n limit b (λ st. begins b ≡ st.begun) }
+    ensures ordinals { (t : Tree) (n limit : ℕ) (b : Book C) (s : ℕ)
+        → IfRun C.meaning t n limit b (λ st. begins_of b s ≡ st.ordinals s) }
+    ensures number { (t : Tree) (n limit : ℕ) (b : Book C)
+        → IfRun C.meaning t n limit b (λ st. n + commits_in b ≡ st.number) }
 {}
