@@ -1,7 +1,5 @@
 //! The laws, as the contract of a function that does nothing.
-ghost use Rattle.std.specs.Prelude.{◌≡◌, ℕ, suc, true, false, take};
-ghost use Rattle.tree_cells.specs.Cells.{Cell, value_at};
-ghost use Rattle.tree_cells.specs.Covers.{writes, Agree};
+ghost use Rattle.std.specs.Prelude.{◌≡◌, ℕ, suc, take};
 ghost use Rattle.tree_cells.specs.Forms.{AreRows, HasForm};
 ghost use Rattle.tree_changes.specs.ValidCalls.{IsValidCall};
 ghost use Rattle.tree_model.specs.DomCalls.{dom};
@@ -10,6 +8,7 @@ ghost use Rattle.tree_model.specs.ValidTrees.{IsValidTree};
 ghost use Rattle.tree_model.specs.declared.dom_call.DomCall.{DomCall};
 ghost use Rattle.lock_plans.specs.DomPlans.{requests};
 ghost use Rattle.call_contract.specs.Calls.{CallLaws};
+ghost use Rattle.dom_laws.specs.Agreement.{HaveSameRest, HaveSameWritten, IfTheyAgree};
 ghost use Rattle.dom_laws.specs.Meaning.{dom_meaning};
 
 /// The requests of every valid call are rows of the table of requests, each with its intentions before it, and so have their form. Trees that agree on what they cover for reading give the same reply, and have afterwards
@@ -18,14 +17,14 @@ ghost use Rattle.dom_laws.specs.Meaning.{dom_meaning};
 pub fn dom_calls_keep_the_laws()
     ensures rows { (c : DomCall) (t : Tree) → IsValidCall c → IsValidTree t → AreRows (requests c t) }
     ensures form { (c : DomCall) (t : Tree) → IsValidCall c → IsValidTree t → HasForm (requests c t) }
-    ensures same_reply { (c : DomCall) (t u : Tree) → IsValidCall c → IsValidTree t → IsValidTree u → Agree (requests c t) t u
-        → (dom c t).0 ≡ (dom c u).0 }
-    ensures same_written { (c : DomCall) (t u : Tree) → IsValidCall c → IsValidTree t → IsValidTree u → Agree (requests c t) t u
-        → (x : Cell) → writes (requests c t) x ≡ true → value_at (dom c t).1 x ≡ value_at (dom c u).1 x }
-    ensures keeps_rest { (c : DomCall) (t : Tree) → IsValidCall c → IsValidTree t → (x : Cell) → writes (requests c t) x ≡ false
-        → value_at (dom c t).1 x ≡ value_at t x }
-    ensures same_next { (c : DomCall) (t u : Tree) (k : ℕ) → IsValidCall c → IsValidTree t → IsValidTree u → Agree (take k (requests c t)) t u
-        → take (suc k) (requests c t) ≡ take (suc k) (requests c u) }
+    ensures same_reply { (c : DomCall) (t u : Tree)
+        → IfTheyAgree c t u (requests c t) ((dom c t).0 ≡ (dom c u).0) }
+    ensures same_written { (c : DomCall) (t u : Tree)
+        → IfTheyAgree c t u (requests c t) (HaveSameWritten (requests c t) (dom c t).1 (dom c u).1) }
+    ensures keeps_rest { (c : DomCall) (t : Tree) → IsValidCall c → IsValidTree t
+        → HaveSameRest (requests c t) (dom c t).1 t }
+    ensures same_next { (c : DomCall) (t u : Tree) (k : ℕ)
+        → IfTheyAgree c t u (take k (requests c t)) (take (suc k) (requests c t) ≡ take (suc k) (requests c u)) }
 {}
 
 /// So valid DOM calls meet the contract of calls: every legal book of such calls is serial.
