@@ -16,13 +16,13 @@ use Rattle.tree_model.proofs.Entries.{sorted_changed}
 use Rattle.node_seq.specs.ChangeLists.{IsChangeList}
 use Rattle.overlays.specs.Layered.{Layered}
 use Rattle.overlays.specs.Stretches.{is_in, is_covered, AreEmpty, AreWithin, IsOut}
-use Rattle.overlays.specs.Views.{contents_after}
+use Rattle.overlays.specs.Views.{AreEmptyIn, contents_after}
 use Rattle.overlays.specs.declared.gaps.Stretch.{Stretch}
 use Rattle.overlays.proofs.StretchLaws.{either, or_left, or_right, both_true, covered_more, uncovered_more, own_kept, commit_kept}
 use Rattle.tx_core.specs.declared.parts.Parts.{Parts}
 use Rattle.tx_core.specs.declared.parts.Passed.{Passed}
 use Rattle.tx_core.specs.declared.parts.Seat.{Seat}
-use Rattle.tx_core.specs.inside.Passed.{stretches_of, KeepFewer, AreEmptyIn, own_in, seen_at, ArePassed}
+use Rattle.tx_core.specs.inside.Passed.{stretches_of, KeepFewer, own_in, seen_at, ArePassed}
 use Rattle.tx_core.specs.inside.Standing.{seat_in}
 use Rattle.tx_core.proofs.Seats.{is_self}
 

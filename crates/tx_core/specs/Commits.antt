@@ -5,11 +5,14 @@ use Rattle.node_records.specs.Changes.{changes_bytes, changes_of as changes_read
 use Rattle.node_records.specs.declared.pending.Pending.{Pending}
 use Rattle.tree_model.specs.declared.change.Change.{Change}
 use Rattle.node_seq.specs.ChangeLists.{IsChangeList}
+use Rattle.call_contract.specs.Books.{entry}
 use Rattle.call_contract.specs.CallChanges.{changes_of_calls}
 use Rattle.call_contract.specs.Calls.{CallMeaning}
 use Rattle.call_contract.specs.Lives.{IsReplayed}
 use Rattle.call_contract.specs.States.{Live, State, of_session}
-use Rattle.tx_core.specs.Cores.{CoreView, next_number}
+use Rattle.call_contract.specs.declared.events.Event.TheVariants as event
+use Rattle.call_contract.specs.declared.events.EventAnswer.TheVariants as said
+use Rattle.tx_core.specs.Cores.{CoreView, next_number, with_entry, with_pending}
 
 -- a commit that is prepared: its number, and its body with the changes that it is read as
 pub record PreparedView : Type 0 where
@@ -48,6 +51,10 @@ pub record IsPrepared {C B : Type 0} (v : CoreView C B) (p : PreparedView) : Typ
 -- what is left of it to be made durable
 abbrev pub pending_of : PreparedView → Pending
 pending_of p = record { number = p.number; body = p.body }
+
+-- with the entry of a session's commit, answered with this number, and with what is left of it, which waits to be handed out
+abbrev pub with_commit_entry : {C B : Type 0} → CoreView C B → ℕ → ℕ → PreparedView → CoreView C B
+with_commit_entry v s n p = with_pending (with_entry v (entry s event.Commit (said.Number n))) (pending_of p)
 
 -- the changes are those of the session's transaction in this state
 abbrev pub HasChangesOf : {C : Type 0} → CallMeaning C → State C → ℕ → PreparedView → Type 0

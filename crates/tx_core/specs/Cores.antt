@@ -4,6 +4,7 @@ use Rattle.node_records.specs.Pending.{FollowOn}
 use Rattle.node_records.specs.declared.pending.Pending.{Pending}
 use Rattle.tree_model.specs.Entries.{Entries}
 use Rattle.tree_model.specs.Tree.{Tree}
+use Rattle.node_seq.specs.Trees.{StandsFor}
 use Rattle.call_contract.specs.Calls.{CallMeaning}
 use Rattle.call_contract.specs.States.{Live, State, start}
 use Rattle.call_contract.specs.Sessions.{commits_in}
@@ -60,6 +61,14 @@ with_committed v committed = record v { committed = committed }
 -- the state after its book, from the tree that it was opened over
 abbrev pub state_from : {C B : Type 0} → CallMeaning C → Tree → CoreView C B → State C
 state_from m t v = last m (start t v.number v.limit) v.book
+
+-- this holds of the state that the core's book has led to, where it was opened over the map of a tree
+abbrev pub InState : {C B : Type 0} → CallMeaning C → (B → Option Entries) → CoreView C B → (State C → Type 0) → Type 0
+InState m contents core Q = (t : Tree) → StandsFor (contents core.opening) t → Q (state_from m t core)
+
+-- and this of the states before and after a call of the core
+abbrev pub BeforeAndAfter : {C B : Type 0} → CallMeaning C → (B → Option Entries) → CoreView C B → CoreView C B → (State C → State C → Type 0) → Type 0
+BeforeAndAfter m contents old new Q = (t : Tree) → StandsFor (contents old.opening) t → Q (state_from m t old) (state_from m t new)
 
 -- the number that the next commit gets
 abbrev pub next_number : {C B : Type 0} → CoreView C B → ℕ

@@ -2,9 +2,7 @@
 use Rattle.std.specs.Prelude.{◌≡◌, ℕ, Bool, true, false, not, ◌&&◌, ◌||◌, List, Option, None, Some}
 use Rattle.std.specs.List.{list_any}
 use Rattle.std.specs.Str.{bytes_eq}
-use Rattle.tree_model.specs.Tree.{Tree}
 use Rattle.tree_model.specs.Entries.{Entries}
-use Rattle.node_seq.specs.Trees.{StandsFor}
 use Rattle.call_contract.specs.Books.{entry}
 use Rattle.call_contract.specs.Calls.{CallMeaning}
 use Rattle.call_contract.specs.States.{Live, Waiting, State, of_session}
@@ -19,7 +17,7 @@ use Rattle.lock_resources.specs.declared.request.Request.{Request}
 use Rattle.lock_table.specs.Asks.{join_with}
 use Rattle.lock_table.specs.Grants.{join_of}
 use Rattle.lock_table.specs.Resources.{same_resource}
-use Rattle.tx_core.specs.Cores.{CoreView, with_entry, over, state_from}
+use Rattle.tx_core.specs.Cores.{CoreView, with_entry, over, InState}
 
 abbrev pub same_ask : Ask → Ask → Bool
 same_ask a b = bytes_eq (ask_name a) (ask_name b)
@@ -67,4 +65,4 @@ pub record HasRetried {C B : Type 0} (m : CallMeaning C) (told : B → Option En
   pub noted : Bool
   pub may_be : IsNotedRetry a noted
   pub view : w ≡ over (with_retry v s a noted) w.base
-  pub step : (t : Tree) → StandsFor (told v.opening) t → IsRetried m (state_from m t v) s a noted
+  pub step : InState m told v (λ st. IsRetried m st s a noted)

@@ -4,12 +4,10 @@ ghost use Rattle.std.specs.Prelude.{◌≡◌, ◌≤◌, IsTrue, IfOk, IfSome, 
 ghost use Rattle.outside_traits.specs.Faults.{HasCause};
 ghost use Rattle.node_seq.specs.declared.node_read.SeqError.TheVariants.{DiskFault};
 ghost use Rattle.node_seq.specs.ChangeLists.{IsChangeList};
-ghost use Rattle.node_seq.specs.Trees.{OnTree};
-ghost use Rattle.overlays.specs.Views.{contents_after};
 ghost use Rattle.call_contract.specs.Calls.{OnlyAnswers, changes_of};
 ghost use Rattle.lock_table.specs.Tables.{Table, Answers, IsSame};
-ghost use Rattle.tx_core.specs.inside.Asking.{AreGranted, IsGot, IsCovered};
-ghost use Rattle.tx_core.specs.inside.Passed.{AreEmptyIn};
+ghost use Rattle.overlays.specs.Views.{AreEmptyIn, contents_seen};
+ghost use Rattle.tx_core.specs.inside.Asking.{AreGranted, IsGot, IsCovered, OnSeenTree};
 
 use crate::modes::has;
 use call_contract::TreeCall;
@@ -130,13 +128,13 @@ pub fn asked<'v, C: TreeCall, B: NodeRead>(
     gaps: &'v mut Gaps,
     call: &C,
 ) -> Result<Wanted, SeqError>
-    requires empty { AreEmptyIn gaps.old (contents_after own.now (contents_after layers.now.changes (B.contents base.old))) }
-    ensures value { OnTree (contents_after own.now (contents_after layers.now.changes (B.contents base.old))) result (λ t wanted.
-        wanted.requests ≡ C.meaning.requests call.now t) }
-    ensures known { OnTree (contents_after own.now (contents_after layers.now.changes (B.contents base.old))) result (λ t wanted.
-        IfSome wanted.reply (OnlyAnswers C.meaning call.now t)) }
+    requires empty { AreEmptyIn gaps.old (contents_seen own.now layers.now.changes (B.contents base.old)) }
+    ensures value { OnSeenTree own.now layers.now (B.contents base.old) result
+        (λ t wanted. wanted.requests ≡ C.meaning.requests call.now t) }
+    ensures known { OnSeenTree own.now layers.now (B.contents base.old) result
+        (λ t wanted. IfSome wanted.reply (OnlyAnswers C.meaning call.now t)) }
     ensures valid { C.is_valid call.now }
-    ensures empty { AreEmptyIn gaps.new (contents_after own.now (contents_after layers.now.changes (B.contents base.new))) }
+    ensures empty { AreEmptyIn gaps.new (contents_seen own.now layers.now.changes (B.contents base.new)) }
     ensures unchanged { B.unchanged base.old base.new }
     ensures cause { HasCause DiskFault (B.count base.old) (B.count base.new) result }
 {
@@ -167,14 +165,14 @@ pub fn made<'v, C: TreeCall, B: NodeRead>(
     gaps: &'v mut Gaps,
     call: &C,
 ) -> Result<Outcome, SeqError>
-    requires empty { AreEmptyIn gaps.old (contents_after own.now (contents_after layers.now.changes (B.contents base.old))) }
-    ensures reply { OnTree (contents_after own.now (contents_after layers.now.changes (B.contents base.old))) result (λ t made.
-        made.reply ≡ C.meaning.reply call.now t) }
-    ensures changes { OnTree (contents_after own.now (contents_after layers.now.changes (B.contents base.old))) result (λ t made.
-        made.changes ≡ changes_of C.meaning call.now t) }
+    requires empty { AreEmptyIn gaps.old (contents_seen own.now layers.now.changes (B.contents base.old)) }
+    ensures reply { OnSeenTree own.now layers.now (B.contents base.old) result
+        (λ t made. made.reply ≡ C.meaning.reply call.now t) }
+    ensures changes { OnSeenTree own.now layers.now (B.contents base.old) result
+        (λ t made. made.changes ≡ changes_of C.meaning call.now t) }
     ensures rise { IfOk result (λ made. IsChangeList made.changes) }
     ensures valid { C.is_valid call.now }
-    ensures empty { AreEmptyIn gaps.new (contents_after own.now (contents_after layers.now.changes (B.contents base.new))) }
+    ensures empty { AreEmptyIn gaps.new (contents_seen own.now layers.now.changes (B.contents base.new)) }
     ensures unchanged { B.unchanged base.old base.new }
     ensures cause { HasCause DiskFault (B.count base.old) (B.count base.new) result }
 {

@@ -4,7 +4,6 @@ ghost use Rattle.std.specs.Prelude.{◌≡◌, ℕ, ◌+◌, ◌≤◌, ◌<◌,
 ghost use Rattle.std.specs.Ordering.{nat_cmp};
 ghost use Rattle.std.specs.BTreeMap.{get};
 ghost use Rattle.node_seq.specs.ChangeLists.{IsChangeList};
-ghost use Rattle.call_contract.specs.States.{State, Live, of_session};
 ghost use Rattle.tx_core.specs.inside.Committing.{commit_refused};
 ghost use Rattle.tx_core.specs.inside.Asking.{granted_in, IsInside};
 ghost use Rattle.tx_core.specs.inside.Known.{IsKnown, seen_by};
@@ -15,8 +14,8 @@ ghost use Rattle.call_contract.specs.Sessions.{live_in};
 ghost use Rattle.tx_core.specs.Refusals.{shown_call_refusal, refused_call};
 ghost use Rattle.tx_core.specs.declared.errors.CallError.TheVariants as call_error;
 ghost use Rattle.tx_core.specs.inside.Sessions.{HasRoom, IsSeated, IsSeatedAs, wait_in};
-ghost use Rattle.tx_core.specs.inside.Standing.{Stands, seat_in, ordinal_in};
-ghost use Rattle.tx_core.specs.inside.Goes.{Stays, Goes, Reaches, IsAsked, IsMade, IsAccepted, IsAnswered, IsLeft, IsSettled, IsUnanswered, call_entry};
+ghost use Rattle.tx_core.specs.inside.Standing.{OfState, KeepsState, seat_in, ordinal_in};
+ghost use Rattle.tx_core.specs.inside.Goes.{Stays, Goes, ReachesFrom, IsAsked, IsMade, IsAccepted, IsAnswered, IsLeft, IsSettled, IsUnanswered, call_entry};
 
 use crate::asking::{Got, Outcome, Wanted, ask_all, asked, made};
 use crate::ends::{make_room, note, stop_waiting};
@@ -42,8 +41,8 @@ pub fn requests_of<C: TreeCall + Drop, B: NodeRead>(
 ) -> Result<Wanted, SeqError>
     requires ready { wait_in (get nat_cmp parts.old.places session) ≡ Some None }
     requires passed { ArePassed B.contents parts.old }
-    ensures value { IfOk result (λ wanted. (st : State C) → Stands C.is_valid C.meaning B.contents parts.old st
-        → IsAsked C.meaning st session call.now wanted.requests) }
+    ensures value { IfOk result (λ wanted. OfState C.is_valid C.meaning B.contents parts.old
+        (λ st. IsAsked C.meaning st session call.now wanted.requests)) }
     ensures known { IfOk result (λ wanted. IsKnown C.is_valid C.meaning (seen_by B.contents parts.new session) call.now wanted.reply) }
     ensures valid { C.is_valid call.now }
     ensures stays { Stays C.is_valid C.meaning B.contents parts.old parts.new }
@@ -75,8 +74,8 @@ pub fn outcome_of<C: TreeCall + Drop, B: NodeRead>(
     requires seated { IsSome (seat_in (get nat_cmp parts.old.places session)) }
     requires known { IsKnown C.is_valid C.meaning (seen_by B.contents parts.old session) call.now known }
     requires passed { ArePassed B.contents parts.old }
-    ensures value { IfOk result (λ outcome. (st : State C) → Stands C.is_valid C.meaning B.contents parts.old st
-        → IsMade C.meaning st session call.now outcome) }
+    ensures value { IfOk result (λ outcome. OfState C.is_valid C.meaning B.contents parts.old
+        (λ st. IsMade C.meaning st session call.now outcome)) }
     ensures rise { IfOk result (λ outcome. IsChangeList outcome.changes) }
     ensures valid { C.is_valid call.now }
     ensures stays { Stays C.is_valid C.meaning B.contents parts.old parts.new }
@@ -108,12 +107,12 @@ pub fn ask_in_turn<C: TreeCall + Drop, B: NodeRead>(
     session: u32,
     requests: &[Request],
 ) -> Got
-    ensures got { (st : State C) (t : Live C) → Stands C.is_valid C.meaning B.contents parts.old st → of_session session st.live ≡ Some t
-        → Reaches C.is_valid C.meaning B.contents st t requests.now parts.new result }
+    ensures got { ReachesFrom C.is_valid C.meaning B.contents parts.old session requests.now result
+        parts.new }
     ensures within { granted_in requests.now result ≤ length requests.now }
     ensures inside { IsInside requests.now result }
-    ensures untouched { granted_in requests.now result ≡ 0 → (st : State C) → Stands C.is_valid C.meaning B.contents parts.old st
-        → Stands C.is_valid C.meaning B.contents parts.new st }
+    ensures untouched { granted_in requests.now result ≡ 0
+        → KeepsState C.is_valid C.meaning B.contents parts.old parts.new }
     ensures same { parts.new ≡ record parts.old { table = parts.new.table } }
 {
     ask_all(alloc, &mut parts.table, session, requests)

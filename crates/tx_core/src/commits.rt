@@ -6,18 +6,17 @@ ghost use Rattle.std.specs.BTreeMap.{get};
 ghost use Rattle.node_records.specs.Changes.{changes_bytes, changes_of as changes_read};
 ghost use Rattle.overlays.specs.Layered.{deletions_in};
 ghost use Rattle.tree_model.specs.Entries.{changed};
-ghost use Rattle.tree_model.specs.Tree.{map_of};
-ghost use Rattle.call_contract.specs.States.{State, without};
 ghost use Rattle.call_contract.specs.Books.{entry as entry_of};
 ghost use Rattle.call_contract.specs.declared.events.Event.TheVariants as event;
 ghost use Rattle.call_contract.specs.declared.events.EventAnswer.TheVariants as said;
 ghost use Rattle.tx_core.specs.declared.errors.SessionError.TheVariants as error;
 ghost use Rattle.tx_core.specs.Commits.{body_limit, HasChangesOf, IsPastLimitIn};
 ghost use Rattle.tx_core.specs.Refusals.{shown_prepare_refusal};
-ghost use Rattle.tx_core.specs.inside.Committing.{IsReady, IsBodyOf, HasBody, HasTooMuch, commit_refused, IsCommit, GoesOn};
+ghost use Rattle.tx_core.specs.inside.Committing.{IsReady, IsBodyOf, HasBody, HasTooMuch, commit_refused, IsCommit, GoesOn, StandsOver};
+ghost use Rattle.tx_core.specs.inside.Kept.{WaitAsBefore};
 ghost use Rattle.tx_core.specs.inside.Passed.{ArePassed};
 ghost use Rattle.tx_core.specs.inside.Sessions.{IsSeated, IsSeatedFor};
-ghost use Rattle.tx_core.specs.inside.Standing.{Stands, seat_in, ordinal_in};
+ghost use Rattle.tx_core.specs.inside.Standing.{OfState, KeepsState, seat_in};
 
 use crate::SessionError;
 use crate::ends::{note, stop_waiting};
@@ -157,21 +156,22 @@ pub fn prepare<C: TreeCall + Drop, B: NodeRead>(
 ) -> Result<Prepared, SessionError>
     requires { IsReady (seat_in (get nat_cmp parts.old.places session)) → parts.old.number < 4294967295 }
     ensures commit { IfOk result (IsCommit (parts.old.number + 1)) }
-    ensures changes { IfOk result (λ prepared. (st : State C) → Stands C.is_valid C.meaning B.contents parts.old st
-        → HasChangesOf C.meaning st session prepared) }
+    ensures changes { IfOk result (λ prepared. OfState C.is_valid C.meaning B.contents parts.old
+        (λ st. HasChangesOf C.meaning st session prepared)) }
     ensures prepared { OnOk result (parts.new.prepared ≡ Some session) }
     ensures spare { OnOk result (1 ≤ parts.new.layers.spare) }
     ensures bodies { OnOk result (length bodies.new.waiting.items < vec_capacity bodies.new.waiting) }
-    ensures kept { (bodies.new.waiting.items ≡ bodies.old.waiting.items) × (bodies.new.after ≡ bodies.old.after)
-        × (vec_capacity bodies.old.waiting ≤ vec_capacity bodies.new.waiting) }
+    ensures kept { WaitAsBefore bodies.old bodies.new }
     ensures layers { parts.new.layers.changes ≡ parts.old.layers.changes }
     ensures ready { OnOk result (IsReady (seat_in (get nat_cmp parts.new.places session))) }
     ensures refused { shown_prepare_refusal result ≡ commit_refused (seat_in (get nat_cmp parts.old.places session)) }
-    ensures limit { result ≡ Err error.CommitLimit → (st : State C) → Stands C.is_valid C.meaning B.contents parts.old st → IsPastLimitIn C.meaning st session }
+    ensures limit { result ≡ Err error.CommitLimit
+        → OfState C.is_valid C.meaning B.contents parts.old
+        (λ st. IsPastLimitIn C.meaning st session) }
     ensures err { OnErr result ((parts.new.prepared ≡ parts.old.prepared) × (parts.new.layers.spare ≡ parts.old.layers.spare)) }
     ensures same { parts.new ≡ record parts.old { places = parts.new.places; layers = parts.new.layers; prepared = parts.new.prepared } }
     ensures places { parts.new.places.entries ≡ parts.old.places.entries }
-    ensures state { (st : State C) → Stands C.is_valid C.meaning B.contents parts.old st → Stands C.is_valid C.meaning B.contents parts.new st }
+    ensures state { KeepsState C.is_valid C.meaning B.contents parts.old parts.new }
 {
     let body = body_at(alloc, &mut parts.places, session)?;
     if bodies.make_room().is_err() || parts.layers.reserve_layer(alloc).is_err() {
@@ -248,8 +248,7 @@ pub fn rebase<C: TreeCall + Drop, B: NodeRead>(alloc: Global, parts: &mut Parts<
     ensures layers { parts.new.layers ≡ record { changes = []; deletions = 0; spare = 1 } }
     ensures passed { ArePassed B.contents parts.new }
     ensures same { parts.new ≡ record parts.old { base = base; layers = parts.new.layers; passed = parts.new.passed } }
-    ensures state { (st : State C) → Stands C.is_valid C.meaning B.contents parts.old st → B.contents base ≡ Some (map_of st.tree)
-        → Stands C.is_valid C.meaning B.contents parts.new st }
+    ensures state { StandsOver C.is_valid C.meaning B.contents parts.old base parts.new }
 {
     parts.layers = Layers::new(alloc);
     parts.passed = Vec::new(alloc);

@@ -6,8 +6,8 @@ ghost use Rattle.tree_model.specs.Entries.{Sorted, put};
 ghost use Rattle.tree_model.specs.Tree.{map_of};
 ghost use Rattle.node_seq.specs.declared.node_read.SeqError.TheVariants.{DiskFault};
 ghost use Rattle.node_seq.specs.Trees.{OnTree};
-ghost use Rattle.overlays.specs.Views.{contents_after};
-ghost use Rattle.tx_core.specs.inside.Passed.{AreEmptyIn};
+ghost use Rattle.overlays.specs.Views.{AreEmptyIn, contents_after, contents_seen};
+ghost use Rattle.tx_core.specs.inside.Asking.{OnSeenTree};
 
 use crate::parts::Parts;
 use call_contract::TreeCall;
@@ -57,8 +57,9 @@ fn copy_view<'v, B: NodeRead>(
     own: &'v Overlay,
     gaps: &'v mut Gaps,
 ) -> Result<SortedSeq, SeqError>
-    requires empty { AreEmptyIn gaps.old (contents_after own.now (contents_after layers.now.changes (B.contents base.old))) }
-    ensures tree { OnTree (contents_after own.now (contents_after layers.now.changes (B.contents base.old))) result (λ t copy. copy ≡ map_of t) }
+    requires empty { AreEmptyIn gaps.old (contents_seen own.now layers.now.changes (B.contents base.old)) }
+    ensures tree { OnSeenTree own.now layers.now (B.contents base.old) result
+        (λ t copy. copy ≡ map_of t) }
     ensures unchanged { B.unchanged base.old base.new }
     ensures cause { HasCause DiskFault (B.count base.old) (B.count base.new) result }
 {

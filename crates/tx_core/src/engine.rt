@@ -14,8 +14,8 @@ ghost use Rattle.call_contract.specs.Sessions.{live_in, begins_of, commits_in, q
 ghost use Rattle.call_contract.specs.declared.events.Event.TheVariants as event;
 ghost use Rattle.call_contract.specs.declared.events.EventAnswer.TheVariants as said;
 ghost use Rattle.node_records.specs.Pending.{FollowOn};
-ghost use Rattle.tx_core.specs.Commits.{IsPrepared, HasChangesOf, IsPastLimitIn, ReplaysOthers, pending_of};
-ghost use Rattle.tx_core.specs.Cores.{opened_over, with_entry, with_committed, with_pending, drained, over, HasFewMore, state_from, next_number, waits_in, IsLeftBy, IsGivenUpBy, IsUndrained};
+ghost use Rattle.tx_core.specs.Commits.{IsPrepared, HasChangesOf, IsPastLimitIn, ReplaysOthers, with_commit_entry};
+ghost use Rattle.tx_core.specs.Cores.{opened_over, with_entry, with_committed, drained, over, HasFewMore, InState, BeforeAndAfter, next_number, waits_in, IsLeftBy, IsGivenUpBy, IsUndrained};
 ghost use Rattle.tx_core.specs.Queues.{HasQueue};
 ghost use Rattle.tx_core.specs.Refusals.{begin_refused, call_refused, abort_refused, shown_refusal, shown_prepare_refusal, shown_call_refusal};
 ghost use Rattle.tx_core.specs.Retries.{HasRetried};
@@ -146,8 +146,8 @@ impl<C: TreeCall + Drop, B: NodeRead + Drop> Core<C, B> {
         ensures refused { shown_call_refusal result ≡ call_refused self.old session }
         ensures unchanged { B.unchanged self.old.base self.new.base }
         ensures cause { HasCause CallError.DiskFault (B.count self.old.base) (B.count self.new.base) result }
-        ensures deadlock { (t : Tree) → StandsFor (B.contents self.old.opening) t
-            → ShowsCycle C.meaning (state_from C.meaning t self.old) (state_from C.meaning t self.new) session (event.Call call) result }
+        ensures deadlock { BeforeAndAfter C.meaning B.contents self.old self.new
+            (λ before after. ShowsCycle C.meaning before after session (event.Call call) result) }
     {
         attempt(alloc, &mut self.parts, session, call)
     }
@@ -160,8 +160,8 @@ impl<C: TreeCall + Drop, B: NodeRead + Drop> Core<C, B> {
         ensures refused { shown_call_refusal result ≡ None }
         ensures unchanged { B.unchanged self.old.base self.new.base }
         ensures cause { HasCause CallError.DiskFault (B.count self.old.base) (B.count self.new.base) result }
-        ensures deadlock { (t : Tree) → StandsFor (B.contents self.old.opening) t
-            → ShowsCycle C.meaning (state_from C.meaning t self.old) (state_from C.meaning t self.new) session event.Retry result }
+        ensures deadlock { BeforeAndAfter C.meaning B.contents self.old self.new
+            (λ before after. ShowsCycle C.meaning before after session event.Retry result) }
     {
         retry(alloc, &mut self.parts, session)
     }
@@ -170,12 +170,12 @@ impl<C: TreeCall + Drop, B: NodeRead + Drop> Core<C, B> {
     pub fn prepare(&mut self, alloc: Global, session: u32) -> Result<Prepared, SessionError>
         ensures ok { IfOk result (λ _. self.new ≡ record self.old { prepared = Some session }) }
         ensures commit { IfOk result (λ prepared. IsPrepared self.old prepared) }
-        ensures changes { IfOk result (λ prepared. (t : Tree) → StandsFor (B.contents self.old.opening) t
-            → HasChangesOf C.meaning (state_from C.meaning t self.old) session prepared) }
+        ensures changes { IfOk result (λ prepared. InState C.meaning B.contents self.old
+            (λ st. HasChangesOf C.meaning st session prepared)) }
         ensures err { OnErr result (self.new ≡ self.old) }
         ensures refused { shown_prepare_refusal result ≡ call_refused self.old session }
-        ensures limit { result ≡ Err SessionError.CommitLimit → (t : Tree) → StandsFor (B.contents self.old.opening) t
-            → IsPastLimitIn C.meaning (state_from C.meaning t self.old) session }
+        ensures limit { result ≡ Err SessionError.CommitLimit
+            → InState C.meaning B.contents self.old (λ st. IsPastLimitIn C.meaning st session) }
     {
         prepare(alloc, &mut self.parts, &mut self.bodies, session)
     }
@@ -188,9 +188,10 @@ impl<C: TreeCall + Drop, B: NodeRead + Drop> Core<C, B> {
         requires commit { IsPrepared self.old prepared }
         ensures number { result ≡ next_number self.old }
         ensures committed { self.new ≡ with_committed
-            (with_pending (with_entry self.old (entry_of session event.Commit (said.Number result))) (pending_of prepared)) self.new.committed }
-        ensures apart { (t : Tree) → StandsFor (B.contents self.old.opening) t → NoCellIsShared (state_from C.meaning t self.old) }
-        ensures others { (t : Tree) → StandsFor (B.contents self.old.opening) t → ReplaysOthers C.meaning (state_from C.meaning t self.old) session }
+            (with_commit_entry self.old session result prepared) self.new.committed }
+        ensures apart { InState C.meaning B.contents self.old NoCellIsShared }
+        ensures others { InState C.meaning B.contents self.old
+            (λ st. ReplaysOthers C.meaning st session) }
     {
         let Prepared { number, body } = prepared;
         self.bodies.keep(Pending { number, body });
@@ -214,8 +215,8 @@ impl<C: TreeCall + Drop, B: NodeRead + Drop> Core<C, B> {
     /// Ends a session's transaction, a waiting call with it. It takes no memory.
     pub fn abort(&mut self, session: u32) -> Result<(), SessionError>
         ensures ok { IfOk result (λ _. self.new ≡ with_entry self.old (entry_of session event.Abort said.Nothing)) }
-        ensures others { IfOk result (λ _. (t : Tree) → StandsFor (B.contents self.old.opening) t
-            → LeavesAllElse (state_from C.meaning t self.old) (state_from C.meaning t self.new) session) }
+        ensures others { IfOk result (λ _. BeforeAndAfter C.meaning B.contents self.old self.new
+            (λ before after. LeavesAllElse before after session)) }
         ensures err { OnErr result (self.new ≡ self.old) }
         ensures refused { shown_refusal result ≡ abort_refused self.old session }
         ensures memory { result ≢ Err SessionError.NoMemory }
@@ -225,7 +226,8 @@ impl<C: TreeCall + Drop, B: NodeRead + Drop> Core<C, B> {
 
     /// Goes on over another base that stands for the committed tree, and answers the old one.
     pub fn rebase(&mut self, alloc: Global, base: B) -> B
-        requires committed { (t : Tree) → StandsFor (B.contents self.old.opening) t → B.contents base ≡ Some (map_of (state_from C.meaning t self.old).tree) }
+        requires committed { InState C.meaning B.contents self.old
+            (λ st. B.contents base ≡ Some (map_of st.tree)) }
         requires later { B.count self.old.base ≤ B.count base }
         ensures old { result ≡ self.old.base }
         ensures same { self.new ≡ with_committed (over self.old base) self.new.committed }
@@ -235,7 +237,8 @@ impl<C: TreeCall + Drop, B: NodeRead + Drop> Core<C, B> {
 
     /// A copy of the committed map in memory. It reads the base once an entry, and a few times more where it passes deletions; it is no entry of the book.
     pub fn copy_committed(&mut self, alloc: Global) -> Result<SortedSeq, SeqError>
-        ensures map { IfOk result (λ map. (t : Tree) → StandsFor (B.contents self.old.opening) t → map ≡ map_of (state_from C.meaning t self.old).tree) }
+        ensures map { IfOk result (λ map.
+            InState C.meaning B.contents self.old (λ st. map ≡ map_of st.tree)) }
         ensures same { self.new ≡ over self.old self.new.base }
         ensures unchanged { B.unchanged self.old.base self.new.base }
         ensures cause { HasCause SeqError.DiskFault (B.count self.old.base) (B.count self.new.base) result }
@@ -298,8 +301,9 @@ impl<C: TreeCall + Drop, B: NodeRead + Drop> Core<C, B> {
         ensures queue { HasQueue self.now.book }
         ensures undrained { IsUndrained self.now }
         ensures book { (t : Tree) → StandsFor (B.contents self.now.opening) t → IsBookFrom C.is_valid C.meaning t self.now.number self.now.limit self.now.book }
-        ensures committed { (t : Tree) → StandsFor (B.contents self.now.opening) t → self.now.committed ≡ Some (map_of (state_from C.meaning t self.now).tree) }
-        ensures live { (t : Tree) → StandsFor (B.contents self.now.opening) t → LiveStand C.meaning (state_from C.meaning t self.now) }
+        ensures committed { InState C.meaning B.contents self.now
+            (λ st. self.now.committed ≡ Some (map_of st.tree)) }
+        ensures live { InState C.meaning B.contents self.now (LiveStand C.meaning) }
     {
         // The invariant is read off the parts.
         let _parts = &self.parts;

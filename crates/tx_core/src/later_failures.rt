@@ -3,13 +3,13 @@
 ghost use Rattle.std.specs.Prelude.{◌≡◌, ℕ, ◌+◌, ◌<◌, Some, None, Option, IsSome, cond, ◌==◌};
 ghost use Rattle.std.specs.Ordering.{nat_cmp};
 ghost use Rattle.std.specs.BTreeMap.{get};
-ghost use Rattle.call_contract.specs.States.{State, Live, of_session, without};
+ghost use Rattle.call_contract.specs.States.{without};
 ghost use Rattle.tx_core.specs.Cores.{count_told};
 ghost use Rattle.tx_core.specs.inside.Sessions.{IsSeated, IsSeatedAs, wait_in, call_error_of};
-ghost use Rattle.tx_core.specs.inside.Standing.{Stands, seat_in, ordinal_in};
+ghost use Rattle.tx_core.specs.inside.Standing.{MovesTo, seat_in, ordinal_in};
 ghost use Rattle.tx_core.specs.inside.Goes.{unqueued};
 ghost use Rattle.tx_core.specs.inside.Passed.{ArePassed};
-ghost use Rattle.tx_core.specs.inside.Retrying.{waiting_call, at_rest, IsFailedAgain};
+ghost use Rattle.tx_core.specs.inside.Retrying.{waiting_call, at_rest, IsLeftAgain};
 
 use crate::ends::{note, stop_waiting};
 use crate::errors::CallError;
@@ -22,8 +22,8 @@ use node_seq::{NodeRead, SeqError};
 /// A transaction's call waits no more.
 fn cease<C: TreeCall + Drop, B: NodeRead>(parts: &mut Parts<C, B>, session: u32)
     requires seated { IsSome (seat_in (get nat_cmp parts.old.places session)) }
-    ensures state { (st : State C) (t : Live C) → Stands C.is_valid C.meaning B.contents parts.old st → of_session session st.live ≡ Some t
-        → Stands C.is_valid C.meaning B.contents parts.new (unqueued (at_rest st t) session) }
+    ensures state { MovesTo C.is_valid C.meaning B.contents parts.old session
+        (λ st t. unqueued (at_rest st t) session) parts.new }
     ensures waits { (o : ℕ) → wait_in (get nat_cmp parts.new.places o) ≡ cond (session == o) (Some None) (wait_in (get nat_cmp parts.old.places o)) }
     ensures ordinals { (o : ℕ) → ordinal_in (get nat_cmp parts.new.places o) ≡ ordinal_in (get nat_cmp parts.old.places o) }
     ensures queue { parts.new.waiting.items ≡ without session parts.old.waiting.items }
@@ -70,7 +70,8 @@ pub fn fail_again<C: TreeCall + Drop, B: NodeRead>(
 ) -> CallError
     requires seated { IsSeated parts.old }
     requires waits { IsSome (waiting_call parts.old session) }
-    ensures failed { IsFailedAgain C.is_valid C.meaning B.contents parts.old session grants (count_told result (B.count parts.new.base)) parts.new }
+    ensures failed { IsLeftAgain C.is_valid C.meaning B.contents B.count parts.old session grants
+        result parts.new }
     ensures seated { IsSeatedAs parts.old parts.new }
     ensures base { parts.new.base ≡ parts.old.base }
     ensures error { result ≡ call_error_of error }

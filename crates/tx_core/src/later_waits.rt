@@ -2,12 +2,9 @@
 
 ghost use Rattle.std.specs.Prelude.{◌≡◌, ◌+◌, ◌<◌, false, Some, None, IfOk, OnErr, IsSome, ◌==◌};
 ghost use Rattle.wait_graph.specs.Graphs.{waits as waits_by, place as place_by, ClosesNone};
-ghost use Rattle.call_contract.specs.States.{State, Live, of_session};
-ghost use Rattle.call_contract.specs.Waits.{cycle_through};
 ghost use Rattle.tx_core.specs.Retries.{same_request};
 ghost use Rattle.tx_core.specs.inside.Sessions.{HasRoom, IsSeated, IsSeatedAs};
-ghost use Rattle.tx_core.specs.inside.Standing.{Stands};
-ghost use Rattle.tx_core.specs.inside.Goes.{Stays, with_wait};
+ghost use Rattle.tx_core.specs.inside.Goes.{Stays, AnyWaitWouldClose};
 ghost use Rattle.tx_core.specs.inside.Passed.{ArePassed};
 ghost use Rattle.tx_core.specs.inside.Retrying.{waiting_call, waits_for_it, WaitsAgain, IsClosedAgain, IsStoppedAgain};
 
@@ -55,8 +52,8 @@ fn wait_on<C: TreeCall + Drop, B: NodeRead>(
     requires room { HasRoom 1 parts.old }
     requires place { IsSome (place_by parts.old.graph session) }
     requires no_cycle { ClosesNone parts.old.graph session request.now parts.old.table }
-    requires alone { (st : State C) (t : Live C) (c : C) → Stands C.is_valid C.meaning B.contents parts.old st → of_session session st.live ≡ Some t
-        → cycle_through (with_wait st t c request.now).live session ≡ None }
+    requires alone { AnyWaitWouldClose C.is_valid C.meaning B.contents parts.old session
+        request.now None }
     ensures ok { IfOk result (λ a. WaitsAgain C.is_valid C.meaning B.contents parts.old session request.now holders more a parts.new) }
     ensures err { OnErr result (parts.new ≡ parts.old) }
     ensures seated { IsSeatedAs parts.old parts.new }
@@ -88,8 +85,8 @@ fn end_again<C: TreeCall + Drop, B: NodeRead>(
 ) -> Result<Answer, NoMemory>
     requires seated { IsSeated parts.old }
     requires waits { IsSome (waiting_call parts.old session) }
-    requires closes { (st : State C) (t : Live C) (c : C) → Stands C.is_valid C.meaning B.contents parts.old st → of_session session st.live ≡ Some t
-        → cycle_through (with_wait st t c request.now).live session ≡ Some cycle }
+    requires closes { AnyWaitWouldClose C.is_valid C.meaning B.contents parts.old session
+        request.now (Some cycle) }
     ensures ok { IfOk result (λ a. IsClosedAgain C.is_valid C.meaning B.contents parts.old session request.now a parts.new) }
     ensures err { OnErr result (parts.new ≡ parts.old) }
     ensures seated { IsSeatedAs parts.old parts.new }

@@ -1,13 +1,13 @@
 //! Where live transactions have found nothing, kept so that their next reads needn't pass it again.
 
-ghost use Rattle.std.specs.Prelude.{◌≡◌, ℕ, ◌==◌, ◌++◌, cond, true, false, IfSome, OnOk, OnErr};
+ghost use Rattle.std.specs.Prelude.{◌≡◌, ℕ, ◌==◌, true, false, IfSome, OnOk, OnErr};
 ghost use Rattle.std.specs.List.{AllByRecursion};
 ghost use Rattle.tree_model.specs.Entries.{Entries, Sorted, changed};
 ghost use Rattle.tree_model.specs.Changes.{laid};
 ghost use Rattle.tree_model.specs.declared.key.Key.{Key};
 ghost use Rattle.node_seq.specs.ChangeLists.{IsChangeList};
 ghost use Rattle.overlays.specs.Stretches.{is_covered, AreWithin, IsOut};
-ghost use Rattle.tx_core.specs.inside.Passed.{stretches_of, KeepFewer};
+ghost use Rattle.tx_core.specs.inside.Passed.{stretches_of, stretches_with, KeepFewer};
 
 use crate::parts::Passed;
 use dewey_labels::NoMemory;
@@ -54,7 +54,7 @@ pub fn take_passed(alloc: Global, passed: &mut Vec<Passed>, session: u32) -> Gap
 /// Keeps what a session's transaction has passed. Where there is no memory for that, its next reads pass it again.
 pub fn keep_passed(passed: &mut Vec<Passed>, session: u32, gaps: Gaps)
     ensures { (o : ℕ) → AreWithin (stretches_of passed.new.items o)
-        (cond (session == o) (gaps ++ stretches_of passed.old.items o) (stretches_of passed.old.items o)) }
+        (stretches_with passed.old.items session gaps o) }
 {
     if gaps.is_empty() {
         return;

@@ -1,23 +1,20 @@
 //! A further attempt of the call with which a session waits.
 
-ghost use Rattle.std.specs.Prelude.{◌≡◌, ℕ, ◌+◌, ◌≤◌, ◌<◌, not, [], ◌∷◌, ◌++◌, Some, None, Option, IfOk, IfErr, OnErr, IsSome, length, vec_capacity, option_copied};
+ghost use Rattle.std.specs.Prelude.{◌≡◌, ◌+◌, ◌≤◌, ◌<◌, not, [], ◌∷◌, ◌++◌, Some, None, Option, IfOk, IfErr, OnErr, IsSome, length, vec_capacity, option_copied};
 ghost use Rattle.std.specs.Ordering.{nat_cmp};
 ghost use Rattle.std.specs.BTreeMap.{get};
 ghost use Rattle.outside_traits.specs.Faults.{HasCause};
 ghost use Rattle.lock_table.specs.Tables.{held as held_by};
 ghost use Rattle.node_seq.specs.ChangeLists.{IsChangeList};
 ghost use Rattle.node_seq.specs.declared.node_read.SeqError.TheVariants as seq_error;
-ghost use Rattle.call_contract.specs.States.{State, Live, of_session};
-ghost use Rattle.call_contract.specs.Attempts.{asked as asked_of};
-ghost use Rattle.tx_core.specs.Cores.{count_told};
 ghost use Rattle.tx_core.specs.Refusals.{shown_call_refusal};
 ghost use Rattle.tx_core.specs.Retries.{has_mode};
 ghost use Rattle.tx_core.specs.inside.Asking.{granted_in, IsInside};
 ghost use Rattle.tx_core.specs.inside.Sessions.{HasRoom, IsSeated, IsSeatedAs};
-ghost use Rattle.tx_core.specs.inside.Standing.{Stands, seat_in};
-ghost use Rattle.tx_core.specs.inside.Goes.{Stays, Reaches, IsMade};
+ghost use Rattle.tx_core.specs.inside.Standing.{seat_in};
+ghost use Rattle.tx_core.specs.inside.Goes.{Stays, ReachesFrom};
 ghost use Rattle.tx_core.specs.inside.Passed.{ArePassed};
-ghost use Rattle.tx_core.specs.inside.Retrying.{call_at, call_in, waiting_call, first_at, retry_entry, failed_retry, GoesAgain, IsAgain, IsAnsweredAgain, IsFailedAgain, IsSettledAgain, AreAsked};
+ghost use Rattle.tx_core.specs.inside.Retrying.{call_at, call_in, waiting_call, OfWaiting, IfRetried, first_at, retry_entry, IsAgain, IsUnansweredAgain, IsAskedAgain, IsMadeAgain, IsAnsweredAgain, IsLeftAgain, IsSettledAgain, AreAsked};
 
 use crate::asking::{Got, Outcome, Wanted, ask_all, asked, made};
 use crate::attempts::{MOST_REQUESTS, accept};
@@ -70,8 +67,8 @@ fn requests_again<C: TreeCall + Drop, B: NodeRead>(
 ) -> Result<Wanted, SeqError>
     requires waits { IsSome (waiting_call parts.old session) }
     requires passed { ArePassed B.contents parts.old }
-    ensures value { IfOk result (λ wanted. (c : C) → waiting_call parts.old session ≡ Some c → (st : State C) (t : Live C)
-        → Stands C.is_valid C.meaning B.contents parts.old st → of_session session st.live ≡ Some t → wanted.requests ≡ asked_of C.meaning st t c) }
+    ensures value { IfOk result (λ wanted.
+        IsAskedAgain C.is_valid C.meaning B.contents parts.old session wanted.requests) }
     ensures stays { Stays C.is_valid C.meaning B.contents parts.old parts.new }
     ensures passed { ArePassed B.contents parts.new }
     ensures same { parts.new ≡ record parts.old { base = parts.new.base; passed = parts.new.passed } }
@@ -101,10 +98,10 @@ fn outcome_again<C: TreeCall + Drop, B: NodeRead>(
 ) -> Result<Outcome, SeqError>
     requires waits { IsSome (waiting_call parts.old session) }
     requires passed { ArePassed B.contents parts.old }
-    ensures value { IfOk result (λ outcome. (c : C) → waiting_call parts.old session ≡ Some c → (st : State C)
-        → Stands C.is_valid C.meaning B.contents parts.old st → IsMade C.meaning st session c outcome) }
+    ensures value { IfOk result (λ outcome.
+        IsMadeAgain C.is_valid C.meaning B.contents parts.old session outcome) }
     ensures rise { IfOk result (λ outcome. IsChangeList outcome.changes) }
-    ensures valid { (c : C) → waiting_call parts.old session ≡ Some c → C.is_valid c }
+    ensures valid { OfWaiting parts.old session C.is_valid }
     ensures stays { Stays C.is_valid C.meaning B.contents parts.old parts.new }
     ensures passed { ArePassed B.contents parts.new }
     ensures same { parts.new ≡ record parts.old { base = parts.new.base; passed = parts.new.passed } }
@@ -165,8 +162,8 @@ fn ask_again<C: TreeCall + Drop, B: NodeRead>(
     session: u32,
     requests: &[Request],
 ) -> Asked
-    ensures got { (st : State C) (t : Live C) → Stands C.is_valid C.meaning B.contents parts.old st → of_session session st.live ≡ Some t
-        → Reaches C.is_valid C.meaning B.contents st t requests.now parts.new result.got }
+    ensures got { ReachesFrom C.is_valid C.meaning B.contents parts.old session
+        requests.now result.got parts.new }
     ensures asked { AreAsked C.is_valid C.meaning B.contents parts.old session requests.now result.got result.more parts.new }
     ensures within { granted_in requests.now result.got ≤ length requests.now }
     ensures inside { IsInside requests.now result.got }
@@ -209,8 +206,8 @@ fn answer_again<C: TreeCall + Drop, B: NodeRead>(
     requires seated { IsSeated parts.old }
     requires waits { IsSome (waiting_call parts.old session) }
     requires passed { ArePassed B.contents parts.old }
-    ensures ok { IfOk result (λ a. (c : C) → waiting_call parts.old session ≡ Some c
-        → IsAnsweredAgain C.is_valid C.meaning B.contents parts.old session c a parts.new) }
+    ensures ok { IfRetried result parts.old session
+        (λ c a. IsAnsweredAgain C.is_valid C.meaning B.contents parts.old session c a parts.new) }
     ensures err { OnErr result (Stays C.is_valid C.meaning B.contents parts.old parts.new) }
     ensures seated { IsSeatedAs parts.old parts.new }
     ensures still { OnErr result (IsSome (waiting_call parts.new session)) }
@@ -243,10 +240,10 @@ fn settle_again<C: TreeCall + Drop, B: NodeRead>(
     requires fits { length requests.now ≤ 4_294_967_295 }
     requires within { granted_in requests.now got ≤ length requests.now }
     requires passed { ArePassed B.contents parts.old }
-    ensures ok { IfOk result (λ a. (c : C) → waiting_call parts.old session ≡ Some c
-        → IsSettledAgain C.is_valid C.meaning B.contents parts.old session c requests.now got more a parts.new) }
-    ensures err { IfErr result (λ e. IsFailedAgain C.is_valid C.meaning B.contents parts.old session (granted_in requests.now got)
-        (count_told e (B.count parts.new.base)) parts.new) }
+    ensures ok { IfRetried result parts.old session (λ c a. IsSettledAgain C.is_valid C.meaning
+        B.contents parts.old session c requests.now got more a parts.new) }
+    ensures err { IfErr result (λ e. IsLeftAgain C.is_valid C.meaning B.contents B.count
+        parts.old session (granted_in requests.now got) e parts.new) }
     ensures refused { shown_call_refusal result ≡ None }
     ensures seated { IsSeatedAs parts.old parts.new }
     ensures unchanged { B.unchanged parts.old.base parts.new.base }
@@ -283,10 +280,10 @@ fn retry_in_room<C: TreeCall + Drop, B: NodeRead>(
     requires waits { IsSome (waiting_call parts.old session) }
     requires room { HasRoom 1 parts.old }
     requires passed { ArePassed B.contents parts.old }
-    ensures ok { IfOk result (λ a. (c : C) → waiting_call parts.old session ≡ Some c
-        → IsAgain C.is_valid C.meaning B.contents parts.old session c a parts.new) }
-    ensures err { IfErr result (λ e. (c : C) → waiting_call parts.old session ≡ Some c → (k : ℕ)
-        × GoesAgain C.is_valid C.meaning B.contents parts.old session c (failed_retry session k (count_told e (B.count parts.new.base))) parts.new) }
+    ensures ok { IfRetried result parts.old session
+        (λ c a. IsAgain C.is_valid C.meaning B.contents parts.old session c a parts.new) }
+    ensures err { IfErr result (λ e.
+        IsUnansweredAgain C.is_valid C.meaning B.contents B.count parts.old session e parts.new) }
     ensures refused { shown_call_refusal result ≡ None }
     ensures seated { IsSeatedAs parts.old parts.new }
     ensures unchanged { B.unchanged parts.old.base parts.new.base }
@@ -314,10 +311,10 @@ pub fn retry<C: TreeCall + Drop, B: NodeRead>(
     requires seated { IsSeated parts.old }
     requires waits { IsSome (waiting_call parts.old session) }
     requires passed { ArePassed B.contents parts.old }
-    ensures ok { IfOk result (λ a. (c : C) → waiting_call parts.old session ≡ Some c
-        → IsAgain C.is_valid C.meaning B.contents parts.old session c a parts.new) }
-    ensures err { IfErr result (λ e. (c : C) → waiting_call parts.old session ≡ Some c → (k : ℕ)
-        × GoesAgain C.is_valid C.meaning B.contents parts.old session c (failed_retry session k (count_told e (B.count parts.new.base))) parts.new) }
+    ensures ok { IfRetried result parts.old session
+        (λ c a. IsAgain C.is_valid C.meaning B.contents parts.old session c a parts.new) }
+    ensures err { IfErr result (λ e.
+        IsUnansweredAgain C.is_valid C.meaning B.contents B.count parts.old session e parts.new) }
     ensures refused { shown_call_refusal result ≡ None }
     ensures seated { IsSeatedAs parts.old parts.new }
     ensures unchanged { B.unchanged parts.old.base parts.new.base }

@@ -4,12 +4,10 @@ ghost use Rattle.std.specs.Prelude.{◌≡◌, ℕ, ◌+◌, ◌≤◌, ◌<◌,
 ghost use Rattle.std.specs.Ordering.{nat_cmp};
 ghost use Rattle.std.specs.BTreeMap.{get};
 ghost use Rattle.wait_graph.specs.Graphs.{place as place_by, ClosesNone, IsClosedCycle};
-ghost use Rattle.call_contract.specs.States.{State, Live, of_session};
-ghost use Rattle.call_contract.specs.Waits.{cycle_through};
 ghost use Rattle.tx_core.specs.inside.Passed.{ArePassed};
 ghost use Rattle.tx_core.specs.inside.Sessions.{HasRoom, IsSeated, IsSeatedAs, wait_in};
-ghost use Rattle.tx_core.specs.inside.Standing.{Stands};
-ghost use Rattle.tx_core.specs.inside.Goes.{Stays, IsClosed, IsPut, IsStopped, call_entry, shown_wait, with_wait};
+ghost use Rattle.tx_core.specs.inside.Standing.{MovesTo};
+ghost use Rattle.tx_core.specs.inside.Goes.{Stays, IsClosed, IsPut, IsStopped, WaitWouldClose, AnyWaitWouldClose, call_entry, shown_wait, with_wait, enqueued};
 
 use crate::ends::{note, stop_waiting};
 use crate::parts::{Parts, Seat};
@@ -28,8 +26,8 @@ pub fn cycle_of<C: TreeCall + Drop, B: NodeRead>(
     session: u32,
     request: &Request,
 ) -> Result<Option<List<u32>>, NoMemory>
-    ensures cycle { IfOk result (λ cycle. (st : State C) (t : Live C) (c : C) → Stands C.is_valid C.meaning B.contents parts.new st
-        → of_session session st.live ≡ Some t → cycle_through (with_wait st t c request.now).live session ≡ cycle) }
+    ensures cycle { IfOk result (λ cycle.
+        AnyWaitWouldClose C.is_valid C.meaning B.contents parts.new session request.now cycle) }
     ensures graph { IfOk result (IsClosedCycle parts.new.graph session request.now parts.new.table) }
     ensures place { OnOk result (IsSome (place_by parts.new.graph session)) }
     ensures room { OnOk result (length parts.new.waiting.items + 1 ≤ vec_capacity parts.new.waiting) }
@@ -59,8 +57,8 @@ fn set_waiting<C: TreeCall + Drop, B: NodeRead>(
     requires noted { (hs : List ℕ) × (noted ≡ shown_wait request hs) }
     requires place { IsSome (place_by parts.old.graph session) }
     requires no_cycle { ClosesNone parts.old.graph session request parts.old.table }
-    ensures state { (st : State C) (t : Live C) → Stands C.is_valid C.meaning B.contents parts.old st → of_session session st.live ≡ Some t
-        → Stands C.is_valid C.meaning B.contents parts.new (record (with_wait st t call request) { waiting = st.waiting ++ session ∷ [] }) }
+    ensures state { MovesTo C.is_valid C.meaning B.contents parts.old session
+        (λ st t. enqueued (with_wait st t call request) session) parts.new }
     ensures book { parts.new.book.items ≡ parts.old.book.items ++ call_entry session call noted ∷ [] }
     ensures prepared { parts.new.prepared ≡ None }
     ensures seated { IsSeatedAs parts.old parts.new }
@@ -149,8 +147,8 @@ fn wait_for<C: TreeCall + Drop, B: NodeRead>(
     requires book_room { HasRoom 2 parts.old }
     requires place { IsSome (place_by parts.old.graph session) }
     requires no_cycle { ClosesNone parts.old.graph session request.now parts.old.table }
-    requires alone { (st : State C) (t : Live C) → Stands C.is_valid C.meaning B.contents parts.old st → of_session session st.live ≡ Some t
-        → cycle_through (with_wait st t call request.now).live session ≡ None }
+    requires alone { WaitWouldClose C.is_valid C.meaning B.contents parts.old session
+        call request.now None }
     ensures ok { IfOk result (λ a. IsPut C.is_valid C.meaning B.contents parts.old session call request.now holders a parts.new) }
     ensures err { OnErr result (Stays C.is_valid C.meaning B.contents parts.old parts.new) }
     ensures call { IfErr result (λ e. e ≡ call) }
@@ -213,8 +211,8 @@ fn end_by_cycle<C: TreeCall + Drop, B: NodeRead>(
     requires seated { IsSeated parts.old }
     requires ready { wait_in (get nat_cmp parts.old.places session) ≡ Some None }
     requires room { HasRoom 2 parts.old }
-    requires closes { (st : State C) (t : Live C) → Stands C.is_valid C.meaning B.contents parts.old st → of_session session st.live ≡ Some t
-        → cycle_through (with_wait st t call request.now).live session ≡ Some cycle }
+    requires closes { WaitWouldClose C.is_valid C.meaning B.contents parts.old session
+        call request.now (Some cycle) }
     ensures ok { IfOk result (λ a. IsClosed C.is_valid C.meaning B.contents parts.old session call request.now a parts.new) }
     ensures err { OnErr result (Stays C.is_valid C.meaning B.contents parts.old parts.new) }
     ensures call { IfErr result (λ e. e ≡ call) }

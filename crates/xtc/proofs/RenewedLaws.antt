@@ -9,7 +9,7 @@ use Rattle.node_pages.specs.Cuts.{cut_of, data_of}
 use Rattle.node_pages.specs.PageFiles.{contents_of_file}
 use Rattle.checkpoint.specs.Bases.{contents_of}
 use Rattle.checkpoint.specs.Checkpoints.{OpenAs, made_of}
-use Rattle.checkpoint.specs.Renewals.{InState, IsSettledWith, IsUnbegun, committed_in, pages_of}
+use Rattle.checkpoint.specs.Renewals.{IsSettledWith, IsUnbegun, committed_in, pages_of}
 use Rattle.checkpoint.specs.declared.base.Base.{Base}
 use Rattle.checkpoint.specs.declared.made.Made.{Made}
 use Rattle.checkpoint.specs.declared.made.Made.TheVariants.{Yes, No}
@@ -17,7 +17,7 @@ use Rattle.checkpoint.specs.declared.renew_fault.RenewFault.{RenewFault}
 use Rattle.call_contract.specs.States.{State}
 use Rattle.command_lines.specs.declared.command.StoreCall.{StoreCall}
 use Rattle.store_calls.specs.StoreCalls.{store_meaning}
-use Rattle.tx_core.specs.Cores.{CoreView}
+use Rattle.tx_core.specs.Cores.{CoreView, InState}
 use Rattle.xtc.specs.Checkpoints.{is_made}
 use Rattle.xtc.specs.StoreMachine.{Stands, file_of}
 use Rattle.xtc.specs.inside.Renewing.{IsMadeAs, IsMadeWhere, LeftStanding, StandFor}

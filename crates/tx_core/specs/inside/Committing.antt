@@ -5,6 +5,7 @@ use Rattle.std.specs.BTreeMap.{get}
 use Rattle.node_records.specs.Changes.{changes_bytes, changes_of as changes_read}
 use Rattle.node_seq.specs.ChangeLists.{IsChangeList}
 use Rattle.tree_model.specs.Entries.{Entries}
+use Rattle.tree_model.specs.Tree.{map_of}
 use Rattle.tree_model.specs.declared.change.Change.{Change}
 use Rattle.call_contract.specs.Books.{next, IsAnswer, HasValidCall, IsReached}
 use Rattle.call_contract.specs.Calls.{CallMeaning}
@@ -16,7 +17,7 @@ use Rattle.tx_core.specs.declared.errors.SessionError.{SessionError}
 use Rattle.tx_core.specs.declared.errors.SessionError.TheVariants.{IsWaiting, NoTransaction}
 use Rattle.tx_core.specs.declared.parts.Parts.{Parts}
 use Rattle.tx_core.specs.declared.parts.Seat.{Seat}
-use Rattle.tx_core.specs.inside.Standing.{Stands, seat_in}
+use Rattle.tx_core.specs.inside.Standing.{Stands, OfState, seat_in}
 
 -- there is a transaction, and it doesn't wait
 abbrev pub IsReady : Option Seat → Type 0
@@ -64,3 +65,7 @@ module _ {C B : Type 0} (is_valid : C → Type 0) (m : CallMeaning C) (told : B 
     pub valid : HasValidCall is_valid n.event
     pub entry : (st : State C) → IsReached is_valid m st → Stands is_valid m told p st → IsAnswer n.answer (step m st n.session n.event)
     pub state : (st : State C) → IsReached is_valid m st → Stands is_valid m told p st → Stands is_valid m told q (next m st n)
+
+  -- whichever state p stands for, q stands for it over this base, where that has the state's committed map
+  abbrev pub StandsOver : Parts C B → B → Parts C B → Type 0
+  StandsOver p base q = OfState is_valid m told p (λ st. told base ≡ Some (map_of st.tree) → Stands is_valid m told q st)

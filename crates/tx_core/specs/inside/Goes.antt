@@ -1,4 +1,12 @@
--- How a call of the core moves its state.
+-- How a call of the core moves its state. What an attempt does, and the word that says it:
+--   it asks for its requests, which are granted up to one that is barred  Reaches
+--   it is granted all; what it changes is taken in, and it is answered    IsAccepted, IsAnswered
+--   it is barred, and waits where that closes no cycle                    IsPut
+--   it is barred, and is a deadlock where that closes one                 IsClosed
+--   either of these two; any of the three, as far as it was granted       IsStopped; IsSettled
+--   it is given up: its failure is noted, or nothing moved                IsFailed, Stays; IsLeft
+--   in all: its answer is an entry, or there is none, by why              Goes; IsUnanswered
+-- A retry's words stand in Retrying.antt, with "again" behind them; a commit's in Committing.antt.
 use Rattle.std.specs.Prelude.{◌≡◌, ◌⊎◌, ℕ, true, ◌||◌, nat_lt, List, [], ◌∷◌, ◌++◌, take, length, get_or, ◌<◌, nat_le, Option, Some, None, is_some}
 use Rattle.tree_model.specs.Entries.{Entries}
 use Rattle.tree_model.specs.declared.reply.Reply.{Reply}
@@ -20,7 +28,7 @@ use Rattle.tx_core.specs.declared.parts.Parts.{Parts}
 use Rattle.tx_core.specs.declared.asking.Outcome.{Outcome}
 use Rattle.tx_core.specs.declared.asking.Got.{Got}
 use Rattle.tx_core.specs.declared.asking.Got.TheVariants.{All, Barred, NoMemory}
-use Rattle.tx_core.specs.inside.Standing.{Stands}
+use Rattle.tx_core.specs.inside.Standing.{Stands, OfState, OfTransaction, KeepsState, MovesTo}
 
 -- ---- entries
 
@@ -50,16 +58,19 @@ with_answer st t c r = record st { live = put (record t { calls = t.calls ++ rec
 abbrev pub with_wait : {C : Type 0} → State C → Live C → C → Request → State C
 with_wait st t c g = record st { live = put (record t { waits = Some (record { call = c; request = g }) }) st.live }
 
--- a session that doesn't wait
+-- a session that doesn't wait, and one that stands last of those that do
 abbrev pub unqueued : {C : Type 0} → State C → ℕ → State C
 unqueued st s = record st { waiting = without s st.waiting }
+
+abbrev pub enqueued : {C : Type 0} → State C → ℕ → State C
+enqueued st s = record st { waiting = st.waiting ++ s ∷ [] }
 
 module _ {C B : Type 0} (is_valid : C → Type 0) (m : CallMeaning C) (told : B → Option Entries) where
   -- the state stays, and so do the book and what is prepared
   pub record Stays (p q : Parts C B) : Type 0 where
     pub book : q.book.items ≡ p.book.items
     pub prepared : q.prepared ≡ p.prepared
-    pub state : (st : State C) → Stands is_valid m told p st → Stands is_valid m told q st
+    pub state : KeepsState is_valid m told p q
 
   -- the book gains the machine's entry, nothing is prepared, and the core stands for the state after it
   pub record Goes (p : Parts C B) (n : Noted C) (q : Parts C B) : Type 0 where
@@ -83,10 +94,25 @@ module _ {C B : Type 0} (is_valid : C → Type 0) (m : CallMeaning C) (told : B 
     pub part : take k (free qs (others t.session st.live)) ≡ take k qs
     pub within : nat_le k (length (free qs (others t.session st.live))) ≡ true
 
+  -- these came so far when they were asked for, as the machine grants them, and the core stands for the state with those grants
   abbrev pub Reaches : State C → Live C → List Request → Parts C B → Got → Type 0
   Reaches st t qs u All = (free qs (others t.session st.live) ≡ qs) × (barred qs (others t.session st.live) ≡ None) × Stands is_valid m told u (with_grants st t qs)
   Reaches st t qs u (Barred k hs) = (q : Request) × IsFreeUpTo st t qs k q hs × Stands is_valid m told u (with_grants st t (take k qs))
   Reaches st t qs u (NoMemory k) = IsFreeFront st t qs k × Stands is_valid m told u (with_grants st t (take k qs))
+
+  -- so it is of each state that p stands for, where its session's transaction asks for these
+  abbrev pub ReachesFrom : Parts C B → ℕ → List Request → Got → Parts C B → Type 0
+  ReachesFrom p s qs got q = OfTransaction is_valid m told p s (λ st t. Reaches st t qs q got)
+
+  -- ---- the cycle that a wait would close
+
+  -- if the session waited for the request with this call, that would close this cycle, or none
+  abbrev pub WaitWouldClose : Parts C B → ℕ → C → Request → Option (List ℕ) → Type 0
+  WaitWouldClose p s c g cycle = OfTransaction is_valid m told p s (λ st t. cycle_through (with_wait st t c g).live s ≡ cycle)
+
+  -- and so it is whichever call it waits with
+  abbrev pub AnyWaitWouldClose : Parts C B → ℕ → Request → Option (List ℕ) → Type 0
+  AnyWaitWouldClose p s g cycle = (st : State C) (t : Live C) (c : C) → Stands is_valid m told p st → of_session s st.live ≡ Some t → cycle_through (with_wait st t c g).live s ≡ cycle
 
   -- ---- what each part of an attempt comes to
 
@@ -101,16 +127,16 @@ module _ {C B : Type 0} (is_valid : C → Type 0) (m : CallMeaning C) (told : B 
     pub prepared : q.prepared ≡ None
     pub reply : Reply
     pub is : a ≡ answer.Answered reply
-    pub means : (st : State C) (t : Live C) → Stands is_valid m told p st → of_session s st.live ≡ Some t → reply ≡ m.reply c (view m t.calls st.tree)
-    pub state : (st : State C) (t : Live C) → Stands is_valid m told p st → of_session s st.live ≡ Some t → Stands is_valid m told q (unqueued (with_answer st t c reply) s)
+    pub means : OfTransaction is_valid m told p s (λ st t. reply ≡ m.reply c (view m t.calls st.tree))
+    pub state : MovesTo is_valid m told p s (λ st t. unqueued (with_answer st t c reply) s) q
 
   -- the transaction waits, and no session waits for itself by it
   pub record IsPut (p : Parts C B) (s : ℕ) (c : C) (g : Request) (hs : List ℕ) (a : Answer) (q : Parts C B) : Type 0 where
     pub book : q.book.items ≡ p.book.items ++ call_entry s c a ∷ []
     pub prepared : q.prepared ≡ None
     pub is : a ≡ shown_wait g hs
-    pub alone : (st : State C) (t : Live C) → Stands is_valid m told p st → of_session s st.live ≡ Some t → cycle_through (with_wait st t c g).live s ≡ None
-    pub state : (st : State C) (t : Live C) → Stands is_valid m told p st → of_session s st.live ≡ Some t → Stands is_valid m told q (record (with_wait st t c g) { waiting = st.waiting ++ s ∷ [] })
+    pub alone : WaitWouldClose p s c g None
+    pub state : MovesTo is_valid m told p s (λ st t. enqueued (with_wait st t c g) s) q
 
   -- waiting would close this cycle, and the transaction is ended
   pub record IsClosed (p : Parts C B) (s : ℕ) (c : C) (g : Request) (a : Answer) (q : Parts C B) : Type 0 where
@@ -118,8 +144,8 @@ module _ {C B : Type 0} (is_valid : C → Type 0) (m : CallMeaning C) (told : B 
     pub prepared : q.prepared ≡ None
     pub cycle : List ℕ
     pub is : a ≡ answer.Deadlock cycle
-    pub closes : (st : State C) (t : Live C) → Stands is_valid m told p st → of_session s st.live ≡ Some t → cycle_through (with_wait st t c g).live s ≡ Some cycle
-    pub state : (st : State C) → Stands is_valid m told p st → Stands is_valid m told q (ended st s)
+    pub closes : WaitWouldClose p s c g (Some cycle)
+    pub state : OfState is_valid m told p (λ st. Stands is_valid m told q (ended st s))
 
   -- a call that is barred waits, or is a deadlock
   abbrev pub IsStopped : Parts C B → ℕ → C → Request → List ℕ → Answer → Parts C B → Type 0
@@ -130,7 +156,7 @@ module _ {C B : Type 0} (is_valid : C → Type 0) (m : CallMeaning C) (told : B 
     pub book : q.book.items ≡ p.book.items ++ fail_entry s c k f ∷ []
     pub prepared : q.prepared ≡ None
     pub some : (is_some f || nat_lt 0 k) ≡ true
-    pub state : (st : State C) → Stands is_valid m told p st → Stands is_valid m told q (unqueued st s)
+    pub state : OfState is_valid m told p (λ st. Stands is_valid m told q (unqueued st s))
 
   -- what a settled attempt is answered
   abbrev pub IsSettled : Parts C B → ℕ → C → List Request → Got → Answer → Parts C B → Type 0

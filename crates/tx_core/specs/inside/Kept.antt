@@ -24,6 +24,10 @@ pub record CountsFaults {C B : Type 0} (count : B → ℕ) (opening : B) (p : Pa
 abbrev pub undrained_of : Bodies → Undrained
 undrained_of b = record { after = b.after; waiting = b.waiting.items }
 
+-- the same commits wait, behind the same one that was handed out, and there is no less room for more
+abbrev pub WaitAsBefore : Bodies → Bodies → Type 0
+WaitAsBefore old new = (new.waiting.items ≡ old.waiting.items) × (new.after ≡ old.after) × (vec_capacity old.waiting ≤ vec_capacity new.waiting)
+
 -- they are the last ones of the book, and there is room for the one that is prepared
 pub record KeepsBodies {C : Type 0} (number : ℕ) (book : Book C) (prepared : Option ℕ) (b : Bodies) : Type 0 where
   pub opened : number ≤ b.after

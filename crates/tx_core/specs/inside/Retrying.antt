@@ -1,13 +1,13 @@
 -- How a retry moves the core.
-use Rattle.std.specs.Prelude.{◌≡◌, ◌⊎◌, ℕ, zero, suc, Bool, true, false, not, ◌||◌, List, [], ◌∷◌, ◌++◌, take, get_or, Option, Some, None, if◌then◌else◌}
+use Rattle.std.specs.Prelude.{◌≡◌, ◌⊎◌, ℕ, zero, suc, Bool, true, false, not, ◌||◌, List, [], ◌∷◌, ◌++◌, take, get_or, Option, Some, None, if◌then◌else◌, Result, IfOk}
 use Rattle.std.specs.Ordering.{nat_cmp}
 use Rattle.std.specs.BTreeMap.{get}
 use Rattle.tree_model.specs.Entries.{Entries}
 use Rattle.tree_model.specs.declared.reply.Reply.{Reply}
 use Rattle.lock_resources.specs.declared.request.Request.{Request}
 use Rattle.call_contract.specs.Calls.{CallMeaning}
+use Rattle.call_contract.specs.Attempts.{asked}
 use Rattle.call_contract.specs.States.{Waiting, Live, State, view, of_session, put, ended}
-use Rattle.call_contract.specs.Waits.{cycle_through}
 use Rattle.call_contract.specs.Steps.{step}
 use Rattle.call_contract.specs.Books.{Book, next, IsAnswer, entry}
 use Rattle.call_contract.specs.declared.events.Event.{Event}
@@ -16,13 +16,16 @@ use Rattle.call_contract.specs.declared.events.EventAnswer.TheVariants as said
 use Rattle.call_contract.specs.declared.events.Answer.{Answer}
 use Rattle.call_contract.specs.declared.events.Answer.TheVariants as answer
 use Rattle.call_contract.specs.declared.events.Noted.{Noted}
+use Rattle.tx_core.specs.Cores.{count_told}
 use Rattle.tx_core.specs.Retries.{IsRetried, IsNotedRetry, hold_more, same_request}
+use Rattle.tx_core.specs.declared.errors.CallError.{CallError}
 use Rattle.tx_core.specs.declared.parts.Parts.{Parts}
 use Rattle.tx_core.specs.declared.parts.Seat.{Seat}
+use Rattle.tx_core.specs.declared.asking.Outcome.{Outcome}
 use Rattle.tx_core.specs.declared.asking.Got.{Got}
 use Rattle.tx_core.specs.declared.asking.Got.TheVariants.{All, Barred, NoMemory}
-use Rattle.tx_core.specs.inside.Goes.{shown_wait, with_answer, with_wait, unqueued}
-use Rattle.tx_core.specs.inside.Standing.{Stands, seat_in}
+use Rattle.tx_core.specs.inside.Goes.{shown_wait, with_answer, with_wait, unqueued, AnyWaitWouldClose, IsMade}
+use Rattle.tx_core.specs.inside.Standing.{Stands, OfState, OfTransaction, KeepsState, MovesTo, seat_in}
 
 -- ---- the call that waits, as the book has it
 
@@ -47,6 +50,14 @@ call_in book (Some seat) = call_by book seat.waiting
 -- the call with which a session waits
 abbrev pub waiting_call : {C B : Type 0} → Parts C B → ℕ → Option C
 waiting_call p s = call_in p.book.items (seat_in (get nat_cmp p.places s))
+
+-- this holds of it
+abbrev pub OfWaiting : {C B : Type 0} → Parts C B → ℕ → (C → Type 0) → Type 0
+OfWaiting {C = C} p s Q = (c : C) → waiting_call p s ≡ Some c → Q c
+
+-- where its retry is answered, this holds of it and of the answer
+abbrev pub IfRetried : {A C B E : Type 0} → Result A E → Parts C B → ℕ → (C → A → Type 0) → Type 0
+IfRetried result p s Q = IfOk result (λ a. OfWaiting p s (λ c. Q c a))
 
 -- the session waits with this call in this state
 pub record IsWaitingWith {C : Type 0} (st : State C) (s : ℕ) (c : C) : Type 0 where
@@ -116,7 +127,19 @@ module _ {C B : Type 0} (is_valid : C → Type 0) (m : CallMeaning C) (told : B 
     pub moved : HasMoved p s c a noted q
     pub step : (st : State C) → Stands is_valid m told p st → IsWaitingWith st s c → IsRetried m st s a noted
 
+  -- the retry isn't answered, and that is an entry
+  abbrev pub IsUnansweredAgain : (B → ℕ) → Parts C B → ℕ → CallError → Parts C B → Type 0
+  IsUnansweredAgain count p s e q = OfWaiting p s (λ c. (k : ℕ) × GoesAgain p s c (failed_retry s k (count_told e (count q.base))) q)
+
   -- ---- what each part of a retry comes to
+
+  -- these are the requests of the call that waits
+  abbrev pub IsAskedAgain : Parts C B → ℕ → List Request → Type 0
+  IsAskedAgain p s asks = OfWaiting p s (λ c. OfTransaction is_valid m told p s (λ st t. asks ≡ asked m st t c))
+
+  -- its reply on what the transaction sees, and its changes there
+  abbrev pub IsMadeAgain : Parts C B → ℕ → Outcome → Type 0
+  IsMadeAgain p s made = OfWaiting p s (λ c. OfState is_valid m told p (λ st. IsMade m st s c made))
 
   -- the call was answered to a transaction that has all that it asks for
   pub record IsAnsweredAgain (p : Parts C B) (s : ℕ) (c : C) (a : Answer) (q : Parts C B) : Type 0 where
@@ -124,8 +147,8 @@ module _ {C B : Type 0} (is_valid : C → Type 0) (m : CallMeaning C) (told : B 
     pub prepared : q.prepared ≡ None
     pub reply : Reply
     pub is : a ≡ answer.Answered reply
-    pub means : (st : State C) (t : Live C) → Stands is_valid m told p st → of_session s st.live ≡ Some t → reply ≡ m.reply c (view m t.calls st.tree)
-    pub state : (st : State C) (t : Live C) → Stands is_valid m told p st → of_session s st.live ≡ Some t → Stands is_valid m told q (unqueued (with_answer st t c reply) s)
+    pub means : OfTransaction is_valid m told p s (λ st t. reply ≡ m.reply c (view m t.calls st.tree))
+    pub state : MovesTo is_valid m told p s (λ st t. unqueued (with_answer st t c reply) s) q
 
   -- it is an entry, with the request that it now waits for
   pub record PutsAgain (p : Parts C B) (s : ℕ) (g : Request) (a : Answer) (q : Parts C B) : Type 0 where
@@ -139,7 +162,7 @@ module _ {C B : Type 0} (is_valid : C → Type 0) (m : CallMeaning C) (told : B 
     pub prepared : q.prepared ≡ p.prepared
     pub places : q.places ≡ p.places
     pub queue : q.waiting.items ≡ p.waiting.items
-    pub state : (st : State C) → Stands is_valid m told p st → Stands is_valid m told q st
+    pub state : KeepsState is_valid m told p q
 
   abbrev pub IsPutAgain : Parts C B → ℕ → Request → Answer → Bool → Parts C B → Type 0
   IsPutAgain p s g a true q = PutsAgain p s g a q
@@ -148,7 +171,7 @@ module _ {C B : Type 0} (is_valid : C → Type 0) (m : CallMeaning C) (told : B 
   -- the transaction waits in its place, and no session waits for itself by it; more is what was granted beyond what it held
   pub record WaitsAgain (p : Parts C B) (s : ℕ) (g : Request) (hs : List ℕ) (more : Bool) (a : Answer) (q : Parts C B) : Type 0 where
     pub is : a ≡ shown_wait g hs
-    pub alone : (st : State C) (t : Live C) (c : C) → Stands is_valid m told p st → of_session s st.live ≡ Some t → cycle_through (with_wait st t c g).live s ≡ None
+    pub alone : AnyWaitWouldClose is_valid m told p s g None
     pub noted : Bool
     pub changed : (st : State C) (t : Live C) (w : Waiting C) → Stands is_valid m told p st → of_session s st.live ≡ Some t → t.waits ≡ Some w → (more || not (same_request w.request g)) ≡ noted
     pub moved : IsPutAgain p s g a noted q
@@ -159,8 +182,8 @@ module _ {C B : Type 0} (is_valid : C → Type 0) (m : CallMeaning C) (told : B 
     pub prepared : q.prepared ≡ None
     pub cycle : List ℕ
     pub is : a ≡ answer.Deadlock cycle
-    pub closes : (st : State C) (t : Live C) (c : C) → Stands is_valid m told p st → of_session s st.live ≡ Some t → cycle_through (with_wait st t c g).live s ≡ Some cycle
-    pub state : (st : State C) → Stands is_valid m told p st → Stands is_valid m told q (ended st s)
+    pub closes : AnyWaitWouldClose is_valid m told p s g (Some cycle)
+    pub state : OfState is_valid m told p (λ st. Stands is_valid m told q (ended st s))
 
   abbrev pub IsStoppedAgain : Parts C B → ℕ → Request → List ℕ → Bool → Answer → Parts C B → Type 0
   IsStoppedAgain p s g hs more a q = WaitsAgain p s g hs more a q ⊎ IsClosedAgain p s g a q
@@ -169,7 +192,11 @@ module _ {C B : Type 0} (is_valid : C → Type 0) (m : CallMeaning C) (told : B 
   pub record IsFailedAgain (p : Parts C B) (s : ℕ) (k : ℕ) (f : Option ℕ) (q : Parts C B) : Type 0 where
     pub book : q.book.items ≡ p.book.items ++ failed_retry s k f ∷ []
     pub prepared : q.prepared ≡ None
-    pub state : (st : State C) (t : Live C) → Stands is_valid m told p st → of_session s st.live ≡ Some t → Stands is_valid m told q (unqueued (at_rest st t) s)
+    pub state : MovesTo is_valid m told p s (λ st t. unqueued (at_rest st t) s) q
+
+  -- so it is of one that is given up after k grants, with the count of faults that its cause tells
+  abbrev pub IsLeftAgain : (B → ℕ) → Parts C B → ℕ → ℕ → CallError → Parts C B → Type 0
+  IsLeftAgain count p s k e q = IsFailedAgain p s k (count_told e (count q.base)) q
 
   -- what a settled retry is answered
   abbrev pub IsSettledAgain : Parts C B → ℕ → C → List Request → Got → Bool → Answer → Parts C B → Type 0
@@ -179,5 +206,5 @@ module _ {C B : Type 0} (is_valid : C → Type 0) (m : CallMeaning C) (told : B 
 
   -- what the requests of a retry have come to, and whether the transaction holds more than before
   pub record AreAsked (p : Parts C B) (s : ℕ) (qs : List Request) (got : Got) (more : Bool) (q : Parts C B) : Type 0 where
-    pub raised : (st : State C) (t : Live C) → Stands is_valid m told p st → of_session s st.live ≡ Some t → hold_more t.grants (t.grants ++ granted_front qs got) ≡ more
-    pub kept : more ≡ false → (st : State C) → Stands is_valid m told p st → Stands is_valid m told q st
+    pub raised : OfTransaction is_valid m told p s (λ st t. hold_more t.grants (t.grants ++ granted_front qs got) ≡ more)
+    pub kept : more ≡ false → KeepsState is_valid m told p q

@@ -58,3 +58,19 @@ module _ {C : Type 0} (is_valid : C → Type 0) (m : CallMeaning C) where
       pub limit : p.limit ≡ st.limit
       pub number : p.number ≡ st.number
       pub begun : p.begun ≡ st.begun
+
+    -- this holds of each state that the parts stand for
+    abbrev pub OfState : Parts C B → (State C → Type 0) → Type 0
+    OfState p Q = (st : State C) → Stands p st → Q st
+
+    -- and this of it and of the session's live transaction in it
+    abbrev pub OfTransaction : Parts C B → ℕ → (State C → Live C → Type 0) → Type 0
+    OfTransaction p s Q = (st : State C) (t : Live C) → Stands p st → of_session s st.live ≡ Some t → Q st t
+
+    -- the state stays: whichever p stands for, q does too
+    abbrev pub KeepsState : Parts C B → Parts C B → Type 0
+    KeepsState p q = (st : State C) → Stands p st → Stands q st
+
+    -- the state moves: q stands for what the session's live transaction makes of the state that p stands for
+    abbrev pub MovesTo : Parts C B → ℕ → (State C → Live C → State C) → Parts C B → Type 0
+    MovesTo p s state q = OfTransaction p s (λ st t. Stands q (state st t))
