@@ -3,6 +3,7 @@ use Rattle.std.specs.Prelude.{◌≡◌, ◌<◌, ℕ, ◌+◌, ◌*◌, List, l
 use Rattle.page_store.specs.Pages.{page_of}
 use Rattle.tree_model.specs.Entries.{Entries}
 use Rattle.node_records.specs.declared.entries.Entry.{Entry}
+use Rattle.node_pages.specs.Chunks.{records_in}
 use Rattle.node_pages.specs.Following.{Runs}
 use Rattle.node_pages.specs.PageStarts.{starts_from}
 use Rattle.node_pages.specs.PageZero.{Header, header_in}
@@ -41,6 +42,10 @@ index_behind file (Some h) = index_with file h
 abbrev pub index_of_file : List ℕ → Result Index ℕ
 index_of_file [] = Ok (record { base = 0; starts = [] })
 index_of_file (b ∷ bs) = index_behind (b ∷ bs) (header_in (file_page (b ∷ bs) 0))
+
+-- the map and the base of a file with this index
+abbrev pub contents_with : List ℕ → Index → Entries × ℕ
+contents_with file i = (records_in (entries_from (file_page file) 1 (length i.starts)), i.base)
 
 -- ---- what is known of pages of which the data pages begin so
 

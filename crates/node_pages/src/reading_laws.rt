@@ -1,17 +1,14 @@
 //! What holds of pages that are read: laws over the definitions alone, each the contract of a function with nothing to do.
-ghost use Rattle.std.specs.Prelude.{◌≡◌, ◌<◌, ◌^◌, ℕ, List, IsTrue, Ok, Err, length};
+ghost use Rattle.std.specs.Prelude.{◌≡◌, ◌<◌, ◌^◌, ℕ, List, IsTrue, Ok, Err};
 ghost use Rattle.std.specs.List.{AllByRecursion};
 ghost use Rattle.tree_model.specs.Entries.{Entries, Sorted};
 ghost use Rattle.tree_model.specs.Keys.{IsValidKey};
 ghost use Rattle.tree_model.specs.Records.{record_fits};
-ghost use Rattle.node_pages.specs.CutReads.{IsCuttable, page_among};
-ghost use Rattle.node_pages.specs.Cuts.{cut_of, data_of};
+ghost use Rattle.node_pages.specs.CutReads.{IsCuttable, ReadsBack};
 ghost use Rattle.node_pages.specs.PageZero.{count_of, header_of};
-ghost use Rattle.node_pages.specs.Chunks.{records_in};
-ghost use Rattle.node_pages.specs.PageFiles.{Index, IsIndex, contents_of_file, file_page, index_of_file};
+ghost use Rattle.node_pages.specs.PageFiles.{Index, IsIndex, contents_of_file, contents_with, file_page, index_of_file};
 ghost use Rattle.node_pages.specs.PageRules.{KeepsRules};
-ghost use Rattle.node_pages.specs.PagesIn.{entries_from, pages_in};
-ghost use Rattle.node_pages.specs.declared.cut.Cut.TheVariants.{Pages};
+ghost use Rattle.node_pages.specs.PagesIn.{pages_in};
 
 use tree_model::{Key, Record};
 
@@ -22,9 +19,8 @@ pub fn pages_behind_the_count_are_not_read()
 
 /// The pages that a map is cut into are read as this map again, with its number.
 pub fn pages_of_a_cut_are_read_again()
-    ensures again { (number : ℕ) (es : Entries) (pages : List (List ℕ)) → number < 2 ^ 32 → Sorted es → AllByRecursion IsCuttable es
-        → cut_of number (data_of es) ≡ Pages pages
-        → pages_in (page_among pages) ≡ Ok (es, number) }
+    ensures again { (number : ℕ) (es : Entries) (pages : List (List ℕ)) → number < 2 ^ 32
+        → Sorted es → AllByRecursion IsCuttable es → ReadsBack number es pages }
     // Such are all records that a valid tree may have.
     ensures valid { (k : Key) (r : Record) → IsValidKey k → IsTrue (record_fits r) → IsCuttable (k, r) }
 {}
@@ -37,7 +33,7 @@ pub fn pages_that_keep_the_rules_are_maps_in_order()
 /// A file whose data pages begin so stands for the records of their entries, and one that breaks a rule breaks it at the same page.
 pub fn where_data_pages_begin_is_told_by_the_file()
     ensures map { (file : List ℕ) (i : Index) → index_of_file file ≡ Ok i
-        → contents_of_file file ≡ Ok (records_in (entries_from (file_page file) 1 (length i.starts)), i.base) }
+        → contents_of_file file ≡ Ok (contents_with file i) }
     ensures pages { (file : List ℕ) (i : Index) → index_of_file file ≡ Ok i → IsIndex (file_page file) i.starts }
     ensures broken { (file : List ℕ) (n : ℕ) → index_of_file file ≡ Err n → contents_of_file file ≡ Err n }
 {}

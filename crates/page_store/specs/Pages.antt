@@ -1,7 +1,9 @@
 -- The pages of a file, and those that are kept in memory (docs/FILE_FORMAT.md, "The page file").
-use Rattle.std.specs.Prelude.{◌≡◌, ◌≤◌, ℕ, ◌+◌, ◌-◌, ◌*◌, ◌^◌, min, Bool, if◌then◌else◌, nat_eq, List, ◌∷◌, take, drop, is_some, IsTrue, Result, MatchResult}
+use Rattle.std.specs.Prelude.{◌≡◌, ◌≤◌, ℕ, ◌+◌, ◌-◌, ◌*◌, ◌^◌, min, Bool, if◌then◌else◌, nat_eq, List, ◌∷◌, take, drop, is_some, IsTrue, Result, MatchResult, OnOk, ⊤}
 use Rattle.std.specs.List.{AllByRecursion}
 use Rattle.std.specs.Map.{lookup}
+use Rattle.std.specs.Borrow.{Fml, MutBor, RattleType, follows_so}
+use mathlib.Core.Option.{none}
 use Rattle.lru.specs.LruCache.{promoted}
 
 -- the page with this number: fewer bytes where the file ends before its end
@@ -61,3 +63,12 @@ pub record IsFilled (page : ℕ) (old new : PoolView) : Type 0 where
 pub record IsAfterAnswer {T E : Type 0} (page : ℕ) (old : PoolView) (result : Result T E) (new : PoolView) : Type 0 where
   pub asked : IsAfterAsking page old new
   pub pages : KeepsPages page old result new
+
+-- a pool after a page of a file was asked for, to be read: how much was read, and which pages are kept; that one is after Ok, and all are the file's, where it is known
+abbrev pub HasLent : {T E : Type 0} → Bool → ℕ → List ℕ → PoolView → Result T E → PoolView → Type 0
+HasLent is_known page file old result new =
+    IsAfterAsking page old new × OnOk result (IsTrue (is_kept page new)) × (IsTrue is_known → ArePagesOf file new.kept) × KeepsPages page old result new
+
+-- a value of which a part is lent to be read, and none to be written, ends so that this holds of it
+abbrev pub EndsSo : (R : RattleType) → MutBor R.Denot → (R.Denot → Type 0) → Fml
+EndsSo R lender Q = follows_so R R lender.ghost_name none (λ _ _. ⊤) Q

@@ -1,10 +1,9 @@
 //! The pages that are kept.
-ghost use Rattle.std.specs.Prelude.{◌≡◌, ◌≤◌, ◌*◌, ◌+◌, ⊤, [], ℕ, List, IsTrue, IsOk, length, nat_eq, IfOk, OnOk, IfSome, option_copied};
+ghost use Rattle.std.specs.Prelude.{◌≡◌, ◌≤◌, ◌*◌, ◌+◌, [], ℕ, List, IsTrue, IsOk, length, nat_eq, IfOk, OnOk, IfSome, option_copied};
 ghost use Rattle.std.specs.Map.{lookup};
-ghost use Rattle.std.specs.Borrow.{sem, follows_so};
-ghost use mathlib.Core.Option.{none};
+ghost use Rattle.std.specs.Borrow.{sem};
 ghost use Rattle.outside_traits.specs.Faults.{HasCause};
-ghost use Rattle.page_store.specs.Pages.{ArePagesOf, IsAfterAnswer, IsAfterAsking, IsFilled, KeepsPages, is_kept, page_of, with_room};
+ghost use Rattle.page_store.specs.Pages.{ArePagesOf, EndsSo, HasLent, IsAfterAnswer, IsFilled, is_kept, page_of, with_room};
 ghost use Rattle.page_store.specs.contracts.pool.Pool.{the_row};
 ghost use Rattle.page_store.specs.declared.page_error.PageError.TheVariants.{DiskFault};
 
@@ -129,9 +128,8 @@ impl Pool {
     ) -> Result<&[u8], PageError>
         requires within { IsTrue P.is_known → 8_192 * page + 8_192 ≤ length (P.history disk.old).now.reads }
         requires pages { IsTrue P.is_known → ArePagesOf (P.history disk.old).now.reads self.old.kept }
-        ensures* after { sem 𝓛 (follows_so the_row the_row self.entry.ghost_name none (λ _ _. ⊤)
-            (λ n. IsAfterAsking page self.old n × OnOk result (IsTrue (is_kept page n)) × (IsTrue P.is_known → ArePagesOf (P.history disk.old).now.reads n.kept)
-            × KeepsPages page self.old result n)) }
+        ensures* after { sem 𝓛 (EndsSo the_row self.entry
+            (HasLent P.is_known page (P.history disk.old).now.reads self.old result)) }
         // What is kept is answered without a read, memory or fault.
         ensures kept_suffices { IsTrue (is_kept page self.old) → IsOk result }
         ensures value { IfOk result (λ bytes. IsTrue P.is_known → bytes.now ≡ page_of page (P.history disk.old).now.reads) }
