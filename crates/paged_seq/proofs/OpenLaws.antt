@@ -14,8 +14,9 @@ use Rattle.node_pages.specs.declared.page_start.PageStart.{PageStart}
 use Rattle.node_records.specs.declared.open_error.OpenError.{OpenError}
 use Rattle.node_records.specs.declared.open_error.OpenError.TheVariants.{Damaged, DiskFault, NoMemory}
 use Rattle.page_store.specs.Pages.{page_of}
-use Rattle.node_pages.specs.PagesIn.{after_pages, starts_in}
-use Rattle.node_pages.specs.Scanning.{and_then}
+use Rattle.node_pages.specs.DirectoryPages.{Compared, at_directory_end, at_end}
+use Rattle.node_pages.specs.PagesIn.{after_pages, compared, scanned, starts_in}
+use Rattle.node_pages.specs.Scanning.{Scanned, and_then, no_pages}
 use Rattle.paged_seq.specs.PagedFiles.{AllPagesKeepRules, HasReason, IsFirstBroken, IsIndexOf, IsPageWith, index_at, whole_below}
 
 take_whole : (n : ℕ) (bytes : List ℕ) → length bytes ≤ n → take n bytes ≡ bytes
@@ -93,6 +94,12 @@ no_starts file h n some is broken =
 pub with_starts : (file : List ℕ) (h : Header) (starts : List PageStart) → 0 < length file → header_in (file_page file 0) ≡ Some h → starts_in (file_page file) h ≡ Ok starts → index_of_file file ≡ Ok (index_at h.base starts)
 with_starts file h starts some is found =
     behind_zero file some ∙ ap (λ (o : Option Header). index_behind file o) is ∙ ap (λ (r : Result (List PageStart) ℕ). and_then r (λ ss. Ok (index_at h.base ss))) found
+
+-- the directory pages break a rule behind data pages that break none
+pub starts_broken : (page : ℕ → List ℕ) (h : Header) (s : Scanned) (c : Compared) (m : ℕ) → scanned page 1 h.data_pages no_pages ≡ Ok s → at_end s ≡ Ok c → compared page (1 + h.data_pages) h.directory_pages c ≡ Err m → starts_in page h ≡ Err m
+starts_broken page h s c m scans ends compares =
+    let behind : Compared → Result (List PageStart) ℕ = λ (k : Compared). and_then (compared page (1 + h.data_pages) h.directory_pages k) (λ d. at_directory_end d) in
+    ap (λ (r : Result Scanned ℕ). and_then r (λ k. and_then (at_end k) behind)) scans ∙ ap (λ (r : Result Compared ℕ). and_then r behind) ends ∙ ap (λ (r : Result Compared ℕ). and_then r (λ d. at_directory_end d)) compares
 
 -- ---- a file that is open
 

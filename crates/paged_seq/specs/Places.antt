@@ -3,12 +3,13 @@ use Rattle.std.specs.Prelude.{◌≡◌, ◌≤◌, ◌<◌, ℕ, ◌+◌, ◌*�
 use Rattle.std.specs.declared.cmp.Ordering.{Ordering}
 use Rattle.std.specs.declared.cmp.Ordering.TheVariants.{Less, Equal, Greater}
 use Rattle.byteorder.specs.Endian.{big_number}
+use Rattle.tree_model.specs.Entries.{Entries}
 use Rattle.tree_model.specs.Keys.{key_cmp}
 use Rattle.tree_model.specs.declared.key.Key.{Key}
 use Rattle.tree_model.specs.declared.record.Record.{Record}
 use Rattle.node_records.specs.Records.{record_of}
 use Rattle.node_records.specs.declared.entries.Entry.{Entry}
-use Rattle.node_pages.specs.Chunks.{whole_record}
+use Rattle.node_pages.specs.Chunks.{records_behind, whole_record}
 use Rattle.node_pages.specs.EntryForm.{entry_read}
 use Rattle.node_pages.specs.Filling.{last_behind}
 use Rattle.node_pages.specs.Following.{NonePass, HeadPasses}
@@ -113,6 +114,14 @@ abbrev pub HasRead : List Entry → Bool → Option Entry → List Entry → Typ
 HasRead [] read last after = read ≡ false
 HasRead (e ∷ es) read last after = (read ≡ true) × (last ≡ Some e) × (after ≡ es)
 
+-- a place went on to an entry, if one is left, with the same entries behind it as before
+abbrev pub Arrives : (ℕ → List ℕ) → ℕ → Place → Bool → Place → Type 0
+Arrives page count old arrived new = HasArrived (rest_at page count old) arrived (rest_at page count new)
+
+-- a place went on behind an entry, if one is left, with that one before it and the others behind it
+abbrev pub GoesBehind : (ℕ → List ℕ) → ℕ → Place → Bool → Place → Type 0
+GoesBehind page count old read new = HasRead (rest_at page count old) read new.before (rest_at page count new)
+
 -- a place parts the entries where a test turns; before it stands the last one that doesn't pass
 pub record Parts (page : ℕ → List ℕ) (count : ℕ) (test : Key → Bool) (p : Place) : Type 0 where
   pub place : IsPlace page count p
@@ -126,6 +135,10 @@ pub record Parts (page : ℕ → List ℕ) (count : ℕ) (test : Key → Bool) (
 abbrev pub steps_left : ℕ → Place → ℕ
 steps_left count p = (count - p.page) * 65_536 + p.left
 
+-- a place went on and stands before an entry, with no more steps left than before
+abbrev pub IsBeforeEntry : ℕ → Place → Place → Type 0
+IsBeforeEntry count old new = (0 < new.left) × (steps_left count new ≤ steps_left count old)
+
 -- ---- a place that is kept between reads
 
 -- a place behind some of the entries, the last of which stands before it
@@ -134,6 +147,10 @@ pub record IsBehind (page : ℕ → List ℕ) (count : ℕ) (p : Place) : Type 0
   pub below : List Entry
   pub parts : entries_from page 1 count ≡ below ++ rest_at page count p
   pub last : last_behind None below ≡ p.before
+
+-- a place that lay behind some of the entries does so after it went on
+abbrev pub StaysBehind : (ℕ → List ℕ) → ℕ → Place → Place → Type 0
+StaysBehind page count old new = IsBehind page count old → IsBehind page count new
 
 -- a place may be kept: of a known file it lies behind some of the entries
 pub record MayBeKept (is_known : Bool) (file : List ℕ) (count : ℕ) (p : Place) : Type 0 where
@@ -159,3 +176,11 @@ pub record IsOpenAt (is_known : Bool) (file : List ℕ) (i : Index) (walked got 
 abbrev pub begun_record : Option Entry → List Entry → Option Record
 begun_record None es = None
 begun_record (Some e) es = option_and_then record_of (whole_record e.last e.bytes es)
+
+-- the record whose first chunk stands before a place, and the others behind it
+abbrev pub record_around : (ℕ → List ℕ) → ℕ → Place → Option Record
+record_around page count p = begun_record p.before (rest_at page count p)
+
+-- these records, and those of these entries, where these bytes were read of the first one's
+abbrev pub all_records : Entries → List ℕ → List Entry → Entries
+all_records records part entries = records ++ records_behind part entries

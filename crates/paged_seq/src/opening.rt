@@ -1,14 +1,15 @@
 //! Opening a file of pages: each page is read at most once, and the first that breaks a rule is found.
-ghost use Rattle.std.specs.Prelude.{◌≡◌, ◌≤◌, ◌<◌, ◌+◌, ◌*◌, ◌^◌, ℕ, List, [], length, Some, None, Ok, Err, IsTrue, IfOk, IfErr, OnOk};
-ghost use Rattle.outside_traits.specs.Faults.{FaultCounted, HasCause};
+ghost use Rattle.std.specs.Prelude.{◌≡◌, ◌<◌, ◌+◌, ◌*◌, ◌^◌, ℕ, List, [], length, Some, Ok, IsTrue, IfOk, IfErr, OnOk};
+ghost use Rattle.outside_traits.specs.Faults.{HasCause};
 ghost use Rattle.node_records.specs.declared.open_error.OpenError.TheVariants.{Damaged, DiskFault, NoMemory};
 ghost use Rattle.node_seq.specs.declared.node_read.SeqError.TheVariants as seq;
 ghost use Rattle.node_pages.specs.declared.scan_fault.ScanFault.TheVariants.{Broken};
-ghost use Rattle.node_pages.specs.PageFiles.{file_page, index_of_file};
+ghost use Rattle.node_pages.specs.PageFiles.{index_of_file};
 ghost use Rattle.node_pages.specs.PageZero.{header_in};
 ghost use Rattle.node_pages.specs.PagesIn.{after_pages, starts_in};
 ghost use Rattle.page_store.specs.Pages.{page_of};
-ghost use Rattle.paged_seq.specs.PagedFiles.{HasReason, IsPageWith, index_at, page_place, whole_below, whole_count};
+ghost use Rattle.paged_seq.specs.PagedFiles.{HasPageReason, HasReason, HasReasonOn, IsPageWith, LacksHeader, ReadsAtMost, ReadsWhole, ReadsWholeFrom};
+ghost use Rattle.paged_seq.specs.PagedFiles.{disk_page, index_at, page_place, whole_below, whole_count};
 
 use crate::page_file::PageFile;
 use dewey_labels::List;
@@ -53,8 +54,9 @@ fn page_bytes<P: Disk + Drop>(
 ) -> Result<Vec<u8>, SeqError>
     requires count { IsTrue P.is_known → count ≡ length (P.history file.old.disk).now.reads }
     ensures bytes { IfOk result (λ bytes. IsTrue P.is_known → bytes.items ≡ page_of page (P.history file.old.disk).now.reads) }
-    ensures reads { IsTrue P.is_known → file.new.pool.reads + whole_below page (P.history file.old.disk).now.reads
-        ≤ file.old.pool.reads + whole_below (page + 1) (P.history file.old.disk).now.reads }
+    ensures reads { IsTrue P.is_known
+        → ReadsWhole (P.history file.old.disk).now.reads page (page + 1)
+        file.old.pool file.new.pool }
     ensures most { file.new.pool.most ≡ file.old.pool.most }
     ensures same { IsTrue P.is_known → P.history file.new.disk ≡ P.history file.old.disk }
     ensures cause { HasCause seq.DiskFault (P.faults file.old.disk) (P.faults file.new.disk) result }
@@ -84,12 +86,14 @@ fn take_page<P: Disk + Drop, T: PagePass>(
     page: u32,
 ) -> Result<(), OpenError>
     requires count { IsTrue P.is_known → count ≡ length (P.history file.old.disk).now.reads }
-    ensures ok { OnOk result (IsTrue P.is_known → T.after pass.old (file_page (P.history file.old.disk).now.reads page) ≡ Ok pass.new) }
-    ensures reason { IfErr result (HasReason (IsPageWith (λ n. IsTrue P.is_known
-        → T.after pass.old (file_page (P.history file.old.disk).now.reads page) ≡ Err n))
-        (FaultCounted (P.faults file.old.disk) (P.faults file.new.disk))) }
-    ensures reads { IsTrue P.is_known → file.new.pool.reads + whole_below page (P.history file.old.disk).now.reads
-        ≤ file.old.pool.reads + whole_below (page + 1) (P.history file.old.disk).now.reads }
+    ensures ok { OnOk result
+        (IsTrue P.is_known → T.after pass.old (disk_page P.history file.old page) ≡ Ok pass.new) }
+    ensures reason { IfErr result
+        (HasPageReason P.is_known (T.after pass.old (disk_page P.history file.old page))
+        P.faults file.old file.new) }
+    ensures reads { IsTrue P.is_known
+        → ReadsWhole (P.history file.old.disk).now.reads page (page + 1)
+        file.old.pool file.new.pool }
     ensures most { file.new.pool.most ≡ file.old.pool.most }
     ensures same { IsTrue P.is_known → P.history file.new.disk ≡ P.history file.old.disk }
     ensures cause { HasCause DiskFault (P.faults file.old.disk) (P.faults file.new.disk) result }
@@ -116,12 +120,14 @@ fn take_pages<P: Disk + Drop, T: PagePass>(
 ) -> Result<(), OpenError>
     requires count { IsTrue P.is_known → count ≡ length (P.history file.old.disk).now.reads }
     requires few { first + pages < 2 ^ 32 }
-    ensures ok { OnOk result (IsTrue P.is_known → after_pages T.after (file_page (P.history file.old.disk).now.reads) first pages pass.old ≡ Ok pass.new) }
-    ensures reason { IfErr result (HasReason (IsPageWith (λ n. IsTrue P.is_known
-        → after_pages T.after (file_page (P.history file.old.disk).now.reads) first pages pass.old ≡ Err n))
-        (FaultCounted (P.faults file.old.disk) (P.faults file.new.disk))) }
-    ensures reads { IsTrue P.is_known → file.new.pool.reads + whole_below first (P.history file.old.disk).now.reads
-        ≤ file.old.pool.reads + whole_below (first + pages) (P.history file.old.disk).now.reads }
+    ensures ok { OnOk result (IsTrue P.is_known
+        → after_pages T.after (disk_page P.history file.old) first pages pass.old ≡ Ok pass.new) }
+    ensures reason { IfErr result (HasPageReason P.is_known
+        (after_pages T.after (disk_page P.history file.old) first pages pass.old)
+        P.faults file.old file.new) }
+    ensures reads { IsTrue P.is_known
+        → ReadsWhole (P.history file.old.disk).now.reads first (first + pages)
+        file.old.pool file.new.pool }
     ensures most { file.new.pool.most ≡ file.old.pool.most }
     ensures same { IsTrue P.is_known → P.history file.new.disk ≡ P.history file.old.disk }
     ensures cause { HasCause DiskFault (P.faults file.old.disk) (P.faults file.new.disk) result }
@@ -139,11 +145,14 @@ fn read_zero<P: Disk + Drop>(
     count: u64,
 ) -> Result<Header, OpenError>
     requires count { IsTrue P.is_known → count ≡ length (P.history file.old.disk).now.reads }
-    ensures header { IfOk result (λ h. IsTrue P.is_known → header_in (file_page (P.history file.old.disk).now.reads 0) ≡ Some h) }
-    ensures reason { IfErr result (HasReason (IsPageWith (λ n. (n ≡ 0) × (IsTrue P.is_known
-        → header_in (file_page (P.history file.old.disk).now.reads 0) ≡ None)))
-        (FaultCounted (P.faults file.old.disk) (P.faults file.new.disk))) }
-    ensures reads { IsTrue P.is_known → file.new.pool.reads ≤ file.old.pool.reads + whole_below 1 (P.history file.old.disk).now.reads }
+    ensures header { IfOk result
+        (λ h. IsTrue P.is_known → header_in (disk_page P.history file.old 0) ≡ Some h) }
+    ensures reason { IfErr result
+        (HasReasonOn (LacksHeader P.is_known (P.history file.old.disk).now.reads)
+        P.faults file.old.disk file.new.disk) }
+    ensures reads { IsTrue P.is_known
+        → ReadsAtMost (whole_below 1 (P.history file.old.disk).now.reads)
+        file.old.pool file.new.pool }
     ensures most { file.new.pool.most ≡ file.old.pool.most }
     ensures same { IsTrue P.is_known → P.history file.new.disk ≡ P.history file.old.disk }
     ensures cause { HasCause DiskFault (P.faults file.old.disk) (P.faults file.new.disk) result }
@@ -167,13 +176,14 @@ fn read_starts<P: Disk + Drop>(
     header: &Header,
 ) -> Result<List<PageStart>, OpenError>
     requires count { IsTrue P.is_known → count ≡ length (P.history file.old.disk).now.reads }
-    ensures starts { IfOk result (λ starts. IsTrue P.is_known → starts_in (file_page (P.history file.old.disk).now.reads) header.now ≡ Ok starts) }
+    ensures starts { IfOk result (λ starts. IsTrue P.is_known
+        → starts_in (disk_page P.history file.old) header.now ≡ Ok starts) }
     ensures few { IfOk result (λ starts. length starts < 2 ^ 32) }
-    ensures reason { IfErr result (HasReason (IsPageWith (λ n. IsTrue P.is_known
-        → starts_in (file_page (P.history file.old.disk).now.reads) header.now ≡ Err n))
-        (FaultCounted (P.faults file.old.disk) (P.faults file.new.disk))) }
-    ensures reads { IsTrue P.is_known → file.new.pool.reads + whole_below 1 (P.history file.old.disk).now.reads
-        ≤ file.old.pool.reads + whole_count (P.history file.old.disk).now.reads }
+    ensures reason { IfErr result
+        (HasPageReason P.is_known (starts_in (disk_page P.history file.old) header.now)
+        P.faults file.old file.new) }
+    ensures reads { IsTrue P.is_known
+        → ReadsWholeFrom (P.history file.old.disk).now.reads 1 file.old.pool file.new.pool }
     ensures most { file.new.pool.most ≡ file.old.pool.most }
     ensures same { IsTrue P.is_known → P.history file.new.disk ≡ P.history file.old.disk }
     ensures cause { HasCause DiskFault (P.faults file.old.disk) (P.faults file.new.disk) result }
@@ -219,11 +229,15 @@ pub(crate) fn read_index<P: Disk + Drop>(
     alloc: Global,
     file: &mut PageFile<P>,
 ) -> Result<(u32, List<PageStart>), OpenError>
-    ensures index { IfOk result (λ i. IsTrue P.is_known → index_of_file (P.history file.old.disk).now.reads ≡ Ok (index_at i.0 i.1)) }
+    ensures index { IfOk result (λ i. IsTrue P.is_known
+        → index_of_file (P.history file.old.disk).now.reads ≡ Ok (index_at i.0 i.1)) }
     ensures few { IfOk result (λ i. length i.1 < 2 ^ 32) }
-    ensures reason { IfErr result (HasReason (IsPageWith (λ n. IsTrue P.is_known → index_of_file (P.history file.old.disk).now.reads ≡ Err n))
-        (FaultCounted (P.faults file.old.disk) (P.faults file.new.disk))) }
-    ensures reads { IsTrue P.is_known → file.new.pool.reads ≤ file.old.pool.reads + whole_count (P.history file.old.disk).now.reads }
+    ensures reason { IfErr result
+        (HasPageReason P.is_known (index_of_file (P.history file.old.disk).now.reads)
+        P.faults file.old file.new) }
+    ensures reads { IsTrue P.is_known
+        → ReadsAtMost (whole_count (P.history file.old.disk).now.reads)
+        file.old.pool file.new.pool }
     ensures most { file.new.pool.most ≡ file.old.pool.most }
     ensures same { IsTrue P.is_known → P.history file.new.disk ≡ P.history file.old.disk }
     ensures cause { HasCause DiskFault (P.faults file.old.disk) (P.faults file.new.disk) result }

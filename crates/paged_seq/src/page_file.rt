@@ -3,12 +3,13 @@ ghost use Rattle.std.specs.Prelude.{◌≡◌, ◌≤◌, ◌<◌, ◌+◌, ◌*
 ghost use Rattle.outside_traits.specs.Faults.{HasCause, failed};
 ghost use Rattle.page_store.specs.Pages.{ArePagesOf, IsAfterAnswer, IsFilled, is_kept, page_of};
 ghost use Rattle.node_records.specs.Records.{record_bytes, record_of};
-ghost use Rattle.node_pages.specs.PageFiles.{IsIndex, file_page};
+ghost use Rattle.node_pages.specs.PageFiles.{IsIndex};
 ghost use Rattle.node_seq.specs.declared.node_read.SeqError.TheVariants.{DiskFault};
 ghost use Rattle.node_seq.specs.Reads.{LiesAbove, LiesBelow};
 ghost use Rattle.tree_model.specs.Entries.{first_above, get, last_below};
-ghost use Rattle.paged_seq.specs.PagedMaps.{chunks_found, chunks_of_entry, records_of};
-ghost use Rattle.paged_seq.specs.Places.{HasArrived, HasRead, IsBehind, IsFull, IsPlace, MayBeKept, Parts, begun_record, passes, rest_at, steps_left};
+ghost use Rattle.paged_seq.specs.PagedFiles.{ReadsAtMost, ReadsForEntry, ReadsForRecord, disk_page};
+ghost use Rattle.paged_seq.specs.PagedMaps.{records_of};
+ghost use Rattle.paged_seq.specs.Places.{Arrives, GoesBehind, IsFull, IsPlace, MayBeKept, Parts, IsBeforeEntry, StaysBehind, passes, record_around, steps_left};
 
 use crate::place::Place;
 use crate::search::{advance, first_place, may_go_on, pages_before, seek};
@@ -135,12 +136,12 @@ impl<P: Disk + Drop> PageFile<P> {
         beyond: bool,
     ) -> Result<Place, SeqError>
         requires few { length starts.now < 2 ^ 32 }
-        requires index { IsTrue P.is_known → IsIndex (file_page (P.history self.old.disk).now.reads) starts.now }
+        requires index { IsTrue P.is_known → IsIndex (disk_page P.history self.old) starts.now }
         requires passed { IfSome passed (MayBeKept P.is_known (P.history self.old.disk).now.reads (length starts.now)) }
         ensures within { IfOk result (λ p. p.at ≤ 8_192) }
         ensures parts { IfOk result (λ p. IsTrue P.is_known
-            → Parts (file_page (P.history self.old.disk).now.reads) (length starts.now) (passes key.now beyond) p) }
-        ensures reads { self.new.pool.reads ≤ self.old.pool.reads + 1 }
+            → Parts (disk_page P.history self.old) (length starts.now) (passes key.now beyond) p) }
+        ensures reads { ReadsAtMost 1 self.old.pool self.new.pool }
         ensures most { self.new.pool.most ≡ self.old.pool.most }
         ensures same { IsTrue P.is_known → P.history self.new.disk ≡ P.history self.old.disk }
         ensures cause { HasCause DiskFault (P.faults self.old.disk) (P.faults self.new.disk) result }
@@ -170,18 +171,20 @@ impl<P: Disk + Drop> PageFile<P> {
         place: &mut Place,
     ) -> Result<bool, SeqError>
         requires few { length starts.now < 2 ^ 32 }
-        requires index { IsTrue P.is_known → IsIndex (file_page (P.history self.old.disk).now.reads) starts.now }
+        requires index { IsTrue P.is_known → IsIndex (disk_page P.history self.old) starts.now }
         requires within { place.old.at ≤ 8_192 }
-        requires place { IsTrue P.is_known → IsPlace (file_page (P.history self.old.disk).now.reads) (length starts.now) place.old }
+        requires place { IsTrue P.is_known
+            → IsPlace (disk_page P.history self.old) (length starts.now) place.old }
         ensures arrived { IfOk result (λ arrived. IsTrue P.is_known
-            → HasArrived (rest_at (file_page (P.history self.old.disk).now.reads) (length starts.now) place.old)
-            arrived (rest_at (file_page (P.history self.old.disk).now.reads) (length starts.now) place.new)) }
+            → Arrives (disk_page P.history self.old) (length starts.now)
+            place.old arrived place.new) }
         ensures within { OnOk result (place.new.at ≤ 8_192) }
-        ensures place { OnOk result (IsTrue P.is_known → IsPlace (file_page (P.history self.old.disk).now.reads) (length starts.now) place.new) }
+        ensures place { OnOk result (IsTrue P.is_known
+            → IsPlace (disk_page P.history self.old) (length starts.now) place.new) }
         ensures there { IfOk result (λ arrived. IsTrue arrived → is_kept place.new.page self.new.pool ≡ true) }
         ensures some { IfOk result (λ arrived. IsTrue arrived
-            → (0 < place.new.left) × (steps_left (length starts.now) place.new ≤ steps_left (length starts.now) place.old)) }
-        ensures reads { self.new.pool.reads ≤ self.old.pool.reads + 1 }
+            → IsBeforeEntry (length starts.now) place.old place.new) }
+        ensures reads { ReadsAtMost 1 self.old.pool self.new.pool }
         ensures most { self.new.pool.most ≡ self.old.pool.most }
         ensures same { IsTrue P.is_known → P.history self.new.disk ≡ P.history self.old.disk }
         ensures cause { HasCause DiskFault (P.faults self.old.disk) (P.faults self.new.disk) result }
@@ -210,19 +213,21 @@ impl<P: Disk + Drop> PageFile<P> {
         place: &mut Place,
     ) -> Result<bool, SeqError>
         requires few { length starts.now < 2 ^ 32 }
-        requires index { IsTrue P.is_known → IsIndex (file_page (P.history self.old.disk).now.reads) starts.now }
+        requires index { IsTrue P.is_known → IsIndex (disk_page P.history self.old) starts.now }
         requires within { place.old.at ≤ 8_192 }
-        requires place { IsTrue P.is_known → IsPlace (file_page (P.history self.old.disk).now.reads) (length starts.now) place.old }
-        ensures read { IfOk result (λ read. IsTrue P.is_known → HasRead (rest_at (file_page (P.history self.old.disk).now.reads) (length starts.now) place.old)
-            read place.new.before (rest_at (file_page (P.history self.old.disk).now.reads) (length starts.now) place.new)) }
+        requires place { IsTrue P.is_known
+            → IsPlace (disk_page P.history self.old) (length starts.now) place.old }
+        ensures read { IfOk result (λ read. IsTrue P.is_known
+            → GoesBehind (disk_page P.history self.old) (length starts.now)
+            place.old read place.new) }
         ensures within { OnOk result (place.new.at ≤ 8_192) }
-        ensures place { OnOk result (IsTrue P.is_known → IsPlace (file_page (P.history self.old.disk).now.reads) (length starts.now) place.new) }
+        ensures place { OnOk result (IsTrue P.is_known
+            → IsPlace (disk_page P.history self.old) (length starts.now) place.new) }
         ensures behind { IfOk result (λ read. IsTrue read → IsTrue P.is_known
-            → IsBehind (file_page (P.history self.old.disk).now.reads) (length starts.now) place.old
-            → IsBehind (file_page (P.history self.old.disk).now.reads) (length starts.now) place.new) }
+            → StaysBehind (disk_page P.history self.old) (length starts.now) place.old place.new) }
         ensures full { IfOk result (λ read. IsTrue read → IsFull place.new.before) }
         ensures shorter { IfOk result (λ read. IsTrue read → steps_left (length starts.now) place.new < steps_left (length starts.now) place.old) }
-        ensures reads { self.new.pool.reads ≤ self.old.pool.reads + 1 }
+        ensures reads { ReadsAtMost 1 self.old.pool self.new.pool }
         ensures most { self.new.pool.most ≡ self.old.pool.most }
         ensures same { IsTrue P.is_known → P.history self.new.disk ≡ P.history self.old.disk }
         ensures cause { HasCause DiskFault (P.faults self.old.disk) (P.faults self.new.disk) result }
@@ -244,16 +249,16 @@ impl<P: Disk + Drop> PageFile<P> {
         place: &mut Place,
     ) -> Result<Option<Record>, SeqError>
         requires few { length starts.now < 2 ^ 32 }
-        requires index { IsTrue P.is_known → IsIndex (file_page (P.history self.old.disk).now.reads) starts.now }
+        requires index { IsTrue P.is_known → IsIndex (disk_page P.history self.old) starts.now }
         requires within { place.old.at ≤ 8_192 }
-        requires place { IsTrue P.is_known → IsPlace (file_page (P.history self.old.disk).now.reads) (length starts.now) place.old }
+        requires place { IsTrue P.is_known
+            → IsPlace (disk_page P.history self.old) (length starts.now) place.old }
         requires full { IsFull place.old.before }
         ensures record { IfOk result (λ found. IsTrue P.is_known
-            → found ≡ begun_record place.old.before (rest_at (file_page (P.history self.old.disk).now.reads) (length starts.now) place.old)) }
+            → found ≡ record_around (disk_page P.history self.old) (length starts.now) place.old) }
         ensures within { OnOk result (place.new.at ≤ 8_192) }
         ensures behind { IfOk result (λ found. IsSome found → IsTrue P.is_known
-            → IsBehind (file_page (P.history self.old.disk).now.reads) (length starts.now) place.old
-            → IsBehind (file_page (P.history self.old.disk).now.reads) (length starts.now) place.new) }
+            → StaysBehind (disk_page P.history self.old) (length starts.now) place.old place.new) }
         ensures reads { IfOk result (λ found. IfSome found (λ r. 1_024 * self.new.pool.reads ≤ 1_024 * self.old.pool.reads + length (record_bytes r))) }
         ensures most { self.new.pool.most ≡ self.old.pool.most }
         ensures same { IsTrue P.is_known → P.history self.new.disk ≡ P.history self.old.disk }
@@ -293,12 +298,13 @@ impl<P: Disk + Drop> PageFile<P> {
         key: &Key,
     ) -> Result<Option<Record>, SeqError>
         requires few { length starts.now < 2 ^ 32 }
-        requires index { IsTrue P.is_known → IsIndex (file_page (P.history self.old.disk).now.reads) starts.now }
+        requires index { IsTrue P.is_known → IsIndex (disk_page P.history self.old) starts.now }
         requires passed { IfSome passed.old (MayBeKept P.is_known (P.history self.old.disk).now.reads (length starts.now)) }
         ensures passed { IfSome passed.new (MayBeKept P.is_known (P.history self.old.disk).now.reads (length starts.now)) }
         ensures value { IfOk result (λ found. IsTrue P.is_known
-            → found ≡ get key.now (records_of (file_page (P.history self.old.disk).now.reads) (length starts.now))) }
-        ensures reads { IfOk result (λ found. IsTrue P.is_known → self.new.pool.reads ≤ self.old.pool.reads + 2 + chunks_found found) }
+            → found ≡ get key.now (records_of (disk_page P.history self.old) (length starts.now))) }
+        ensures reads { IfOk result
+            (λ found. IsTrue P.is_known → ReadsForRecord found self.old.pool self.new.pool) }
         ensures most { self.new.pool.most ≡ self.old.pool.most }
         ensures same { IsTrue P.is_known → P.history self.new.disk ≡ P.history self.old.disk }
         ensures cause { HasCause DiskFault (P.faults self.old.disk) (P.faults self.new.disk) result }
@@ -328,12 +334,12 @@ impl<P: Disk + Drop> PageFile<P> {
         key: &Key,
     ) -> Result<Place, SeqError>
         requires few { length starts.now < 2 ^ 32 }
-        requires index { IsTrue P.is_known → IsIndex (file_page (P.history self.old.disk).now.reads) starts.now }
+        requires index { IsTrue P.is_known → IsIndex (disk_page P.history self.old) starts.now }
         requires passed { IfSome passed (MayBeKept P.is_known (P.history self.old.disk).now.reads (length starts.now)) }
         ensures within { IfOk result (λ p. p.at ≤ 8_192) }
         ensures parts { IfOk result (λ p. IsTrue P.is_known
-            → Parts (file_page (P.history self.old.disk).now.reads) (length starts.now) (passes key.now true) p) }
-        ensures reads { self.new.pool.reads ≤ self.old.pool.reads + 1 }
+            → Parts (disk_page P.history self.old) (length starts.now) (passes key.now true) p) }
+        ensures reads { ReadsAtMost 1 self.old.pool self.new.pool }
         ensures most { self.new.pool.most ≡ self.old.pool.most }
         ensures same { IsTrue P.is_known → P.history self.new.disk ≡ P.history self.old.disk }
         ensures cause { HasCause DiskFault (P.faults self.old.disk) (P.faults self.new.disk) result }
@@ -354,13 +360,15 @@ impl<P: Disk + Drop> PageFile<P> {
         key: &Key,
     ) -> Result<Option<(Key, Record)>, SeqError>
         requires few { length starts.now < 2 ^ 32 }
-        requires index { IsTrue P.is_known → IsIndex (file_page (P.history self.old.disk).now.reads) starts.now }
+        requires index { IsTrue P.is_known → IsIndex (disk_page P.history self.old) starts.now }
         requires passed { IfSome passed.old (MayBeKept P.is_known (P.history self.old.disk).now.reads (length starts.now)) }
         ensures passed { IfSome passed.new (MayBeKept P.is_known (P.history self.old.disk).now.reads (length starts.now)) }
         ensures value { IfOk result (λ found. IsTrue P.is_known
-            → found ≡ first_above key.now (records_of (file_page (P.history self.old.disk).now.reads) (length starts.now))) }
+            → found ≡ first_above key.now
+            (records_of (disk_page P.history self.old) (length starts.now))) }
         ensures above { IfOk result (LiesAbove key.now) }
-        ensures reads { IfOk result (λ found. IsTrue P.is_known → self.new.pool.reads ≤ self.old.pool.reads + 3 + chunks_of_entry found) }
+        ensures reads { IfOk result
+            (λ found. IsTrue P.is_known → ReadsForEntry found self.old.pool self.new.pool) }
         ensures most { self.new.pool.most ≡ self.old.pool.most }
         ensures same { IsTrue P.is_known → P.history self.new.disk ≡ P.history self.old.disk }
         ensures cause { HasCause DiskFault (P.faults self.old.disk) (P.faults self.new.disk) result }
@@ -389,11 +397,13 @@ impl<P: Disk + Drop> PageFile<P> {
         key: &Key,
     ) -> Result<Option<(Key, Record)>, SeqError>
         requires few { length starts.now < 2 ^ 32 }
-        requires index { IsTrue P.is_known → IsIndex (file_page (P.history self.old.disk).now.reads) starts.now }
+        requires index { IsTrue P.is_known → IsIndex (disk_page P.history self.old) starts.now }
         ensures value { IfOk result (λ found. IsTrue P.is_known
-            → found ≡ last_below key.now (records_of (file_page (P.history self.old.disk).now.reads) (length starts.now))) }
+            → found ≡ last_below key.now
+            (records_of (disk_page P.history self.old) (length starts.now))) }
         ensures below { IfOk result (LiesBelow key.now) }
-        ensures reads { IfOk result (λ found. IsTrue P.is_known → self.new.pool.reads ≤ self.old.pool.reads + 3 + chunks_of_entry found) }
+        ensures reads { IfOk result
+            (λ found. IsTrue P.is_known → ReadsForEntry found self.old.pool self.new.pool) }
         ensures most { self.new.pool.most ≡ self.old.pool.most }
         ensures same { IsTrue P.is_known → P.history self.new.disk ≡ P.history self.old.disk }
         ensures cause { HasCause DiskFault (P.faults self.old.disk) (P.faults self.new.disk) result }

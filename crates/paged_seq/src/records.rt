@@ -1,17 +1,19 @@
 //! All records of a file, read page after page.
-ghost use Rattle.std.specs.Prelude.{◌≡◌, ◌≤◌, ◌<◌, ◌+◌, ◌^◌, ◌++◌, ◌∷◌, List, length, IsTrue, IfOk, OnOk};
+ghost use Rattle.std.specs.Prelude.{◌≡◌, ◌<◌, ◌+◌, ◌^◌, ◌++◌, ◌∷◌, List, length, IsTrue, IfOk, OnOk};
 ghost use Rattle.outside_traits.specs.Faults.{HasCause};
 ghost use Rattle.tree_model.specs.Entries.{Entries};
 ghost use Rattle.page_store.specs.Pages.{page_of};
 ghost use Rattle.node_records.specs.Records.{record_of};
 ghost use Rattle.node_records.specs.declared.entries.Entry as declared_entry;
-ghost use Rattle.node_pages.specs.Chunks.{one_more, records_behind};
+ghost use Rattle.node_pages.specs.Chunks.{one_more};
 ghost use Rattle.node_pages.specs.EntryForm.{entry_read};
-ghost use Rattle.node_pages.specs.PageFiles.{IsIndex, file_page};
+ghost use Rattle.node_pages.specs.PageFiles.{IsIndex};
 ghost use Rattle.node_pages.specs.PagesIn.{items_or_none};
 ghost use Rattle.node_pages.specs.Reading.{page_in};
 ghost use Rattle.node_seq.specs.declared.node_read.SeqError.TheVariants.{DiskFault};
+ghost use Rattle.paged_seq.specs.PagedFiles.{ReadsAtMost, disk_page};
 ghost use Rattle.paged_seq.specs.PagedMaps.{records_of};
+ghost use Rattle.paged_seq.specs.Places.{all_records};
 
 use crate::page_file::PageFile;
 use dewey_labels::{List, NoMemory};
@@ -56,7 +58,7 @@ fn take_entry(
     records: &mut List<(Key, Record)>,
 ) -> Result<(), NoMemory>
     ensures { OnOk result ((more : List declared_entry.Entry)
-        → records.new ++ records_behind part.new more ≡ records.old ++ records_behind part.old (entry ∷ more)) }
+        → all_records records.new part.new more ≡ all_records records.old part.old (entry ∷ more)) }
 {
     let Entry {
         key,
@@ -80,7 +82,8 @@ fn take_entries(
     records: &mut List<(Key, Record)>,
 ) -> Result<(), NoMemory>
     ensures { OnOk result ((more : List declared_entry.Entry)
-        → records.new ++ records_behind part.new more ≡ records.old ++ records_behind part.old (entries ++ more)) }
+        → all_records records.new part.new more
+        ≡ all_records records.old part.old (entries ++ more)) }
 {
     for entry in entries.into_vec() {
         take_entry(alloc, entry, part, records)?;
@@ -96,8 +99,8 @@ fn page_entries<P: Disk + Drop>(
 ) -> Result<List<Entry>, SeqError>
     requires within { IsTrue P.is_known → length (page_of page (P.history file.old.disk).now.reads) ≡ 8_192 }
     ensures entries { IfOk result (λ entries. IsTrue P.is_known
-        → entries ≡ items_or_none (page_in entry_read (file_page (P.history file.old.disk).now.reads page))) }
-    ensures reads { file.new.pool.reads ≤ file.old.pool.reads + 1 }
+        → entries ≡ items_or_none (page_in entry_read (disk_page P.history file.old page))) }
+    ensures reads { ReadsAtMost 1 file.old.pool file.new.pool }
     ensures most { file.new.pool.most ≡ file.old.pool.most }
     ensures same { IsTrue P.is_known → P.history file.new.disk ≡ P.history file.old.disk }
     ensures cause { HasCause DiskFault (P.faults file.old.disk) (P.faults file.new.disk) result }
@@ -119,9 +122,10 @@ pub(crate) fn read_records<P: Disk + Drop>(
     starts: &[PageStart],
 ) -> Result<List<(Key, Record)>, SeqError>
     requires few { length starts.now < 2 ^ 32 }
-    requires index { IsTrue P.is_known → IsIndex (file_page (P.history file.old.disk).now.reads) starts.now }
-    ensures value { IfOk result (λ all. IsTrue P.is_known → all ≡ records_of (file_page (P.history file.old.disk).now.reads) (length starts.now)) }
-    ensures reads { file.new.pool.reads ≤ file.old.pool.reads + length starts.now }
+    requires index { IsTrue P.is_known → IsIndex (disk_page P.history file.old) starts.now }
+    ensures value { IfOk result (λ all. IsTrue P.is_known
+        → all ≡ records_of (disk_page P.history file.old) (length starts.now)) }
+    ensures reads { ReadsAtMost (length starts.now) file.old.pool file.new.pool }
     ensures most { file.new.pool.most ≡ file.old.pool.most }
     ensures same { IsTrue P.is_known → P.history file.new.disk ≡ P.history file.old.disk }
     ensures cause { HasCause DiskFault (P.faults file.old.disk) (P.faults file.new.disk) result }

@@ -1,14 +1,14 @@
 //! The map over the pages of a file.
-ghost use Rattle.std.specs.Prelude.{◌≡◌, ◌≤◌, ◌<◌, ◌+◌, ◌*◌, ◌^◌, Ok, IsTrue, IfOk, IfErr, OnOk, MatchResult, length};
-ghost use Rattle.outside_traits.specs.Faults.{FaultCounted, HasCause};
+ghost use Rattle.std.specs.Prelude.{◌≡◌, ◌≤◌, ◌<◌, ◌+◌, ◌*◌, ◌^◌, IsTrue, IfOk, IfErr, OnOk, MatchResult, length};
+ghost use Rattle.outside_traits.specs.Faults.{HasCause};
 ghost use Rattle.page_store.specs.Pages.{ArePagesOf};
 ghost use Rattle.tree_model.specs.Entries.{Sorted, first_above, get, last_below};
-ghost use Rattle.node_pages.specs.PageFiles.{contents_of_file};
 ghost use Rattle.node_seq.specs.Reads.{Finds, IsEntryOfTrees, IsKeyAbove, IsKeyBelow, IsKeyOfTrees, IsRecordOfTrees, LiesAbove, LiesBelow};
 ghost use Rattle.node_seq.specs.Reads.{key_above, key_below};
 ghost use Rattle.node_seq.specs.declared.node_read.SeqError.TheVariants.{DiskFault};
-ghost use Rattle.paged_seq.specs.PagedFiles.{AllPagesKeepRules, BreaksPages, HasReason, IfDamagedAtFirst, whole_count};
-ghost use Rattle.paged_seq.specs.PagedMaps.{chunks_found, chunks_of_entry, file_entries, map_of_file, next_cost, prev_cost, valid_entries};
+ghost use Rattle.paged_seq.specs.PagedFiles.{BreaksPages, HasBase, HasReasonOn, LeavesPool, OpensByRules, ReadsAtMost, ReadsForEntry, ReadsForRecord};
+ghost use Rattle.paged_seq.specs.PagedFiles.{disk_entries, whole_count};
+ghost use Rattle.paged_seq.specs.PagedMaps.{map_of_file, next_cost, prev_cost, valid_entries};
 
 use crate::opening::{PagesFault, read_index};
 use crate::page_file::PageFile;
@@ -53,20 +53,20 @@ impl<P: Disk + Drop> PagedSeq<P> {
     /// The pages that the pool has already are the disk's. The disk and the pool are handed back with a fault.
     pub fn open(alloc: Global, disk: P, pool: Pool) -> Result<PagedSeq<P>, PagesFault<P>>
         requires kept { IsTrue P.is_known → ArePagesOf (P.history disk).now.reads pool.kept }
-        ensures map { IfOk result (λ seq. IsTrue P.is_known → contents_of_file (P.history disk).now.reads
-            ≡ Ok (file_entries (P.history disk).now.reads, seq.index.base)) }
+        ensures map { IfOk result
+            (λ seq. IsTrue P.is_known → HasBase (P.history disk).now.reads seq.index.base) }
         // Damaged is a file of which `contents_of_file` is a page, the first that breaks a rule; the place is where it begins.
-        ensures reason { IfErr result (λ refused. HasReason (BreaksPages P.is_known (P.history disk).now.reads)
-            (FaultCounted (P.faults disk) (P.faults refused.disk)) refused.fault) }
+        ensures reason { IfErr result
+            (λ refused. HasReasonOn (BreaksPages P.is_known (P.history disk).now.reads)
+            P.faults disk refused.disk refused.fault) }
         // The rules are those of one page each: in a file that opens none breaks one; else that page breaks one, and no page before it does.
-        ensures rules { MatchResult result (λ _. IsTrue P.is_known → AllPagesKeepRules (P.history disk).now.reads)
-            (λ refused. IfDamagedAtFirst P.is_known (P.history disk).now.reads refused.fault) }
+        ensures rules { OpensByRules P.is_known (P.history disk).now.reads result }
         ensures same { IsTrue P.is_known
             → MatchResult result (λ seq. P.history seq.disk ≡ P.history disk) (λ refused. P.history refused.disk ≡ P.history disk) }
         ensures most { IfOk result (λ seq. seq.pool.most ≡ pool.most) }
         // No more pages are read than have all their bytes, also where the file isn't opened.
-        ensures reads { IsTrue P.is_known → MatchResult result (λ seq. seq.pool.reads ≤ pool.reads + whole_count (P.history disk).now.reads)
-            (λ refused. refused.pool.reads ≤ pool.reads + whole_count (P.history disk).now.reads) }
+        ensures reads { IsTrue P.is_known
+            → LeavesPool (ReadsAtMost (whole_count (P.history disk).now.reads) pool) result }
         ensures faults { MatchResult result (λ seq. P.faults seq.disk ≡ P.faults disk) (λ refused. P.faults disk ≤ P.faults refused.disk) }
     {
         let mut file = PageFile::new(disk, pool);
@@ -110,9 +110,10 @@ impl<P: Disk + Drop> PagedSeq<P> {
 
     /// All entries, whether a valid tree may have them or not, in the order of their keys. It reads each data page once, and copies no record.
     pub fn entries(&mut self, alloc: Global) -> Result<List<(Key, Record)>, SeqError>
-        ensures value { IfOk result (λ all. IsTrue P.is_known → all ≡ file_entries (P.history self.old.disk).now.reads) }
-        ensures sorted { IsTrue P.is_known → Sorted (file_entries (P.history self.old.disk).now.reads) }
-        ensures reads { self.new.pool.reads ≤ self.old.pool.reads + length self.old.index.starts }
+        ensures value { IfOk result
+            (λ all. IsTrue P.is_known → all ≡ disk_entries P.history self.old) }
+        ensures sorted { IsTrue P.is_known → Sorted (disk_entries P.history self.old) }
+        ensures reads { ReadsAtMost (length self.old.index.starts) self.old.pool self.new.pool }
         ensures most { self.new.pool.most ≡ self.old.pool.most }
         ensures same { IsTrue P.is_known → P.history self.new.disk ≡ P.history self.old.disk }
         ensures index { self.new.index ≡ self.old.index }
@@ -126,8 +127,10 @@ impl<P: Disk + Drop> PagedSeq<P> {
 
     /// The record at a key, whether a valid tree may have it or not. At most two pages are read, and one a chunk of the record.
     pub fn record_at(&mut self, alloc: Global, key: &Key) -> Result<Option<Record>, SeqError>
-        ensures value { IfOk result (λ found. IsTrue P.is_known → found ≡ get key.now (file_entries (P.history self.old.disk).now.reads)) }
-        ensures reads { IfOk result (λ found. IsTrue P.is_known → self.new.pool.reads ≤ self.old.pool.reads + 2 + chunks_found found) }
+        ensures value { IfOk result
+            (λ found. IsTrue P.is_known → found ≡ get key.now (disk_entries P.history self.old)) }
+        ensures reads { IfOk result
+            (λ found. IsTrue P.is_known → ReadsForRecord found self.old.pool self.new.pool) }
         ensures most { self.new.pool.most ≡ self.old.pool.most }
         ensures same { IsTrue P.is_known → P.history self.new.disk ≡ P.history self.old.disk }
         ensures index { self.new.index ≡ self.old.index }
@@ -146,9 +149,11 @@ impl<P: Disk + Drop> PagedSeq<P> {
         alloc: Global,
         key: &Key,
     ) -> Result<Option<(Key, Record)>, SeqError>
-        ensures value { IfOk result (λ found. IsTrue P.is_known → found ≡ first_above key.now (file_entries (P.history self.old.disk).now.reads)) }
+        ensures value { IfOk result (λ found. IsTrue P.is_known
+            → found ≡ first_above key.now (disk_entries P.history self.old)) }
         ensures above { IfOk result (LiesAbove key.now) }
-        ensures reads { IfOk result (λ found. IsTrue P.is_known → self.new.pool.reads ≤ self.old.pool.reads + 3 + chunks_of_entry found) }
+        ensures reads { IfOk result
+            (λ found. IsTrue P.is_known → ReadsForEntry found self.old.pool self.new.pool) }
         ensures most { self.new.pool.most ≡ self.old.pool.most }
         ensures same { IsTrue P.is_known → P.history self.new.disk ≡ P.history self.old.disk }
         ensures index { self.new.index ≡ self.old.index }
@@ -166,9 +171,11 @@ impl<P: Disk + Drop> PagedSeq<P> {
         alloc: Global,
         key: &Key,
     ) -> Result<Option<(Key, Record)>, SeqError>
-        ensures value { IfOk result (λ found. IsTrue P.is_known → found ≡ last_below key.now (file_entries (P.history self.old.disk).now.reads)) }
+        ensures value { IfOk result (λ found. IsTrue P.is_known
+            → found ≡ last_below key.now (disk_entries P.history self.old)) }
         ensures below { IfOk result (LiesBelow key.now) }
-        ensures reads { IfOk result (λ found. IsTrue P.is_known → self.new.pool.reads ≤ self.old.pool.reads + 3 + chunks_of_entry found) }
+        ensures reads { IfOk result
+            (λ found. IsTrue P.is_known → ReadsForEntry found self.old.pool self.new.pool) }
         ensures most { self.new.pool.most ≡ self.old.pool.most }
         ensures same { IsTrue P.is_known → P.history self.new.disk ≡ P.history self.old.disk }
         ensures index { self.new.index ≡ self.old.index }
@@ -182,8 +189,8 @@ impl<P: Disk + Drop> PagedSeq<P> {
 impl<P: Disk + Drop> PagedSeq<P> {
     /// No more entries than so many stand on the pages, and they are in the order of their keys.
     fn most_entries(&self) -> u64
-        ensures most { IsTrue P.is_known → length (file_entries (P.history self.now.disk).now.reads) ≤ result }
-        ensures sorted { IsTrue P.is_known → Sorted (file_entries (P.history self.now.disk).now.reads) }
+        ensures most { IsTrue P.is_known → length (disk_entries P.history self.now) ≤ result }
+        ensures sorted { IsTrue P.is_known → Sorted (disk_entries P.history self.now) }
     {
         PAGE_BYTES as u64 * self.starts.len() as u64
     }
@@ -192,11 +199,12 @@ impl<P: Disk + Drop> PagedSeq<P> {
     /// At most three pages are read, and one a chunk of the record. Each other entry that is passed over costs as much again.
     fn valid_above(&mut self, alloc: Global, key: &Key) -> Result<Option<(Key, Record)>, SeqError>
         ensures value { IfOk result (λ found. IsTrue P.is_known
-            → found ≡ first_above key.now (valid_entries (file_entries (P.history self.old.disk).now.reads))) }
+            → found ≡ first_above key.now (valid_entries (disk_entries P.history self.old))) }
         ensures above { IfOk result (LiesAbove key.now) }
         ensures valid { IfOk result IsEntryOfTrees }
         ensures pages { OnOk result (IsTrue P.is_known
-            → self.new.pool.reads ≤ self.old.pool.reads + next_cost key.now (file_entries (P.history self.old.disk).now.reads)) }
+            → ReadsAtMost (next_cost key.now (disk_entries P.history self.old))
+            self.old.pool self.new.pool) }
         ensures most { self.new.pool.most ≡ self.old.pool.most }
         ensures same { IsTrue P.is_known → P.history self.new.disk ≡ P.history self.old.disk }
         ensures index { self.new.index ≡ self.old.index }
@@ -220,11 +228,12 @@ impl<P: Disk + Drop> PagedSeq<P> {
     /// At most three pages are read, and one a chunk of the record. Each other entry that is passed over costs as much again.
     fn valid_below(&mut self, alloc: Global, key: &Key) -> Result<Option<(Key, Record)>, SeqError>
         ensures value { IfOk result (λ found. IsTrue P.is_known
-            → found ≡ last_below key.now (valid_entries (file_entries (P.history self.old.disk).now.reads))) }
+            → found ≡ last_below key.now (valid_entries (disk_entries P.history self.old))) }
         ensures below { IfOk result (LiesBelow key.now) }
         ensures valid { IfOk result IsEntryOfTrees }
         ensures pages { OnOk result (IsTrue P.is_known
-            → self.new.pool.reads ≤ self.old.pool.reads + prev_cost key.now (file_entries (P.history self.old.disk).now.reads)) }
+            → ReadsAtMost (prev_cost key.now (disk_entries P.history self.old))
+            self.old.pool self.new.pool) }
         ensures most { self.new.pool.most ≡ self.old.pool.most }
         ensures same { IsTrue P.is_known → P.history self.new.disk ≡ P.history self.old.disk }
         ensures index { self.new.index ≡ self.old.index }
@@ -262,7 +271,8 @@ impl<P: Disk + Drop> NodeRead for PagedSeq<P> {
         ensures value { Finds (map_of_file P.is_known (P.history self.old.disk).now.reads) result (get key.now) }
         ensures valid { IfOk result IsRecordOfTrees }
         ensures pages { OnOk result (IsTrue P.is_known
-            → self.new.pool.reads ≤ self.old.pool.reads + 2 + chunks_found (get key.now (file_entries (P.history self.old.disk).now.reads))) }
+            → ReadsForRecord (get key.now (disk_entries P.history self.old))
+            self.old.pool self.new.pool) }
         ensures most { self.new.pool.most ≡ self.old.pool.most }
         ensures same { IsTrue P.is_known → P.history self.new.disk ≡ P.history self.old.disk }
         ensures index { self.new.index ≡ self.old.index }
@@ -280,7 +290,8 @@ impl<P: Disk + Drop> NodeRead for PagedSeq<P> {
         ensures above { IfOk result (LiesAbove key.now) }
         ensures valid { IfOk result IsEntryOfTrees }
         ensures pages { OnOk result (IsTrue P.is_known
-            → self.new.pool.reads ≤ self.old.pool.reads + next_cost key.now (file_entries (P.history self.old.disk).now.reads)) }
+            → ReadsAtMost (next_cost key.now (disk_entries P.history self.old))
+            self.old.pool self.new.pool) }
         ensures most { self.new.pool.most ≡ self.old.pool.most }
         ensures same { IsTrue P.is_known → P.history self.new.disk ≡ P.history self.old.disk }
         ensures index { self.new.index ≡ self.old.index }
@@ -295,7 +306,8 @@ impl<P: Disk + Drop> NodeRead for PagedSeq<P> {
         ensures below { IfOk result (LiesBelow key.now) }
         ensures valid { IfOk result IsEntryOfTrees }
         ensures pages { OnOk result (IsTrue P.is_known
-            → self.new.pool.reads ≤ self.old.pool.reads + prev_cost key.now (file_entries (P.history self.old.disk).now.reads)) }
+            → ReadsAtMost (prev_cost key.now (disk_entries P.history self.old))
+            self.old.pool self.new.pool) }
         ensures most { self.new.pool.most ≡ self.old.pool.most }
         ensures same { IsTrue P.is_known → P.history self.new.disk ≡ P.history self.old.disk }
         ensures index { self.new.index ≡ self.old.index }
@@ -310,7 +322,8 @@ impl<P: Disk + Drop> NodeRead for PagedSeq<P> {
         ensures above { IfOk result (IsKeyAbove key.now) }
         ensures valid { IfOk result IsKeyOfTrees }
         ensures pages { OnOk result (IsTrue P.is_known
-            → self.new.pool.reads ≤ self.old.pool.reads + next_cost key.now (file_entries (P.history self.old.disk).now.reads)) }
+            → ReadsAtMost (next_cost key.now (disk_entries P.history self.old))
+            self.old.pool self.new.pool) }
         ensures most { self.new.pool.most ≡ self.old.pool.most }
         ensures same { IsTrue P.is_known → P.history self.new.disk ≡ P.history self.old.disk }
         ensures index { self.new.index ≡ self.old.index }
@@ -328,7 +341,8 @@ impl<P: Disk + Drop> NodeRead for PagedSeq<P> {
         ensures below { IfOk result (IsKeyBelow key.now) }
         ensures valid { IfOk result IsKeyOfTrees }
         ensures pages { OnOk result (IsTrue P.is_known
-            → self.new.pool.reads ≤ self.old.pool.reads + prev_cost key.now (file_entries (P.history self.old.disk).now.reads)) }
+            → ReadsAtMost (prev_cost key.now (disk_entries P.history self.old))
+            self.old.pool self.new.pool) }
         ensures most { self.new.pool.most ≡ self.old.pool.most }
         ensures same { IsTrue P.is_known → P.history self.new.disk ≡ P.history self.old.disk }
         ensures index { self.new.index ≡ self.old.index }
