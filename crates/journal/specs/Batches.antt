@@ -1,9 +1,9 @@
 -- What an append of many commits at once leaves of a journal (docs/FILE_FORMAT.md, "Appending").
-use Rattle.std.specs.Prelude.{◌≡◌, ℕ, ◌+◌, ◌≤◌, List, [], ◌∷◌, ◌++◌, length, map, take, Ok}
+use Rattle.std.specs.Prelude.{◌≡◌, ℕ, ◌+◌, ◌≤◌, List, [], ◌∷◌, ◌++◌, length, map, take, Option, Ok}
 use Rattle.outside_traits.specs.CrashImages.{IsImage}
 use Rattle.outside_traits.specs.Moments.{History, IsAllSynced, LeavesOnly}
 use Rattle.journal.specs.Appends.{IsOneOf, groups_in, last_number}
-use Rattle.journal.specs.Groups.{commits_of, only_commits, open_groups, word}
+use Rattle.journal.specs.Groups.{AreCommits, commits_of, only_commits, open_groups, word}
 use Rattle.journal.specs.Journals.{read}
 use Rattle.journal.specs.Steps.{DiskStep, Does}
 use Rattle.journal.specs.Steps.DiskStep.{write, sync}
@@ -15,6 +15,10 @@ use Rattle.node_records.specs.declared.pending.Pending.{Pending}
 -- commits that are to be written, each as its number and its body
 abbrev pub pairs_of : List Pending → List (ℕ × List ℕ)
 pairs_of pending = map (λ p. (p.number, p.body)) pending
+
+-- these may stand one behind the other, the first behind a group with this number
+abbrev pub MayFollow : Option ℕ → List Pending → Type 0
+MayFollow last pending = AreCommits last (pairs_of pending)
 
 -- the gate behind a commit: open where one of these follows on it
 abbrev pub gate_before : List (ℕ × List ℕ) → ℕ
@@ -72,3 +76,15 @@ pub record HasFirst (groups : Groups) (commits : List (ℕ × List ℕ)) (least 
 pub record HasAddedSince (groups : Groups) (commits : List (ℕ × List ℕ)) (old new : History) : Type 0 where
   pub now : read new.now.reads ≡ Ok (with_commits groups (commits_of commits))
   pub leaves : LeavesOnly (HasFirst groups commits 0) old new
+
+-- within an append of `more` to the commits that were added since `old`, this holds
+abbrev pub DuringAppends : (Groups → List (ℕ × List ℕ) → List (ℕ × List ℕ) → History → History → History → Type 0) → Type 0
+DuringAppends P =
+    (groups : Groups) (commits more : List (ℕ × List ℕ)) (old mid new : History) → HasAddedSince groups commits old mid
+    → LeavesAllOrNone more mid new → P groups commits more old mid new
+
+-- once it is done, this holds
+abbrev pub AfterAppends : (Groups → List (ℕ × List ℕ) → List (ℕ × List ℕ) → History → History → Type 0) → Type 0
+AfterAppends P =
+    (groups : Groups) (commits more : List (ℕ × List ℕ)) (old mid new : History) (gate : ℕ) → HasAddedSince groups commits old mid
+    → AddsCommits gate more mid new → LeavesAllOrNone more mid new → P groups commits more old new

@@ -38,3 +38,7 @@ images_bytes (image ∷ images) = (big_bytes 4 image.0 ++ image.1) ++ images_byt
 -- the body of these images
 abbrev pub images_body : List (ℕ × List ℕ) → List ℕ
 images_body images = big_bytes 4 (length images) ++ images_bytes images
+
+-- images are read again from their body
+abbrev pub ImagesAreReadAgain : List (ℕ × List ℕ) → Type 0
+ImagesAreReadAgain images = images_in (images_body images) ≡ Some images

@@ -1,11 +1,12 @@
 // The file under a journal, and the calls of an append.
 ghost use Rattle.std.specs.Prelude.{◌≡◌, ◌≤◌, ◌<◌, ◌+◌, ◌^◌, false, true, Some, IsTrue, OnOk, OnErr, length, vec_capacity};
 ghost use Rattle.outside_traits.specs.Faults.{HasCause, failed};
-ghost use Rattle.journal.specs.Groups.{AreCommits, AreImages, IsCommit, commits_of, open_groups};
+ghost use Rattle.journal.specs.Groups.{AreImages, IsCommit, commits_of, open_groups};
 ghost use Rattle.journal.specs.Appends.{AddsCommit, LeavesWithOrWithout, last_number};
-ghost use Rattle.journal.specs.Batches.{AddsCommits, LeavesAllOrNone, batch_steps, pairs_of};
+ghost use Rattle.journal.specs.Batches.{AddsCommits, LeavesAllOrNone, MayFollow, batch_steps, pairs_of};
 ghost use Rattle.journal.specs.ImageAppends.{AddsImages, LeavesWithOrWithoutImages};
 ghost use Rattle.journal.specs.Resets.{Clears, LeavesGroupsOrNone};
+ghost use Rattle.journal.specs.inside.KnownDisks.{WhereKnown};
 ghost use Rattle.journal.specs.inside.Settled.{IsHeld, IsKept};
 ghost use Rattle.journal.specs.Steps.{Does, StopsIn, append_steps, gate_steps, images_steps, reset_steps};
 
@@ -43,10 +44,12 @@ impl<J: Disk> JournalFile<J> {
         ensures gate { OnOk result (self.new.gate ≡ self.old.gate + 10 + length body.now) }
         ensures has_images { self.new.has_images ≡ self.old.has_images }
         ensures room { vec_capacity buffer.old ≤ vec_capacity buffer.new }
-        ensures adds { OnOk result (IsTrue J.is_known → AddsCommit self.old.gate number body.now (J.history self.old.disk) (J.history self.new.disk)) }
-        ensures stops { OnErr result (IsTrue J.is_known
-            → StopsIn (append_steps self.old.gate number body.now) (J.history self.old.disk) (J.history self.new.disk)) }
-        ensures any_moment { IsTrue J.is_known → LeavesWithOrWithout number body.now (J.history self.old.disk) (J.history self.new.disk) }
+        ensures adds { OnOk result (WhereKnown J.is_known J.history
+            (AddsCommit self.old.gate number body.now) self.old.disk self.new.disk) }
+        ensures stops { OnErr result (WhereKnown J.is_known J.history
+            (StopsIn (append_steps self.old.gate number body.now)) self.old.disk self.new.disk) }
+        ensures any_moment { WhereKnown J.is_known J.history
+            (LeavesWithOrWithout number body.now) self.old.disk self.new.disk }
         ensures cause { HasCause failed (J.faults self.old.disk) (J.faults self.new.disk) result }
     {
         frame(buffer, COMMIT, number, body);
@@ -73,10 +76,12 @@ impl<J: Disk> JournalFile<J> {
         ensures gate { OnOk result (self.new.gate ≡ self.old.gate + 10 + length body.now) }
         ensures has_images { OnOk result (self.new.has_images ≡ true) }
         ensures room { vec_capacity buffer.old ≤ vec_capacity buffer.new }
-        ensures adds { OnOk result (IsTrue J.is_known → AddsImages self.old.gate number body.now (J.history self.old.disk) (J.history self.new.disk)) }
-        ensures stops { OnErr result (IsTrue J.is_known
-            → StopsIn (images_steps self.old.gate number body.now) (J.history self.old.disk) (J.history self.new.disk)) }
-        ensures any_moment { IsTrue J.is_known → LeavesWithOrWithoutImages number body.now (J.history self.old.disk) (J.history self.new.disk) }
+        ensures adds { OnOk result (WhereKnown J.is_known J.history
+            (AddsImages self.old.gate number body.now) self.old.disk self.new.disk) }
+        ensures stops { OnErr result (WhereKnown J.is_known J.history
+            (StopsIn (images_steps self.old.gate number body.now)) self.old.disk self.new.disk) }
+        ensures any_moment { WhereKnown J.is_known J.history
+            (LeavesWithOrWithoutImages number body.now) self.old.disk self.new.disk }
         ensures cause { HasCause failed (J.faults self.old.disk) (J.faults self.new.disk) result }
     {
         frame(buffer, IMAGES, number, body);
@@ -97,9 +102,12 @@ impl<J: Disk> JournalFile<J> {
         ensures last { self.new.last ≡ self.old.last }
         ensures gate { OnOk result (self.new.gate ≡ 8) }
         ensures has_images { OnOk result (self.new.has_images ≡ false) }
-        ensures clears { OnOk result (IsTrue J.is_known → Clears self.old.gate (J.history self.old.disk) (J.history self.new.disk)) }
-        ensures stops { OnErr result (IsTrue J.is_known → StopsIn (reset_steps self.old.gate) (J.history self.old.disk) (J.history self.new.disk)) }
-        ensures any_moment { IsTrue J.is_known → LeavesGroupsOrNone (J.history self.old.disk) (J.history self.new.disk) }
+        ensures clears { OnOk result (WhereKnown J.is_known J.history
+            (Clears self.old.gate) self.old.disk self.new.disk) }
+        ensures stops { OnErr result (WhereKnown J.is_known J.history
+            (StopsIn (reset_steps self.old.gate)) self.old.disk self.new.disk) }
+        ensures any_moment { WhereKnown J.is_known J.history
+            LeavesGroupsOrNone self.old.disk self.new.disk }
         ensures cause { HasCause failed (J.faults self.old.disk) (J.faults self.new.disk) result }
     {
         // Behind a first gate that is closed old groups may stand: a crash within a write of it could open it to them.
@@ -116,17 +124,20 @@ impl<J: Disk> JournalFile<J> {
     /// Adds commits, all of them or none: until their first gate is opened none counts. It takes no memory.
     pub fn append_all(&mut self, commits: &[Pending]) -> Result<(), Failed>
         requires kept { IsKept J.is_known (J.history self.old.disk) self.old.gate self.old.last }
-        requires commits { AreCommits self.old.last (pairs_of commits.now) }
+        requires commits { MayFollow self.old.last commits.now }
         requires some { 0 < length commits.now }
 
         ensures kept { OnOk result (IsKept J.is_known (J.history self.new.disk) self.new.gate self.new.last) }
         ensures last { OnOk result (self.new.last ≡ last_number self.old.last (commits_of (pairs_of commits.now))) }
         ensures gate { OnOk result (self.new.gate ≡ self.old.gate + length (open_groups (pairs_of commits.now))) }
         ensures has_images { self.new.has_images ≡ self.old.has_images }
-        ensures adds { OnOk result (IsTrue J.is_known → AddsCommits self.old.gate (pairs_of commits.now) (J.history self.old.disk) (J.history self.new.disk)) }
-        ensures stops { OnErr result (IsTrue J.is_known
-            → StopsIn (batch_steps self.old.gate (pairs_of commits.now)) (J.history self.old.disk) (J.history self.new.disk)) }
-        ensures any_moment { IsTrue J.is_known → LeavesAllOrNone (pairs_of commits.now) (J.history self.old.disk) (J.history self.new.disk) }
+        ensures adds { OnOk result (WhereKnown J.is_known J.history
+            (AddsCommits self.old.gate (pairs_of commits.now)) self.old.disk self.new.disk) }
+        ensures stops { OnErr result (WhereKnown J.is_known J.history
+            (StopsIn (batch_steps self.old.gate (pairs_of commits.now)))
+            self.old.disk self.new.disk) }
+        ensures any_moment { WhereKnown J.is_known J.history
+            (LeavesAllOrNone (pairs_of commits.now)) self.old.disk self.new.disk }
         ensures cause { HasCause failed (J.faults self.old.disk) (J.faults self.new.disk) result }
     {
         let gate = self.gate;
@@ -145,8 +156,10 @@ impl<J: Disk> JournalFile<J> {
 fn write_group<J: Disk>(disk: &mut J, gate: u64, framed: &[u8]) -> Result<(), Failed>
     requires fits { gate + 1 < 2 ^ 64 }
     requires within { IsTrue J.is_known → gate + 1 ≤ length (J.history disk.old).now.reads }
-    ensures does { OnOk result (IsTrue J.is_known → Does (gate_steps gate framed.now) (J.history disk.old) (J.history disk.new)) }
-    ensures stops { OnErr result (IsTrue J.is_known → StopsIn (gate_steps gate framed.now) (J.history disk.old) (J.history disk.new)) }
+    ensures does { OnOk result (WhereKnown J.is_known J.history
+        (Does (gate_steps gate framed.now)) disk.old disk.new) }
+    ensures stops { OnErr result (WhereKnown J.is_known J.history
+        (StopsIn (gate_steps gate framed.now)) disk.old disk.new) }
     ensures fits { OnOk result (gate + 1 + length framed.now < 2 ^ 64) }
     ensures cause { HasCause failed (J.faults disk.old) (J.faults disk.new) result }
 {

@@ -1,6 +1,6 @@
 // A store's journal: it is opened on a disk, takes commits until a call of the disk fails, and hands the disk out.
-ghost use Rattle.std.specs.Prelude.{◌≡◌, ◌≤◌, false, true, not, Ok, IfOk, IfErr, MatchResult, IsTrue, None, OnOk, OnErr};
-ghost use Rattle.outside_traits.specs.Faults.{HasCause, FaultCounted};
+ghost use Rattle.std.specs.Prelude.{◌≡◌, ◌≤◌, false, true, not, Ok, IfOk, IfErr, IsTrue, None, OnOk, OnErr};
+ghost use Rattle.outside_traits.specs.Faults.{HasCause};
 ghost use Rattle.outside_traits.specs.CrashImages.{IsImage};
 ghost use Rattle.outside_traits.specs.Moments.{IsAllSynced};
 ghost use Rattle.journal.specs.DiskFaults.{disk_fault};
@@ -8,8 +8,8 @@ ghost use Rattle.journal.specs.Batches.{AddsCommits, HasAddedAll, LeavesAllOrNon
 ghost use Rattle.journal.specs.Asked.{MayAppend, MayAppendAll, MayAppendImages};
 ghost use Rattle.journal.specs.ImageAppends.{AddsImages, HoldsImages, LeavesWithOrWithoutImages};
 ghost use Rattle.journal.specs.Journals.{is_fresh, read};
-ghost use Rattle.journal.specs.Openings.{LeavesSameGroups, Opens, TakesCommits};
-ghost use Rattle.journal.specs.Refusals.{BreaksJournal, HasReason, RisesOnlyAtFault, UnlessFault};
+ghost use Rattle.journal.specs.Openings.{LeavesSameGroupsBy, Opens, TakesCommits};
+ghost use Rattle.journal.specs.Refusals.{RefusesJournal, RisesOnlyAtFault, UnlessFault};
 ghost use Rattle.journal.specs.Resets.{Clears, HasReset, LeavesGroupsOrNone};
 ghost use Rattle.journal.specs.Steps.{StopsIn, append_steps, images_steps, reset_steps};
 ghost use Rattle.journal.specs.Appends.{AddsCommit, HasAdded, LeavesWithOrWithout, groups_in};
@@ -74,13 +74,13 @@ impl<J: Disk> Journal<J> {
         ensures ready { IfOk result (λ opened. TakesCommits (J.faults disk) opened.1 opened.0) }
 
         // A crash at any moment of the call leaves what stands for the same groups.
-        ensures any_moment { IsTrue J.is_known → MatchResult result
-            (λ opened. LeavesSameGroups (J.history disk) opened.0.history)
-            (λ refused. LeavesSameGroups (J.history disk) (J.history refused.disk)) }
+        ensures any_moment { IsTrue J.is_known
+            → LeavesSameGroupsBy (J.history disk) result
+            (λ opened. opened.0.history) (λ refused. J.history refused.disk) }
 
         // Why it isn't opened.
-        ensures reason { IfErr result (λ refused. HasReason (BreaksJournal J.is_known (read (J.history disk).now.reads))
-            (FaultCounted (J.faults disk) (J.faults refused.disk)) refused.fault) }
+        ensures reason { IfErr result (λ refused. RefusesJournal J.is_known (J.history disk)
+            (J.faults disk) (J.faults refused.disk) refused.fault) }
 
         // Nothing is written then but where the disk fails while a journal is made in a fresh file, and no other fault is counted.
         ensures untouched { IfErr result (λ refused. UnlessFault refused.fault (IsTrue J.is_known → J.history refused.disk ≡ J.history disk)) }
