@@ -40,6 +40,13 @@ last_of (group ∷ groups) number = last_of groups group.number
 abbrev pub with_commits : List Group → Entries × ℕ → Contents
 with_commits groups held = record { entries = after_commits groups held.0; number = last_of groups held.1 }
 
+-- the contents after one commit more, and after many
+abbrev pub with_one_commit : Group → Contents → Contents
+with_one_commit group contents = record { entries = changed group.changes contents.entries; number = group.number }
+
+abbrev pub with_more_commits : List Group → Contents → Contents
+with_more_commits groups contents = with_commits groups (contents.entries, contents.number)
+
 -- ---- the number that the commits go on from
 
 -- the base that a header tells, if there is one
@@ -133,6 +140,14 @@ contents_beside pages journal = elim (read journal) [
 
 abbrev pub contents_of_files : List ℕ → List ℕ → Result Contents Place
 contents_of_files journal pages = contents_beside pages journal
+
+-- the files stand for these contents
+abbrev pub FilesHold : List ℕ → List ℕ → Contents → Type 0
+FilesHold journal pages contents = contents_of_files journal pages ≡ Ok contents
+
+-- these files stand for what those stand for, or break the same rule
+abbrev pub HoldTheSame : List ℕ → List ℕ → List ℕ → List ℕ → Type 0
+HoldTheSame journal pages journal_then pages_then = contents_of_files journal pages ≡ contents_of_files journal_then pages_then
 
 -- without images, in parts: what the pages hold, the commits that go on from there, and a map that breaks no rule of the tree
 pub record HoldsCommits (pages : List ℕ) (groups : Groups) (contents : Contents) : Type 0 where

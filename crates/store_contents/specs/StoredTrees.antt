@@ -4,7 +4,7 @@ use Rattle.tree_model.specs.Tree.{Tree, map_of}
 use Rattle.tree_model.specs.ValidTrees.{IsValidTree}
 use Rattle.outside_traits.specs.CrashImages.{IsImage}
 use Rattle.outside_traits.specs.DiskPairs.{Pair, PairsLeave}
-use Rattle.store_contents.specs.Contents.{contents_of_files}
+use Rattle.store_contents.specs.Contents.{HoldTheSame, contents_of_files}
 
 -- the files stand for this tree, valid, with this number
 pub record StandFor (journal pages : List ℕ) (tree : Tree) (number : ℕ) : Type 0 where
@@ -23,7 +23,7 @@ pub record StoodFor (pair : Pair) (journal pages : List ℕ) : Type 0 where
   pub pages_then : List ℕ
   pub of_journal : IsImage pair.journal.now journal_then
   pub of_pages : IsImage pair.pages.now pages_then
-  pub same : contents_of_files journal pages ≡ contents_of_files journal_then pages_then
+  pub same : HoldTheSame journal pages journal_then pages_then
 
 -- after each call since old, one that failed too, a crash leaves only what stood for the same then
 abbrev pub LeaveWhatStood : Pair → Pair → Type 0
