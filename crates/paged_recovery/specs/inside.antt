@@ -1,4 +1,6 @@
 -- Words that only private functions and the proofs use.
+pub mod Behind
+pub mod Counts
 pub mod Finishing
 pub mod Firsts
 pub mod Fronts

@@ -1,18 +1,18 @@
 // The journal is opened beside pages that were read, and its commits are followed.
-ghost use Rattle.std.specs.Prelude.{◌≡◌, ◌≤◌, ℕ, List, [], true, false, Some, Ok, Err, unwrap_or, IsTrue, IfOk, IfErr, OnOk, MatchResult};
-ghost use Rattle.outside_traits.specs.Faults.{FaultCounted};
+ghost use Rattle.std.specs.Prelude.{◌≡◌, ◌≤◌, ℕ, [], true, false, Some, unwrap_or, IsTrue, IfOk, IfErr, OnOk, MatchResult};
 ghost use Rattle.outside_traits.specs.Moments.{IsAllSynced};
-ghost use Rattle.node_pages.specs.PageFiles.{contents_of_file};
 ghost use Rattle.journal.specs.Groups.{only_commits};
 ghost use Rattle.journal.specs.Journals.{is_fresh};
 ghost use Rattle.journal.specs.Openings.{LeavesSameGroups, Opens};
 ghost use Rattle.journal.specs.Refusals.{HasReason, UnlessFault};
-ghost use Rattle.paged_seq.specs.PagedMaps.{file_entries};
-ghost use Rattle.store_contents.specs.Contents.{LeavesSameContents, goes_on_from};
-ghost use Rattle.paged_recovery.specs.Causes.{OneRose, RiseOnlyAtFault};
-ghost use Rattle.paged_recovery.specs.Openings.{KeepsJournal, TakesBehind};
+ghost use Rattle.store_contents.specs.Contents.{goes_on_from};
+ghost use Rattle.paged_recovery.specs.Causes.{HasReasonSince};
+ghost use Rattle.paged_recovery.specs.Openings.{KeepsJournalIfKnown, TakesBehind};
+ghost use Rattle.paged_recovery.specs.inside.Behind.{AreAnsweredOver, ComesFirst, CountsNoneBeside, CountsOnlyAtFaultBeside, IsAnsweredOver, IsFollowed, LeavesSameBesideAny};
+ghost use Rattle.paged_recovery.specs.inside.Counts.{CountRose};
 ghost use Rattle.paged_recovery.specs.inside.Nets.{IsNetOf};
-ghost use Rattle.paged_recovery.specs.inside.Over.{FollowsPages, has_none, answer_before, answer_over, groups_before, groups_over};
+ghost use Rattle.paged_recovery.specs.inside.Over.{has_none, groups_before};
+ghost use Rattle.paged_recovery.specs.inside.Walking.{PagesHaveBase};
 
 use crate::damage::{first_fault, goes_on_from};
 use crate::netting::{Net, follow};
@@ -41,26 +41,23 @@ pub fn open_behind<J: Disk, P: Disk + Drop>(
 ) -> Result<Followed<J>, OpenFault<J>>
     requires synced { IsTrue J.is_known → IsAllSynced (J.history journal) }
     requires fresh { IsTrue J.is_known → fresh ≡ is_fresh (J.history journal).now.reads }
-    requires held { IsTrue P.is_known → contents_of_file (P.history seq.old.disk).now.reads ≡ Ok (file_entries (P.history seq.old.disk).now.reads, base) }
-    ensures follows { IfOk result (λ f. FollowsPages J.is_known P.is_known (P.history seq.old.disk).now.reads base
-        (J.history journal) f.journal.history f.net.layers.changes f.net.number) }
+    requires held { IsTrue P.is_known → PagesHaveBase (P.history seq.old.disk).now.reads base }
+    ensures follows { IfOk result (λ f. IsFollowed J.Disk P.Disk journal seq.old base f) }
     ensures next { IfOk result (λ f. TakesBehind f.journal f.net.number) }
-    ensures moments { IfOk result (λ f. IsTrue J.is_known → (pages : List ℕ) → LeavesSameContents pages (J.history journal) f.journal.history) }
-    ensures moments_refused { IfErr result (λ refused. IsTrue J.is_known → (pages : List ℕ)
-        → LeavesSameContents pages (J.history journal) (J.history refused.disk)) }
-    ensures reason { IfErr result (λ refused. HasReason
-        (λ place. IsTrue J.is_known → IsTrue P.is_known
-        → answer_over (file_entries (P.history seq.old.disk).now.reads, base) (J.history journal).now.reads ≡ Err place)
-        (OneRose (J.faults journal) (J.faults refused.disk) (P.faults seq.old.disk) (P.faults seq.new.disk)) refused.fault) }
+    ensures moments { IfOk result (λ f. IsTrue J.is_known
+        → LeavesSameBesideAny (J.history journal) f.journal.history) }
+    ensures moments_refused { IfErr result (λ refused. IsTrue J.is_known
+        → LeavesSameBesideAny (J.history journal) (J.history refused.disk)) }
+    ensures reason { IfErr result (λ refused. HasReasonSince (IsAnsweredOver base)
+        J.Disk P.Disk journal seq.old.disk refused.disk seq.new.disk refused.fault) }
     ensures untouched { IfErr result (λ refused. HasReason
         (λ _. IsTrue J.is_known → J.history refused.disk ≡ J.history journal) (Unit {0}) refused.fault) }
-    ensures kept { IfErr result (λ refused. UnlessFault refused.fault (IsTrue J.is_known
-        → KeepsJournal (J.history journal).now.reads (J.history refused.disk).now.reads)) }
+    ensures kept { IfErr result (λ refused. UnlessFault refused.fault
+        (KeepsJournalIfKnown J.Disk journal refused.disk)) }
     ensures most { seq.new.pool.most ≡ seq.old.pool.most }
     ensures pages_same { IsTrue P.is_known → P.history seq.new.disk ≡ P.history seq.old.disk }
-    ensures counts { MatchResult result
-        (λ f. (f.journal.faults ≡ J.faults journal) × (P.faults seq.new.disk ≡ P.faults seq.old.disk))
-        (λ refused. RiseOnlyAtFault refused.fault (J.faults journal) (J.faults refused.disk) (P.faults seq.old.disk) (P.faults seq.new.disk)) }
+    ensures counts { MatchResult result (CountsNoneBeside J.Disk P.Disk journal seq.old seq.new)
+        (CountsOnlyAtFaultBeside J.Disk P.Disk journal seq.old seq.new) }
 {
     if fresh {
         open_fresh(alloc, journal, seq, base)
@@ -78,26 +75,23 @@ fn open_fresh<J: Disk, P: Disk + Drop>(
 ) -> Result<Followed<J>, OpenFault<J>>
     requires synced { IsTrue J.is_known → IsAllSynced (J.history journal) }
     requires fresh { IsTrue J.is_known → is_fresh (J.history journal).now.reads ≡ true }
-    requires held { IsTrue P.is_known → contents_of_file (P.history seq.old.disk).now.reads ≡ Ok (file_entries (P.history seq.old.disk).now.reads, base) }
-    ensures follows { IfOk result (λ f. FollowsPages J.is_known P.is_known (P.history seq.old.disk).now.reads base
-        (J.history journal) f.journal.history f.net.layers.changes f.net.number) }
+    requires held { IsTrue P.is_known → PagesHaveBase (P.history seq.old.disk).now.reads base }
+    ensures follows { IfOk result (λ f. IsFollowed J.Disk P.Disk journal seq.old base f) }
     ensures next { IfOk result (λ f. TakesBehind f.journal f.net.number) }
-    ensures moments { IfOk result (λ f. IsTrue J.is_known → (pages : List ℕ) → LeavesSameContents pages (J.history journal) f.journal.history) }
-    ensures moments_refused { IfErr result (λ refused. IsTrue J.is_known → (pages : List ℕ)
-        → LeavesSameContents pages (J.history journal) (J.history refused.disk)) }
-    ensures reason { IfErr result (λ refused. HasReason
-        (λ place. IsTrue J.is_known → IsTrue P.is_known
-        → answer_over (file_entries (P.history seq.old.disk).now.reads, base) (J.history journal).now.reads ≡ Err place)
-        (OneRose (J.faults journal) (J.faults refused.disk) (P.faults seq.old.disk) (P.faults seq.new.disk)) refused.fault) }
+    ensures moments { IfOk result (λ f. IsTrue J.is_known
+        → LeavesSameBesideAny (J.history journal) f.journal.history) }
+    ensures moments_refused { IfErr result (λ refused. IsTrue J.is_known
+        → LeavesSameBesideAny (J.history journal) (J.history refused.disk)) }
+    ensures reason { IfErr result (λ refused. HasReasonSince (IsAnsweredOver base)
+        J.Disk P.Disk journal seq.old.disk refused.disk seq.new.disk refused.fault) }
     ensures untouched { IfErr result (λ refused. HasReason
         (λ _. IsTrue J.is_known → J.history refused.disk ≡ J.history journal) (Unit {0}) refused.fault) }
-    ensures kept { IfErr result (λ refused. UnlessFault refused.fault (IsTrue J.is_known
-        → KeepsJournal (J.history journal).now.reads (J.history refused.disk).now.reads)) }
+    ensures kept { IfErr result (λ refused. UnlessFault refused.fault
+        (KeepsJournalIfKnown J.Disk journal refused.disk)) }
     ensures most { seq.new.pool.most ≡ seq.old.pool.most }
     ensures pages_same { IsTrue P.is_known → P.history seq.new.disk ≡ P.history seq.old.disk }
-    ensures counts { MatchResult result
-        (λ f. (f.journal.faults ≡ J.faults journal) × (P.faults seq.new.disk ≡ P.faults seq.old.disk))
-        (λ refused. RiseOnlyAtFault refused.fault (J.faults journal) (J.faults refused.disk) (P.faults seq.old.disk) (P.faults seq.new.disk)) }
+    ensures counts { MatchResult result (CountsNoneBeside J.Disk P.Disk journal seq.old seq.new)
+        (CountsOnlyAtFaultBeside J.Disk P.Disk journal seq.old seq.new) }
 {
     match follow(alloc, seq, base, List::new(alloc)) {
         Ok(net) => match make(alloc, journal) {
@@ -119,9 +113,10 @@ fn make<J: Disk>(alloc: Global, journal: J) -> Result<Journal<J>, OpenFault<J>>
     ensures next { IfOk result (λ made. (number : ℕ) → TakesBehind made number) }
     ensures moments { IfOk result (λ made. IsTrue J.is_known → LeavesSameGroups (J.history journal) made.history) }
     ensures moments_refused { IfErr result (λ refused. IsTrue J.is_known → LeavesSameGroups (J.history journal) (J.history refused.disk)) }
-    ensures reason { IfErr result (λ refused. HasReason (λ _. IsTrue J.is_known → ⊥) (FaultCounted (J.faults journal) (J.faults refused.disk)) refused.fault) }
-    ensures kept { IfErr result (λ refused. UnlessFault refused.fault (IsTrue J.is_known
-        → KeepsJournal (J.history journal).now.reads (J.history refused.disk).now.reads)) }
+    ensures reason { IfErr result (λ refused. HasReason (λ _. IsTrue J.is_known → ⊥)
+        (CountRose J.Disk journal refused.disk) refused.fault) }
+    ensures kept { IfErr result (λ refused. UnlessFault refused.fault
+        (KeepsJournalIfKnown J.Disk journal refused.disk)) }
     ensures exact { IfOk result (λ made. made.faults ≡ J.faults journal) }
     ensures uncounted { IfErr result (λ refused. UnlessFault refused.fault (J.faults refused.disk ≡ J.faults journal)) }
     ensures later { IfErr result (λ refused. J.faults journal ≤ J.faults refused.disk) }
@@ -160,21 +155,17 @@ fn open_made<J: Disk, P: Disk + Drop>(
 ) -> Result<Followed<J>, OpenFault<J>>
     requires synced { IsTrue J.is_known → IsAllSynced (J.history journal) }
     requires made { IsTrue J.is_known → is_fresh (J.history journal).now.reads ≡ false }
-    requires held { IsTrue P.is_known → contents_of_file (P.history seq.old.disk).now.reads ≡ Ok (file_entries (P.history seq.old.disk).now.reads, base) }
-    ensures follows { IfOk result (λ f. FollowsPages J.is_known P.is_known (P.history seq.old.disk).now.reads base
-        (J.history journal) f.journal.history f.net.layers.changes f.net.number) }
+    requires held { IsTrue P.is_known → PagesHaveBase (P.history seq.old.disk).now.reads base }
+    ensures follows { IfOk result (λ f. IsFollowed J.Disk P.Disk journal seq.old base f) }
     ensures next { IfOk result (λ f. TakesBehind f.journal f.net.number) }
     ensures same { IfOk result (λ f. IsTrue J.is_known → f.journal.history ≡ J.history journal) }
     ensures same_refused { IfErr result (λ refused. IsTrue J.is_known → J.history refused.disk ≡ J.history journal) }
-    ensures reason { IfErr result (λ refused. HasReason
-        (λ place. IsTrue J.is_known → IsTrue P.is_known
-        → answer_over (file_entries (P.history seq.old.disk).now.reads, base) (J.history journal).now.reads ≡ Err place)
-        (OneRose (J.faults journal) (J.faults refused.disk) (P.faults seq.old.disk) (P.faults seq.new.disk)) refused.fault) }
+    ensures reason { IfErr result (λ refused. HasReasonSince (IsAnsweredOver base)
+        J.Disk P.Disk journal seq.old.disk refused.disk seq.new.disk refused.fault) }
     ensures most { seq.new.pool.most ≡ seq.old.pool.most }
     ensures pages_same { IsTrue P.is_known → P.history seq.new.disk ≡ P.history seq.old.disk }
-    ensures counts { MatchResult result
-        (λ f. (f.journal.faults ≡ J.faults journal) × (P.faults seq.new.disk ≡ P.faults seq.old.disk))
-        (λ refused. RiseOnlyAtFault refused.fault (J.faults journal) (J.faults refused.disk) (P.faults seq.old.disk) (P.faults seq.new.disk)) }
+    ensures counts { MatchResult result (CountsNoneBeside J.Disk P.Disk journal seq.old seq.new)
+        (CountsOnlyAtFaultBeside J.Disk P.Disk journal seq.old seq.new) }
 {
     match Journal::open(alloc, journal) {
         Ok((journal, groups)) => match follow_groups(alloc, seq, base, groups) {
@@ -199,13 +190,12 @@ fn follow_groups<P: Disk + Drop>(
     base: u32,
     groups: Groups,
 ) -> Result<Net, OpenError>
-    requires held { IsTrue P.is_known → contents_of_file (P.history seq.old.disk).now.reads ≡ Ok (file_entries (P.history seq.old.disk).now.reads, base) }
+    requires held { IsTrue P.is_known → PagesHaveBase (P.history seq.old.disk).now.reads base }
     ensures commits { IfOk result (λ net. groups ≡ only_commits groups.commits) }
     ensures goes_on { IfOk result (λ net. goes_on_from (Some base) groups.commits ≡ true) }
     ensures net { IfOk result (λ net. IsNetOf P.is_known (P.history seq.old.disk).now.reads base groups.commits net.layers.changes net.number) }
-    ensures reason { IfErr result (HasReason
-        (λ place. IsTrue P.is_known → groups_over (file_entries (P.history seq.old.disk).now.reads, base) groups ≡ Err place)
-        (FaultCounted (P.faults seq.old.disk) (P.faults seq.new.disk))) }
+    ensures reason { IfErr result (HasReason (AreAnsweredOver P.Disk seq.old.disk base groups)
+        (CountRose P.Disk seq.old.disk seq.new.disk)) }
     ensures most { seq.new.pool.most ≡ seq.old.pool.most }
     ensures same { IsTrue P.is_known → P.history seq.new.disk ≡ P.history seq.old.disk }
     ensures exact { OnOk result (P.faults seq.new.disk ≡ P.faults seq.old.disk) }
@@ -230,8 +220,8 @@ pub fn look_at_journal<J: Disk>(
 ) -> OpenFault<J>
     requires synced { IsTrue J.is_known → IsAllSynced (J.history journal) }
     requires made { IsTrue J.is_known → is_fresh (J.history journal).now.reads ≡ false }
-    ensures reason { HasReason (λ place. IsTrue J.is_known → place ≡ unwrap_or (answer_before base (J.history journal).now.reads) broken)
-        (FaultCounted (J.faults journal) (J.faults result.disk)) result.fault }
+    ensures reason { HasReason (ComesFirst J.is_known base (J.history journal).now.reads broken)
+        (CountRose J.Disk journal result.disk) result.fault }
     ensures same { IsTrue J.is_known → J.history result.disk ≡ J.history journal }
     ensures uncounted { UnlessFault result.fault (J.faults result.disk ≡ J.faults journal) }
     ensures later { J.faults journal ≤ J.faults result.disk }

@@ -1,7 +1,6 @@
 // A checkpoint that a crash broke off is finished: its images, which are open in the journal, are tested, put into the pages, and let go.
 ghost use Rattle.std.specs.Prelude.{◌≡◌, ◌≤◌, ◌<◌, ◌+◌, ◌*◌, max, ℕ, [], true, false, length, take, Some, None, Ok, Err, IsTrue, IfOk, IfErr, OnOk, OnErr, MatchResult};
-ghost use Rattle.outside_traits.specs.DiskPairs.{PairsLeave, pair_of};
-ghost use Rattle.outside_traits.specs.Faults.{FaultCounted, HasCause};
+ghost use Rattle.outside_traits.specs.Faults.{HasCause};
 ghost use Rattle.outside_traits.specs.Moments.{IsAllSynced};
 ghost use Rattle.outside_kinds.specs.MemoryDisks.{history_of};
 ghost use Rattle.page_images.specs.Images.{AreImages as AreInstallable, Rising};
@@ -15,13 +14,14 @@ ghost use Rattle.journal.specs.Refusals.{HasReason, UnlessFault};
 ghost use Rattle.journal.specs.declared.group.Groups.{Groups};
 ghost use Rattle.journal.specs.declared.group.Images.{Images};
 ghost use Rattle.paged_seq.specs.PagedFiles.{BreaksPages};
-ghost use Rattle.paged_seq.specs.PagedMaps.{file_entries};
-ghost use Rattle.store_contents.specs.Contents.{Contents, over_pages, place_in, with_images};
+ghost use Rattle.store_contents.specs.Contents.{Contents, over_pages, place_in};
 ghost use Rattle.store_contents.specs.StoredTrees.{LeaveWhatStood};
-ghost use Rattle.paged_recovery.specs.Causes.{OneRose, RiseOnlyAtFault};
-ghost use Rattle.paged_recovery.specs.Openings.{HasImages};
-ghost use Rattle.paged_recovery.specs.inside.Finishing.{ArePages, AreSound, AreUnfinished, HasOpen, IsFinished, IsJudged, IsUntouchedAt, StandForThis, is_ready, judged, memory_alone, ready_front, stands_above};
-ghost use Rattle.paged_recovery.specs.inside.Over.{IsRefusedAt};
+ghost use Rattle.paged_recovery.specs.Causes.{CountsOnlyAtFault, HasReasonIn, HasReasonSince, OneRose};
+ghost use Rattle.paged_recovery.specs.Openings.{KnownFilesHaveAfter, KnownFilesHave};
+ghost use Rattle.paged_recovery.specs.inside.Counts.{CountRose, SameCounts};
+ghost use Rattle.paged_recovery.specs.inside.Finishing.{ArePages, AreSound, BreaksWithImages, HasOpen, IsFinished, IsJudged, IsUntouchedAt, LeaveThis, EndWithThis, StayUnlessImages, WhereUnfinished, files_done, is_ready, journal_on, judged, memory_alone, ready_front, stands_above};
+ghost use Rattle.paged_recovery.specs.inside.Over.{IsRefusedAt, RefusedAt};
+ghost use Rattle.paged_recovery.specs.inside.Walking.{PagesHaveBase};
 
 use crate::counting::told;
 use crate::fault::StoreFault;
@@ -42,7 +42,7 @@ use std::alloc::Global;
 /// The map of these bytes of pages, in memory, where they break no rule of pages.
 fn read_bytes(alloc: Global, bytes: List<u8>) -> Result<PagedSeq<MemDisk>, OpenError>
     ensures bytes { IfOk result (λ seq. (history_of seq.disk).now.reads ≡ bytes) }
-    ensures held { IfOk result (λ seq. contents_of_file bytes ≡ Ok (file_entries bytes, seq.index.base)) }
+    ensures held { IfOk result (λ seq. PagesHaveBase bytes seq.index.base) }
     ensures damage { IfErr result (HasReason (BreaksPages true bytes) ⊥) }
 {
     let disk = MemDisk::new(bytes, List::new(alloc));
@@ -106,8 +106,8 @@ fn judged(alloc: Global, number: u32, row: Option<(Header, List<u8>)>) -> Result
 fn tested<P: Disk>(alloc: Global, pages: &mut P, images: &Images) -> Result<u64, OpenError>
     ensures sound { IfOk result (λ count. IsTrue P.is_known → ArePages images.now.pages → AreSound (P.history pages.old).now.reads images.now count) }
     ensures reason { IfErr result (HasReason
-        (λ place. IsTrue P.is_known → ArePages images.now.pages → with_images (P.history pages.old).now.reads images.now ≡ Err place)
-        (FaultCounted (P.faults pages.old) (P.faults pages.new))) }
+        (BreaksWithImages P.is_known (P.history pages.old).now.reads images.now)
+        (CountRose P.Disk pages.old pages.new)) }
     ensures same { IsTrue P.is_known → P.history pages.new ≡ P.history pages.old }
     ensures exact { OnOk result (P.faults pages.new ≡ P.faults pages.old) }
     ensures uncounted { IfErr result (λ fault. UnlessFault fault (P.faults pages.new ≡ P.faults pages.old)) }
@@ -187,12 +187,10 @@ fn write_in_place<J: Disk, P: Disk>(
     requires synced { IsTrue P.is_known → IsAllSynced (P.history pages.old) }
     requires within { IsTrue P.is_known → AreInstallable (length (P.history pages.old).now.reads) images.now }
     requires rising { Rising images.now }
-    ensures phases { IsTrue J.is_known → IsTrue P.is_known → (contents : Contents)
-        → AreUnfinished journal.old.history (P.history pages.old) images.now contents
-        → PairsLeave (StandForThis contents) (pair_of journal.old.history (P.history pages.old)) (pair_of journal.new.history (P.history pages.new)) }
-    ensures stands { OnOk result (IsTrue J.is_known → IsTrue P.is_known → (contents : Contents)
-        → AreUnfinished journal.old.history (P.history pages.old) images.now contents
-        → StandForThis contents journal.new.history.now.reads (P.history pages.new).now.reads) }
+    ensures phases { KnownFilesHave (WhereUnfinished LeaveThis images.now)
+        (journal_on J.Disk) P.Disk journal.old pages.old journal.new pages.new }
+    ensures stands { OnOk result (KnownFilesHave (WhereUnfinished EndWithThis images.now)
+        (journal_on J.Disk) P.Disk journal.old pages.old journal.new pages.new) }
     ensures cleared { OnOk result (IsTrue J.is_known → read journal.new.history.now.reads ≡ Ok (only_commits [])) }
     ensures fault { result ≡ Err disk_fault → OneRose journal.old.faults journal.new.faults (P.faults pages.old) (P.faults pages.new) }
     ensures exact { OnOk result ((journal.new.faults ≡ journal.old.faults) × (P.faults pages.new ≡ P.faults pages.old)) }
@@ -217,14 +215,12 @@ fn put_in<J: Disk, P: Disk>(
     requires usable { journal.old.failed ≡ false }
     requires holds { IsTrue J.is_known → HasOpen journal.old.history images.now }
     requires synced { IsTrue P.is_known → IsAllSynced (P.history pages.old) }
-    ensures finished { OnOk result (IsTrue J.is_known → IsTrue P.is_known
-        → IsFinished (pair_of journal.old.history (P.history pages.old)) (pair_of journal.new.history (P.history pages.new))) }
-    ensures any_moment { IsTrue J.is_known → IsTrue P.is_known
-        → LeaveWhatStood (pair_of journal.old.history (P.history pages.old)) (pair_of journal.new.history (P.history pages.new)) }
-    ensures reason { IfErr result (HasReason
-        (λ place. IsTrue J.is_known → IsTrue P.is_known
-        → IsUntouchedAt (pair_of journal.old.history (P.history pages.old)) (pair_of journal.new.history (P.history pages.new)) place)
-        (OneRose journal.old.faults journal.new.faults (P.faults pages.old) (P.faults pages.new))) }
+    ensures finished { OnOk result (KnownFilesHave IsFinished
+        (journal_on J.Disk) P.Disk journal.old pages.old journal.new pages.new) }
+    ensures any_moment { KnownFilesHave LeaveWhatStood
+        (journal_on J.Disk) P.Disk journal.old pages.old journal.new pages.new }
+    ensures reason { IfErr result (HasReasonSince IsUntouchedAt
+        (journal_on J.Disk) P.Disk journal.old pages.old journal.new pages.new) }
     ensures exact { OnOk result ((journal.new.faults ≡ journal.old.faults) × (P.faults pages.new ≡ P.faults pages.old)) }
     ensures uncounted { IfErr result (λ fault. UnlessFault fault ((journal.new.faults ≡ journal.old.faults) × (P.faults pages.new ≡ P.faults pages.old))) }
     ensures later { (journal.old.faults ≤ journal.new.faults) × (P.faults pages.old ≤ P.faults pages.new) }
@@ -260,16 +256,14 @@ fn put_groups<J: Disk, P: Disk>(
     requires synced { IsTrue P.is_known → IsAllSynced (P.history pages.old) }
     requires refused { IsTrue J.is_known → IsTrue P.is_known
         → IsRefusedAt journal.old.history.now.reads (P.history pages.old).now.reads (place_in Pages 0) }
-    ensures finished { OnOk result (IsTrue J.is_known → IsTrue P.is_known
-        → IsFinished (pair_of journal.old.history (P.history pages.old)) (pair_of journal.new.history (P.history pages.new))) }
-    ensures any_moment { IsTrue J.is_known → IsTrue P.is_known
-        → LeaveWhatStood (pair_of journal.old.history (P.history pages.old)) (pair_of journal.new.history (P.history pages.new)) }
-    ensures reason { IfErr result (HasReason
-        (λ place. IsTrue J.is_known → IsTrue P.is_known
-        → IsUntouchedAt (pair_of journal.old.history (P.history pages.old)) (pair_of journal.new.history (P.history pages.new)) place)
-        (OneRose journal.old.faults journal.new.faults (P.faults pages.old) (P.faults pages.new))) }
-    ensures without { OnErr result (IsTrue J.is_known → (HasImages journal.old.history.now.reads → ⊥)
-        → (journal.new.history ≡ journal.old.history) × (P.history pages.new ≡ P.history pages.old)) }
+    ensures finished { OnOk result (KnownFilesHave IsFinished
+        (journal_on J.Disk) P.Disk journal.old pages.old journal.new pages.new) }
+    ensures any_moment { KnownFilesHave LeaveWhatStood
+        (journal_on J.Disk) P.Disk journal.old pages.old journal.new pages.new }
+    ensures reason { IfErr result (HasReasonSince IsUntouchedAt
+        (journal_on J.Disk) P.Disk journal.old pages.old journal.new pages.new) }
+    ensures without { OnErr result (IsTrue J.is_known
+        → StayUnlessImages (journal_on J.Disk) P.Disk journal.old pages.old journal.new pages.new) }
     ensures exact { OnOk result ((journal.new.faults ≡ journal.old.faults) × (P.faults pages.new ≡ P.faults pages.old)) }
     ensures uncounted { IfErr result (λ fault. UnlessFault fault ((journal.new.faults ≡ journal.old.faults) × (P.faults pages.new ≡ P.faults pages.old))) }
     ensures later { (journal.old.faults ≤ journal.new.faults) × (P.faults pages.old ≤ P.faults pages.new) }
@@ -291,22 +285,18 @@ pub fn finish<J: Disk, P: Disk + Drop>(
     requires journal { IsTrue J.is_known → IsAllSynced (J.history journal) }
     requires pages { IsTrue P.is_known → IsAllSynced (P.history pages) }
     requires made { IsTrue J.is_known → is_fresh (J.history journal).now.reads ≡ false }
-    requires refused { IsTrue J.is_known → IsTrue P.is_known
-        → IsRefusedAt (J.history journal).now.reads (P.history pages).now.reads (place_in Pages 0) }
-    ensures finished { IfOk result (λ done. IsTrue J.is_known → IsTrue P.is_known
-        → IsFinished (pair_of (J.history journal) (P.history pages)) (pair_of (J.history done.0) (P.history done.1))) }
-    ensures any_moment { IsTrue J.is_known → IsTrue P.is_known → MatchResult result
-        (λ done. LeaveWhatStood (pair_of (J.history journal) (P.history pages)) (pair_of (J.history done.0) (P.history done.1)))
-        (λ refused. LeaveWhatStood (pair_of (J.history journal) (P.history pages)) (pair_of (J.history refused.journal) (P.history refused.pages))) }
-    ensures reason { IfErr result (λ refused. HasReason
-        (λ place. IsTrue J.is_known → IsTrue P.is_known
-        → IsUntouchedAt (pair_of (J.history journal) (P.history pages)) (pair_of (J.history refused.journal) (P.history refused.pages)) place)
-        (OneRose (J.faults journal) (J.faults refused.journal) (P.faults pages) (P.faults refused.pages)) refused.fault) }
-    ensures without { IfErr result (λ refused. IsTrue J.is_known → IsTrue P.is_known → (HasImages (J.history journal).now.reads → ⊥)
-        → (J.history refused.journal ≡ J.history journal) × (P.history refused.pages ≡ P.history pages)) }
+    requires refused { RefusedAt J.Disk P.Disk journal pages (place_in Pages 0) }
+    ensures finished { IfOk result (λ done. KnownFilesHave IsFinished
+        J.Disk P.Disk journal pages done.0 done.1) }
+    ensures any_moment { KnownFilesHaveAfter LeaveWhatStood LeaveWhatStood
+        (files_done J.Disk P.Disk) J.Disk P.Disk journal pages result }
+    ensures reason { IfErr result (λ refused. HasReasonIn IsUntouchedAt
+        J.Disk P.Disk journal pages refused) }
+    ensures without { IfErr result (λ refused. IsTrue J.is_known → IsTrue P.is_known
+        → StayUnlessImages J.Disk P.Disk journal pages refused.journal refused.pages) }
     ensures counts { MatchResult result
-        (λ done. (J.faults done.0 ≡ J.faults journal) × (P.faults done.1 ≡ P.faults pages))
-        (λ refused. RiseOnlyAtFault refused.fault (J.faults journal) (J.faults refused.journal) (P.faults pages) (P.faults refused.pages)) }
+        (λ done. SameCounts J.Disk P.Disk journal pages done.0 done.1)
+        (CountsOnlyAtFault J.Disk P.Disk journal pages) }
 {
     let mut pages = pages;
     match Journal::open(alloc, journal) {

@@ -1,12 +1,10 @@
 // The pages of a file with images put in, gathered in memory one behind the other, up to the first that isn't whole.
-ghost use Rattle.std.specs.Prelude.{◌≡◌, ◌≤◌, ◌<◌, ◌-◌, ◌^◌, ◌==◌, ◌++◌, [], length, drop, IsTrue, IfOk, OnOk};
+ghost use Rattle.std.specs.Prelude.{◌≡◌, ◌≤◌, ◌<◌, ◌^◌, ◌==◌, ◌++◌, [], length, drop, IsTrue, IfOk, OnOk};
 ghost use Rattle.outside_traits.specs.Faults.{HasCause};
 ghost use Rattle.page_store.specs.Pages.{page_of};
 ghost use Rattle.node_pages.specs.PageZero.{count_of};
 ghost use Rattle.node_seq.specs.declared.node_read.SeqError.TheVariants as seq;
-ghost use Rattle.store_contents.specs.Contents.{page_among};
-ghost use Rattle.paged_recovery.specs.inside.Finishing.{ArePages, IsRowOf, StandFrom, begins_with, if_whole, left_behind, page_here};
-ghost use Rattle.paged_recovery.specs.inside.Fronts.{front};
+ghost use Rattle.paged_recovery.specs.inside.Finishing.{AddsPage, AddsPagesUpTo, ArePages, IsRowOf, TellsWhole, begins_with, if_whole, left_behind};
 
 use dewey_labels::List;
 use node_pages::{Header, read_header};
@@ -72,10 +70,10 @@ fn take_page<P: Disk>(
     requires count { IsTrue P.is_known → count ≡ length (P.history pages.old).now.reads }
     requires few { page < 2 ^ 34 }
     requires frame { length frame.old ≡ 8_192 }
-    ensures has { IfOk result (λ has. IsTrue P.is_known → ArePages (drop row.old.next images.now)
-        → has ≡ (length (page_here page (drop row.old.next images.now) (P.history pages.old).now.reads) == 8_192)) }
-    ensures bytes { OnOk result (IsTrue P.is_known → ArePages (drop row.old.next images.now)
-        → row.new.bytes ≡ row.old.bytes ++ if_whole (page_here page (drop row.old.next images.now) (P.history pages.old).now.reads)) }
+    ensures has { IfOk result (λ has. TellsWhole P.is_known page (drop row.old.next images.now)
+        (P.history pages.old).now.reads has) }
+    ensures bytes { OnOk result (AddsPage P.is_known page (drop row.old.next images.now)
+        (P.history pages.old).now.reads row.old.bytes row.new.bytes) }
     ensures left { OnOk result (drop row.new.next images.now ≡ left_behind page (drop row.old.next images.now)) }
     ensures same { IsTrue P.is_known → P.history pages.new ≡ P.history pages.old }
     ensures cause { HasCause seq.DiskFault (P.faults pages.old) (P.faults pages.new) result }
@@ -113,8 +111,8 @@ fn take_pages<P: Disk>(
     requires count { IsTrue P.is_known → count ≡ length (P.history pages.old).now.reads }
     requires few { end < 2 ^ 34 }
     requires frame { length frame.old ≡ 8_192 }
-    ensures bytes { OnOk result (IsTrue P.is_known → ArePages (drop row.old.next images.now) → StandFrom 1 (drop row.old.next images.now)
-        → row.new.bytes ≡ row.old.bytes ++ front (page_among (drop row.old.next images.now) (P.history pages.old).now.reads) 1 (end - 1)) }
+    ensures bytes { OnOk result (AddsPagesUpTo end P.is_known (drop row.old.next images.now)
+        (P.history pages.old).now.reads row.old.bytes row.new.bytes) }
     ensures same { IsTrue P.is_known → P.history pages.new ≡ P.history pages.old }
     ensures cause { HasCause seq.DiskFault (P.faults pages.old) (P.faults pages.new) result }
 {

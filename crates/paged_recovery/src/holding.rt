@@ -1,12 +1,11 @@
 // The pages of a store, opened.
-ghost use Rattle.std.specs.Prelude.{◌≡◌, ◌≤◌, Ok, Err, IsTrue, IfOk, IfErr, MatchResult};
-ghost use Rattle.outside_traits.specs.Faults.{FaultCounted};
+ghost use Rattle.std.specs.Prelude.{◌≡◌, ◌≤◌, IsTrue, IfOk, IfErr, MatchResult};
 ghost use Rattle.page_store.specs.Pages.{ArePagesOf};
-ghost use Rattle.node_pages.specs.PageFiles.{contents_of_file};
 ghost use Rattle.journal.specs.Refusals.{HasReason, UnlessFault};
 ghost use Rattle.node_seq.specs.declared.node_read.SeqError.TheVariants as seq;
 ghost use Rattle.paged_seq.specs.PagedFiles.{BreaksPages};
-ghost use Rattle.paged_seq.specs.PagedMaps.{file_entries};
+ghost use Rattle.paged_recovery.specs.inside.Counts.{CountRose};
+ghost use Rattle.paged_recovery.specs.inside.Walking.{PagesHaveBase};
 
 use crate::counting::told;
 use node_records::OpenError;
@@ -27,10 +26,11 @@ pub struct Unheld<P: Disk + Drop> {
 pub fn hold<P: Disk + Drop>(alloc: Global, pages: P, pool: Pool) -> Result<PagedSeq<P>, Unheld<P>>
     requires kept { IsTrue P.is_known → ArePagesOf (P.history pages).now.reads pool.kept }
     ensures held { IfOk result (λ seq. IsTrue P.is_known
-        → contents_of_file (P.history pages).now.reads ≡ Ok (file_entries (P.history pages).now.reads, seq.index.base)) }
+        → PagesHaveBase (P.history pages).now.reads seq.index.base) }
     ensures most { IfOk result (λ seq. seq.pool.most ≡ pool.most) }
-    ensures reason { IfErr result (λ refused. HasReason (BreaksPages P.is_known (P.history pages).now.reads)
-        (FaultCounted (P.faults pages) (P.faults refused.disk)) refused.fault) }
+    ensures reason { IfErr result (λ refused. HasReason
+        (BreaksPages P.is_known (P.history pages).now.reads)
+        (CountRose P.Disk pages refused.disk) refused.fault) }
     ensures same { IsTrue P.is_known → MatchResult result (λ seq. P.history seq.disk ≡ P.history pages) (λ refused. P.history refused.disk ≡ P.history pages) }
     ensures exact { IfOk result (λ seq. P.faults seq.disk ≡ P.faults pages) }
     ensures uncounted { IfErr result (λ refused. UnlessFault refused.fault (P.faults refused.disk ≡ P.faults pages)) }

@@ -1,13 +1,13 @@
 // What commits make of the records that the pages hold: the whole map is tested as it is read, and the net changes are kept.
 ghost use Rattle.std.specs.Prelude.{◌≡◌, ◌≤◌, IsTrue, IfOk, IfErr, OnOk};
-ghost use Rattle.outside_traits.specs.Faults.{FaultCounted};
 ghost use Rattle.tree_model.specs.Changes.{Rising, keys_rise, laid};
 ghost use Rattle.tree_model.specs.Entries.{Entries, Sorted, changed};
 ghost use Rattle.journal.specs.Refusals.{HasReason, UnlessFault};
 ghost use Rattle.node_seq.specs.ChangeLists.{IsChangeList};
 ghost use Rattle.paged_seq.specs.PagedMaps.{file_entries};
 ghost use Rattle.store_contents.specs.Contents.{after_commits, last_of};
-ghost use Rattle.paged_recovery.specs.inside.Nets.{IsMisfit, IsNetOf, MakeTree, MisfitRead, as_changes};
+ghost use Rattle.paged_recovery.specs.inside.Counts.{CountRose};
+ghost use Rattle.paged_recovery.specs.inside.Nets.{IsMisfitAfter, IsNetOf, MakeTree, MisfitRead, as_changes};
 
 use crate::counting::told;
 use crate::holding::fault_of;
@@ -43,8 +43,8 @@ pub fn follow<P: Disk + Drop>(
     requires sorted { IsTrue P.is_known → Sorted (file_entries (P.history seq.old.disk).now.reads) }
     ensures net { IfOk result (λ net. IsNetOf P.is_known (P.history seq.old.disk).now.reads base commits net.layers.changes net.number) }
     ensures reason { IfErr result (HasReason
-        (λ place. IsTrue P.is_known → IsMisfit (after_commits commits (file_entries (P.history seq.old.disk).now.reads)) place)
-        (FaultCounted (P.faults seq.old.disk) (P.faults seq.new.disk))) }
+        (IsMisfitAfter P.is_known (P.history seq.old.disk).now.reads commits)
+        (CountRose P.Disk seq.old.disk seq.new.disk)) }
     ensures most { seq.new.pool.most ≡ seq.old.pool.most }
     ensures same { IsTrue P.is_known → P.history seq.new.disk ≡ P.history seq.old.disk }
     ensures exact { OnOk result (P.faults seq.new.disk ≡ P.faults seq.old.disk) }
@@ -74,8 +74,9 @@ fn is_tree<P: Disk + Drop>(
     requires rising { Rising changes.now }
     requires sorted { IsTrue P.is_known → Sorted (file_entries (P.history seq.old.disk).now.reads) }
     ensures tree { OnOk result (MakeTree P.is_known (P.history seq.old.disk).now.reads changes.now) }
-    ensures reason { IfErr result (HasReason (MisfitRead P.is_known (P.history seq.old.disk).now.reads changes.now)
-        (FaultCounted (P.faults seq.old.disk) (P.faults seq.new.disk))) }
+    ensures reason { IfErr result (HasReason
+        (MisfitRead P.is_known (P.history seq.old.disk).now.reads changes.now)
+        (CountRose P.Disk seq.old.disk seq.new.disk)) }
     ensures most { seq.new.pool.most ≡ seq.old.pool.most }
     ensures same { IsTrue P.is_known → P.history seq.new.disk ≡ P.history seq.old.disk }
     ensures exact { OnOk result (P.faults seq.new.disk ≡ P.faults seq.old.disk) }

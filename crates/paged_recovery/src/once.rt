@@ -1,16 +1,11 @@
 // A store with pages is opened on its two disks, where no images are open: both are synced, the pages are read, the journal is opened,
 // and its commits are followed.
-ghost use Rattle.std.specs.Prelude.{◌≡◌, ◌≤◌, Some, IsTrue, IfOk, IfErr, MatchResult};
-ghost use Rattle.outside_traits.specs.DiskPairs.{pair_of};
-ghost use Rattle.tree_model.specs.Entries.{Entries};
-ghost use Rattle.tree_model.specs.StoredTree.{IsStoredTree};
-ghost use Rattle.journal.specs.Refusals.{HasReason, UnlessFault};
-ghost use Rattle.overlays.specs.Views.{contents_after};
-ghost use Rattle.paged_seq.specs.PagedMaps.{map_of_file};
+ghost use Rattle.std.specs.Prelude.{◌≡◌, ◌≤◌, IfOk, IfErr, MatchResult};
+ghost use Rattle.journal.specs.Refusals.{UnlessFault};
 ghost use Rattle.store_contents.specs.StoredTrees.{LeaveWhatStood};
-ghost use Rattle.paged_recovery.specs.Causes.{OneRose, RiseOnlyAtFault};
-ghost use Rattle.paged_recovery.specs.Openings.{AreOpened, KeepsFiles, LeavesPagesUnopened, OpensPages, TakesBehind};
-ghost use Rattle.paged_recovery.specs.inside.Over.{IsRefused};
+ghost use Rattle.paged_recovery.specs.Causes.{CountsNone, CountsOnlyAtFault, HasReasonIn};
+ghost use Rattle.paged_recovery.specs.Openings.{AreOpened, KnownFilesHaveAfter, IsTreesMap, KeepsBothFiles, LeavesPagesUnopened, TakesBehind, files_on, files_opened, map_opened};
+ghost use Rattle.paged_recovery.specs.inside.Over.{HasFilesMap, IsRefused};
 
 use crate::fault::StoreFault;
 use crate::look::look;
@@ -29,27 +24,20 @@ pub fn open_once<J: Disk, P: Disk + Drop>(
     frames: u32,
 ) -> Result<Opened<J, P>, StoreFault<J, P>>
     requires frames { (1 ≤ frames) × (frames ≤ 65_536) }
-    ensures opens { IfOk result (λ store. IsTrue J.is_known → IsTrue P.is_known → (es : Entries)
-        → contents_after store.layers.changes (map_of_file P.is_known (P.history store.base.disk).now.reads) ≡ Some es
-        → OpensPages (pair_of (J.history journal) (P.history pages)) (pair_of store.journal.history (P.history store.base.disk)) es store.number) }
-    ensures tree { IfOk result (λ store. (es : Entries)
-        → contents_after store.layers.changes (map_of_file P.is_known (P.history store.base.disk).now.reads) ≡ Some es → IsStoredTree es) }
+    ensures opens { IfOk result (λ store. HasFilesMap J.Disk P.Disk journal pages store) }
+    ensures tree { IfOk result (λ store. IsTreesMap (map_opened P.Disk store)) }
     ensures frames { IfOk result (λ store. store.base.pool.most ≡ frames) }
     ensures synced { IfOk result (λ store. AreOpened J.is_known P.is_known
-        (pair_of (J.history journal) (P.history pages)) (pair_of store.journal.history (P.history store.base.disk))) }
+        (files_on J.Disk P.Disk journal pages) (files_opened P.Disk store)) }
     ensures next { IfOk result (λ store. TakesBehind store.journal store.number) }
-    ensures any_moment { IsTrue J.is_known → IsTrue P.is_known → MatchResult result
-        (λ store. LeaveWhatStood (pair_of (J.history journal) (P.history pages)) (pair_of store.journal.history (P.history store.base.disk)))
-        (λ refused. LeavesPagesUnopened (pair_of (J.history journal) (P.history pages)) (pair_of (J.history refused.journal) (P.history refused.pages))) }
-    ensures reason { IfErr result (λ refused. HasReason
-        (λ place. IsTrue J.is_known → IsTrue P.is_known
-        → IsRefused (pair_of (J.history journal) (P.history pages)) (pair_of (J.history refused.journal) (P.history refused.pages)) place)
-        (OneRose (J.faults journal) (J.faults refused.journal) (P.faults pages) (P.faults refused.pages)) refused.fault) }
-    ensures kept { IfErr result (λ refused. UnlessFault refused.fault (KeepsFiles J.is_known P.is_known
-        (pair_of (J.history journal) (P.history pages)) (pair_of (J.history refused.journal) (P.history refused.pages)))) }
-    ensures counts { MatchResult result
-        (λ store. (store.journal.faults ≡ J.faults journal) × (P.faults store.base.disk ≡ P.faults pages))
-        (λ refused. RiseOnlyAtFault refused.fault (J.faults journal) (J.faults refused.journal) (P.faults pages) (P.faults refused.pages)) }
+    ensures any_moment { KnownFilesHaveAfter LeaveWhatStood LeavesPagesUnopened
+        (files_opened P.Disk) J.Disk P.Disk journal pages result }
+    ensures reason { IfErr result (λ refused. HasReasonIn IsRefused
+        J.Disk P.Disk journal pages refused) }
+    ensures kept { IfErr result (λ refused. UnlessFault refused.fault
+        (KeepsBothFiles J.Disk P.Disk journal pages refused)) }
+    ensures counts { MatchResult result (CountsNone J.Disk P.Disk journal pages)
+        (CountsOnlyAtFault J.Disk P.Disk journal pages) }
 {
     let mut journal = journal;
     let mut pages = pages;

@@ -1,18 +1,15 @@
 // A store with pages is opened on its two disks, and a checkpoint that a crash broke off is finished.
 ghost use Rattle.std.specs.Prelude.{◌≡◌, ◌≤◌, true, false, IsTrue, IfOk, IfErr, MatchResult};
-ghost use Rattle.outside_traits.specs.DiskPairs.{pair_of};
 ghost use Rattle.node_records.specs.declared.open_error.File.TheVariants as files;
 ghost use Rattle.node_records.specs.declared.open_error.OpenError.TheVariants as errors;
 ghost use Rattle.outside_traits.specs.Moments.{IsAllSynced};
 ghost use Rattle.journal.specs.Journals.{is_fresh};
-ghost use Rattle.journal.specs.Refusals.{HasReason, UnlessFault};
-ghost use Rattle.overlays.specs.Views.{contents_after};
-ghost use Rattle.paged_seq.specs.PagedMaps.{map_of_file};
+ghost use Rattle.journal.specs.Refusals.{UnlessFault};
 ghost use Rattle.store_contents.specs.Contents.{place_in};
 ghost use Rattle.store_contents.specs.StoredTrees.{LeaveWhatStood};
-ghost use Rattle.paged_recovery.specs.Causes.{OneRose, RiseOnlyAtFault};
-ghost use Rattle.paged_recovery.specs.Openings.{IsReadyBehind, KeepsFiles, LeavesPagesUnopened, OpensMap, RefusesPages, UnlessImages};
-ghost use Rattle.paged_recovery.specs.inside.Over.{IsRefusedAt};
+ghost use Rattle.paged_recovery.specs.Causes.{CountsNone, CountsOnlyAtFault, HasReasonIn};
+ghost use Rattle.paged_recovery.specs.Openings.{KnownFilesHaveAfter, HasOpenMap, IsReadyStore, KeepsBothFiles, LeavesPagesUnopened, RefusesPages, WithoutImages, files_opened};
+ghost use Rattle.paged_recovery.specs.inside.Over.{RefusedAt};
 
 use crate::fault::StoreFault;
 use crate::finishing::finish;
@@ -48,35 +45,28 @@ pub fn open_store<J: Disk, P: Disk + Drop>(
     requires frames { (1 ≤ frames) × (frames ≤ 65_536) }
 
     // What base and layers make is the map that the files stood for, and stand for now; it is that of a valid tree, and of no other.
-    ensures map { IfOk result (λ store. OpensMap J.is_known P.is_known
-        (contents_after store.layers.changes (map_of_file P.is_known (P.history store.base.disk).now.reads))
-        (pair_of (J.history journal) (P.history pages)) (pair_of store.journal.history (P.history store.base.disk)) store.number) }
+    ensures map { IfOk result (λ store. HasOpenMap J.Disk P.Disk journal pages store) }
     ensures frames { IfOk result (λ store. store.base.pool.most ≡ frames) }
 
     // A crash leaves what a read gives; without images a fresh journal has nine bytes, any other its own; the journal takes the number that follows.
-    ensures ready { IfOk result (λ store. IsReadyBehind J.is_known P.is_known
-        (pair_of (J.history journal) (P.history pages)) store.journal (P.history store.base.disk) store.number) }
+    ensures ready { IfOk result (λ store. IsReadyStore J.Disk P.Disk journal pages store) }
 
     // A crash at any moment of the call leaves files that stand for what such files stood for at its start, and so does one after an error.
-    ensures any_moment { IsTrue J.is_known → IsTrue P.is_known → MatchResult result
-        (λ store. LeaveWhatStood (pair_of (J.history journal) (P.history pages)) (pair_of store.journal.history (P.history store.base.disk)))
-        (λ refused. LeavesPagesUnopened (pair_of (J.history journal) (P.history pages)) (pair_of (J.history refused.journal) (P.history refused.pages))) }
+    ensures any_moment { KnownFilesHaveAfter LeaveWhatStood LeavesPagesUnopened
+        (files_opened P.Disk) J.Disk P.Disk journal pages result }
 
     // Why it isn't opened: the place of the first broken rule, the files being synced and as they were; or a fault of a disk.
-    ensures reason { IfErr result (λ refused. HasReason
-        (λ place. IsTrue J.is_known → IsTrue P.is_known
-        → RefusesPages (pair_of (J.history journal) (P.history pages)) (pair_of (J.history refused.journal) (P.history refused.pages)) place)
-        (OneRose (J.faults journal) (J.faults refused.journal) (P.faults pages) (P.faults refused.pages)) refused.fault) }
+    ensures reason { IfErr result (λ refused. HasReasonIn RefusesPages
+        J.Disk P.Disk journal pages refused) }
 
     // After any error but a fault the pages are as they were where no images were open, and the journal as it was or as it is made in a fresh file.
-    ensures kept { IfErr result (λ refused. UnlessFault refused.fault (UnlessImages J.is_known P.is_known (J.history journal).now.reads
-        (KeepsFiles J.is_known P.is_known
-        (pair_of (J.history journal) (P.history pages)) (pair_of (J.history refused.journal) (P.history refused.pages))))) }
+    ensures kept { IfErr result (λ refused. UnlessFault refused.fault
+        (WithoutImages J.Disk P.Disk journal
+        (KeepsBothFiles J.Disk P.Disk journal pages refused))) }
 
     // No fault is passed over: the counts are as they were but after a fault that is answered.
-    ensures counts { MatchResult result
-        (λ store. (store.journal.faults ≡ J.faults journal) × (P.faults store.base.disk ≡ P.faults pages))
-        (λ refused. RiseOnlyAtFault refused.fault (J.faults journal) (J.faults refused.journal) (P.faults pages) (P.faults refused.pages)) }
+    ensures counts { MatchResult result (CountsNone J.Disk P.Disk journal pages)
+        (CountsOnlyAtFault J.Disk P.Disk journal pages) }
 {
     match open_once(alloc, journal, pages, frames) {
         Ok(store) => Ok(store),
@@ -119,27 +109,19 @@ fn open_refused<J: Disk, P: Disk + Drop>(
     frames: u32,
 ) -> Result<Opened<J, P>, StoreFault<J, P>>
     requires frames { (1 ≤ frames) × (frames ≤ 65_536) }
-    requires refused { IsTrue J.is_known → IsTrue P.is_known
-        → IsRefusedAt (J.history journal).now.reads (P.history pages).now.reads (place_in files.Pages 0) }
-    ensures map { IfOk result (λ store. OpensMap J.is_known P.is_known
-        (contents_after store.layers.changes (map_of_file P.is_known (P.history store.base.disk).now.reads))
-        (pair_of (J.history journal) (P.history pages)) (pair_of store.journal.history (P.history store.base.disk)) store.number) }
+    requires refused { RefusedAt J.Disk P.Disk journal pages (place_in files.Pages 0) }
+    ensures map { IfOk result (λ store. HasOpenMap J.Disk P.Disk journal pages store) }
     ensures frames { IfOk result (λ store. store.base.pool.most ≡ frames) }
-    ensures ready { IfOk result (λ store. IsReadyBehind J.is_known P.is_known
-        (pair_of (J.history journal) (P.history pages)) store.journal (P.history store.base.disk) store.number) }
-    ensures any_moment { IsTrue J.is_known → IsTrue P.is_known → MatchResult result
-        (λ store. LeaveWhatStood (pair_of (J.history journal) (P.history pages)) (pair_of store.journal.history (P.history store.base.disk)))
-        (λ refused. LeavesPagesUnopened (pair_of (J.history journal) (P.history pages)) (pair_of (J.history refused.journal) (P.history refused.pages))) }
-    ensures reason { IfErr result (λ refused. HasReason
-        (λ place. IsTrue J.is_known → IsTrue P.is_known
-        → RefusesPages (pair_of (J.history journal) (P.history pages)) (pair_of (J.history refused.journal) (P.history refused.pages)) place)
-        (OneRose (J.faults journal) (J.faults refused.journal) (P.faults pages) (P.faults refused.pages)) refused.fault) }
-    ensures kept { IfErr result (λ refused. UnlessFault refused.fault (UnlessImages J.is_known P.is_known (J.history journal).now.reads
-        (KeepsFiles J.is_known P.is_known
-        (pair_of (J.history journal) (P.history pages)) (pair_of (J.history refused.journal) (P.history refused.pages))))) }
-    ensures counts { MatchResult result
-        (λ store. (store.journal.faults ≡ J.faults journal) × (P.faults store.base.disk ≡ P.faults pages))
-        (λ refused. RiseOnlyAtFault refused.fault (J.faults journal) (J.faults refused.journal) (P.faults pages) (P.faults refused.pages)) }
+    ensures ready { IfOk result (λ store. IsReadyStore J.Disk P.Disk journal pages store) }
+    ensures any_moment { KnownFilesHaveAfter LeaveWhatStood LeavesPagesUnopened
+        (files_opened P.Disk) J.Disk P.Disk journal pages result }
+    ensures reason { IfErr result (λ refused. HasReasonIn RefusesPages
+        J.Disk P.Disk journal pages refused) }
+    ensures kept { IfErr result (λ refused. UnlessFault refused.fault
+        (WithoutImages J.Disk P.Disk journal
+        (KeepsBothFiles J.Disk P.Disk journal pages refused))) }
+    ensures counts { MatchResult result (CountsNone J.Disk P.Disk journal pages)
+        (CountsOnlyAtFault J.Disk P.Disk journal pages) }
 {
     let mut journal = journal;
     let mut pages = pages;
@@ -176,27 +158,19 @@ fn open_unfinished<J: Disk, P: Disk + Drop>(
     requires journal { IsTrue J.is_known → IsAllSynced (J.history journal) }
     requires pages { IsTrue P.is_known → IsAllSynced (P.history pages) }
     requires made { IsTrue J.is_known → is_fresh (J.history journal).now.reads ≡ false }
-    requires refused { IsTrue J.is_known → IsTrue P.is_known
-        → IsRefusedAt (J.history journal).now.reads (P.history pages).now.reads (place_in files.Pages 0) }
-    ensures map { IfOk result (λ store. OpensMap J.is_known P.is_known
-        (contents_after store.layers.changes (map_of_file P.is_known (P.history store.base.disk).now.reads))
-        (pair_of (J.history journal) (P.history pages)) (pair_of store.journal.history (P.history store.base.disk)) store.number) }
+    requires refused { RefusedAt J.Disk P.Disk journal pages (place_in files.Pages 0) }
+    ensures map { IfOk result (λ store. HasOpenMap J.Disk P.Disk journal pages store) }
     ensures frames { IfOk result (λ store. store.base.pool.most ≡ frames) }
-    ensures ready { IfOk result (λ store. IsReadyBehind J.is_known P.is_known
-        (pair_of (J.history journal) (P.history pages)) store.journal (P.history store.base.disk) store.number) }
-    ensures any_moment { IsTrue J.is_known → IsTrue P.is_known → MatchResult result
-        (λ store. LeaveWhatStood (pair_of (J.history journal) (P.history pages)) (pair_of store.journal.history (P.history store.base.disk)))
-        (λ refused. LeavesPagesUnopened (pair_of (J.history journal) (P.history pages)) (pair_of (J.history refused.journal) (P.history refused.pages))) }
-    ensures reason { IfErr result (λ refused. HasReason
-        (λ place. IsTrue J.is_known → IsTrue P.is_known
-        → RefusesPages (pair_of (J.history journal) (P.history pages)) (pair_of (J.history refused.journal) (P.history refused.pages)) place)
-        (OneRose (J.faults journal) (J.faults refused.journal) (P.faults pages) (P.faults refused.pages)) refused.fault) }
-    ensures kept { IfErr result (λ refused. UnlessFault refused.fault (UnlessImages J.is_known P.is_known (J.history journal).now.reads
-        (KeepsFiles J.is_known P.is_known
-        (pair_of (J.history journal) (P.history pages)) (pair_of (J.history refused.journal) (P.history refused.pages))))) }
-    ensures counts { MatchResult result
-        (λ store. (store.journal.faults ≡ J.faults journal) × (P.faults store.base.disk ≡ P.faults pages))
-        (λ refused. RiseOnlyAtFault refused.fault (J.faults journal) (J.faults refused.journal) (P.faults pages) (P.faults refused.pages)) }
+    ensures ready { IfOk result (λ store. IsReadyStore J.Disk P.Disk journal pages store) }
+    ensures any_moment { KnownFilesHaveAfter LeaveWhatStood LeavesPagesUnopened
+        (files_opened P.Disk) J.Disk P.Disk journal pages result }
+    ensures reason { IfErr result (λ refused. HasReasonIn RefusesPages
+        J.Disk P.Disk journal pages refused) }
+    ensures kept { IfErr result (λ refused. UnlessFault refused.fault
+        (WithoutImages J.Disk P.Disk journal
+        (KeepsBothFiles J.Disk P.Disk journal pages refused))) }
+    ensures counts { MatchResult result (CountsNone J.Disk P.Disk journal pages)
+        (CountsOnlyAtFault J.Disk P.Disk journal pages) }
 {
     match finish(alloc, journal, pages) {
         Ok(done) => {

@@ -1,20 +1,15 @@
 // The journal is opened over pages that were read, the files being synced.
-ghost use Rattle.std.specs.Prelude.{◌≡◌, ◌⊎◌, [], Ok, Some, IsTrue, IfOk, IfErr, MatchResult};
-ghost use Rattle.outside_traits.specs.DiskPairs.{pair_of};
+ghost use Rattle.std.specs.Prelude.{◌≡◌, ◌⊎◌, [], IsTrue, IfOk, IfErr, MatchResult};
 ghost use Rattle.outside_traits.specs.Moments.{IsAllSynced};
-ghost use Rattle.tree_model.specs.Entries.{Entries};
-ghost use Rattle.tree_model.specs.StoredTree.{IsStoredTree};
-ghost use Rattle.node_pages.specs.PageFiles.{contents_of_file};
 ghost use Rattle.node_records.specs.declared.open_error.OpenError.TheVariants as errors;
 ghost use Rattle.journal.specs.Journals.{is_fresh};
 ghost use Rattle.journal.specs.Refusals.{HasReason, UnlessFault};
-ghost use Rattle.overlays.specs.Views.{contents_after};
 ghost use Rattle.paged_seq.specs.PagedFiles.{BreaksPages};
-ghost use Rattle.paged_seq.specs.PagedMaps.{file_entries, map_of_file};
 ghost use Rattle.store_contents.specs.StoredTrees.{LeaveWhatStood};
-ghost use Rattle.paged_recovery.specs.Causes.{OneRose, RiseOnlyAtFault};
-ghost use Rattle.paged_recovery.specs.Openings.{AreOpened, KeepsFiles, OpensPages, TakesBehind};
-ghost use Rattle.paged_recovery.specs.inside.Over.{IsRefused, IsRefusedAt};
+ghost use Rattle.paged_recovery.specs.Causes.{CountsNone, CountsOnlyAtFault, HasReasonIn};
+ghost use Rattle.paged_recovery.specs.Openings.{AreOpened, KnownFilesHaveAfter, IsTreesMap, KeepsBothFiles, TakesBehind, files_on, files_opened, map_opened};
+ghost use Rattle.paged_recovery.specs.inside.Over.{HasFilesMap, IsRefused, OneRoseIn, RefusedAt};
+ghost use Rattle.paged_recovery.specs.inside.Walking.{PagesHaveBase};
 
 use crate::behind::{Followed, look_at_journal, open_behind};
 use crate::fault::StoreFault;
@@ -40,27 +35,20 @@ pub fn open_synced<J: Disk, P: Disk + Drop>(
     requires pages { IsTrue P.is_known → IsAllSynced (P.history pages) }
     requires fresh { IsTrue J.is_known → fresh ≡ is_fresh (J.history journal).now.reads }
     requires empty { pool.kept ≡ [] }
-    ensures opens { IfOk result (λ store. IsTrue J.is_known → IsTrue P.is_known → (es : Entries)
-        → contents_after store.layers.changes (map_of_file P.is_known (P.history store.base.disk).now.reads) ≡ Some es
-        → OpensPages (pair_of (J.history journal) (P.history pages)) (pair_of store.journal.history (P.history store.base.disk)) es store.number) }
-    ensures tree { IfOk result (λ store. (es : Entries)
-        → contents_after store.layers.changes (map_of_file P.is_known (P.history store.base.disk).now.reads) ≡ Some es → IsStoredTree es) }
+    ensures opens { IfOk result (λ store. HasFilesMap J.Disk P.Disk journal pages store) }
+    ensures tree { IfOk result (λ store. IsTreesMap (map_opened P.Disk store)) }
     ensures most { IfOk result (λ store. store.base.pool.most ≡ pool.most) }
     ensures synced { IfOk result (λ store. AreOpened J.is_known P.is_known
-        (pair_of (J.history journal) (P.history pages)) (pair_of store.journal.history (P.history store.base.disk))) }
+        (files_on J.Disk P.Disk journal pages) (files_opened P.Disk store)) }
     ensures next { IfOk result (λ store. TakesBehind store.journal store.number) }
-    ensures any_moment { IsTrue J.is_known → IsTrue P.is_known → MatchResult result
-        (λ store. LeaveWhatStood (pair_of (J.history journal) (P.history pages)) (pair_of store.journal.history (P.history store.base.disk)))
-        (λ refused. LeaveWhatStood (pair_of (J.history journal) (P.history pages)) (pair_of (J.history refused.journal) (P.history refused.pages))) }
-    ensures reason { IfErr result (λ refused. HasReason
-        (λ place. IsTrue J.is_known → IsTrue P.is_known
-        → IsRefused (pair_of (J.history journal) (P.history pages)) (pair_of (J.history refused.journal) (P.history refused.pages)) place)
-        (OneRose (J.faults journal) (J.faults refused.journal) (P.faults pages) (P.faults refused.pages)) refused.fault) }
-    ensures kept { IfErr result (λ refused. UnlessFault refused.fault (KeepsFiles J.is_known P.is_known
-        (pair_of (J.history journal) (P.history pages)) (pair_of (J.history refused.journal) (P.history refused.pages)))) }
-    ensures counts { MatchResult result
-        (λ store. (store.journal.faults ≡ J.faults journal) × (P.faults store.base.disk ≡ P.faults pages))
-        (λ refused. RiseOnlyAtFault refused.fault (J.faults journal) (J.faults refused.journal) (P.faults pages) (P.faults refused.pages)) }
+    ensures any_moment { KnownFilesHaveAfter LeaveWhatStood LeaveWhatStood
+        (files_opened P.Disk) J.Disk P.Disk journal pages result }
+    ensures reason { IfErr result (λ refused. HasReasonIn IsRefused
+        J.Disk P.Disk journal pages refused) }
+    ensures kept { IfErr result (λ refused. UnlessFault refused.fault
+        (KeepsBothFiles J.Disk P.Disk journal pages refused)) }
+    ensures counts { MatchResult result (CountsNone J.Disk P.Disk journal pages)
+        (CountsOnlyAtFault J.Disk P.Disk journal pages) }
 {
     match hold(alloc, pages, pool) {
         Ok(seq) => open_over(alloc, journal, seq, fresh),
@@ -78,28 +66,22 @@ fn open_over<J: Disk, P: Disk + Drop>(
     requires journal { IsTrue J.is_known → IsAllSynced (J.history journal) }
     requires pages { IsTrue P.is_known → IsAllSynced (P.history seq.disk) }
     requires fresh { IsTrue J.is_known → fresh ≡ is_fresh (J.history journal).now.reads }
-    requires held { IsTrue P.is_known → contents_of_file (P.history seq.disk).now.reads ≡ Ok (file_entries (P.history seq.disk).now.reads, seq.index.base) }
-    ensures opens { IfOk result (λ store. IsTrue J.is_known → IsTrue P.is_known → (es : Entries)
-        → contents_after store.layers.changes (map_of_file P.is_known (P.history store.base.disk).now.reads) ≡ Some es
-        → OpensPages (pair_of (J.history journal) (P.history seq.disk)) (pair_of store.journal.history (P.history store.base.disk)) es store.number) }
-    ensures tree { IfOk result (λ store. (es : Entries)
-        → contents_after store.layers.changes (map_of_file P.is_known (P.history store.base.disk).now.reads) ≡ Some es → IsStoredTree es) }
+    requires held { IsTrue P.is_known
+        → PagesHaveBase (P.history seq.disk).now.reads seq.index.base }
+    ensures opens { IfOk result (λ store. HasFilesMap J.Disk P.Disk journal seq.disk store) }
+    ensures tree { IfOk result (λ store. IsTreesMap (map_opened P.Disk store)) }
     ensures most { IfOk result (λ store. store.base.pool.most ≡ seq.pool.most) }
     ensures synced { IfOk result (λ store. AreOpened J.is_known P.is_known
-        (pair_of (J.history journal) (P.history seq.disk)) (pair_of store.journal.history (P.history store.base.disk))) }
+        (files_on J.Disk P.Disk journal seq.disk) (files_opened P.Disk store)) }
     ensures next { IfOk result (λ store. TakesBehind store.journal store.number) }
-    ensures any_moment { IsTrue J.is_known → IsTrue P.is_known → MatchResult result
-        (λ store. LeaveWhatStood (pair_of (J.history journal) (P.history seq.disk)) (pair_of store.journal.history (P.history store.base.disk)))
-        (λ refused. LeaveWhatStood (pair_of (J.history journal) (P.history seq.disk)) (pair_of (J.history refused.journal) (P.history refused.pages))) }
-    ensures reason { IfErr result (λ refused. HasReason
-        (λ place. IsTrue J.is_known → IsTrue P.is_known
-        → IsRefused (pair_of (J.history journal) (P.history seq.disk)) (pair_of (J.history refused.journal) (P.history refused.pages)) place)
-        (OneRose (J.faults journal) (J.faults refused.journal) (P.faults seq.disk) (P.faults refused.pages)) refused.fault) }
-    ensures kept { IfErr result (λ refused. UnlessFault refused.fault (KeepsFiles J.is_known P.is_known
-        (pair_of (J.history journal) (P.history seq.disk)) (pair_of (J.history refused.journal) (P.history refused.pages)))) }
-    ensures counts { MatchResult result
-        (λ store. (store.journal.faults ≡ J.faults journal) × (P.faults store.base.disk ≡ P.faults seq.disk))
-        (λ refused. RiseOnlyAtFault refused.fault (J.faults journal) (J.faults refused.journal) (P.faults seq.disk) (P.faults refused.pages)) }
+    ensures any_moment { KnownFilesHaveAfter LeaveWhatStood LeaveWhatStood
+        (files_opened P.Disk) J.Disk P.Disk journal seq.disk result }
+    ensures reason { IfErr result (λ refused. HasReasonIn IsRefused
+        J.Disk P.Disk journal seq.disk refused) }
+    ensures kept { IfErr result (λ refused. UnlessFault refused.fault
+        (KeepsBothFiles J.Disk P.Disk journal seq.disk refused)) }
+    ensures counts { MatchResult result (CountsNone J.Disk P.Disk journal seq.disk)
+        (CountsOnlyAtFault J.Disk P.Disk journal seq.disk) }
 {
     let mut seq = seq;
     // The journal's disk says that a read gives what a crash may leave.
@@ -134,13 +116,12 @@ fn refuse<J: Disk, P: Disk>(
     requires journal { IsTrue J.is_known → IsAllSynced (J.history journal) }
     requires fresh { IsTrue J.is_known → fresh ≡ is_fresh (J.history journal).now.reads }
     requires breaks { HasReason (BreaksPages P.is_known (P.history pages).now.reads) (Unit {0}) fault }
-    ensures reason { HasReason
-        (λ place. IsTrue J.is_known → IsTrue P.is_known → IsRefusedAt (J.history journal).now.reads (P.history pages).now.reads place)
-        ((fault ≡ errors.DiskFault) ⊎ OneRose (J.faults journal) (J.faults result.journal) (P.faults pages) (P.faults result.pages)) result.fault }
+    ensures reason { HasReason (RefusedAt J.Disk P.Disk journal pages)
+        ((fault ≡ errors.DiskFault) ⊎ OneRoseIn J.Disk P.Disk journal pages result) result.fault }
     ensures passes { fault ≡ errors.DiskFault → result.fault ≡ errors.DiskFault }
     ensures journal_same { IsTrue J.is_known → J.history result.journal ≡ J.history journal }
     ensures pages_same { IsTrue P.is_known → P.history result.pages ≡ P.history pages }
-    ensures counts { RiseOnlyAtFault result.fault (J.faults journal) (J.faults result.journal) (P.faults pages) (P.faults result.pages) }
+    ensures counts { CountsOnlyAtFault J.Disk P.Disk journal pages result }
 {
     match fault {
         OpenError::Damaged(broken) => refuse_damaged(alloc, journal, pages, broken, fresh),
@@ -168,12 +149,11 @@ fn refuse_damaged<J: Disk, P: Disk>(
     requires journal { IsTrue J.is_known → IsAllSynced (J.history journal) }
     requires fresh { IsTrue J.is_known → fresh ≡ is_fresh (J.history journal).now.reads }
     requires breaks { BreaksPages P.is_known (P.history pages).now.reads broken }
-    ensures reason { HasReason
-        (λ place. IsTrue J.is_known → IsTrue P.is_known → IsRefusedAt (J.history journal).now.reads (P.history pages).now.reads place)
-        (OneRose (J.faults journal) (J.faults result.journal) (P.faults pages) (P.faults result.pages)) result.fault }
+    ensures reason { HasReason (RefusedAt J.Disk P.Disk journal pages)
+        (OneRoseIn J.Disk P.Disk journal pages result) result.fault }
     ensures journal_same { IsTrue J.is_known → J.history result.journal ≡ J.history journal }
     ensures pages_same { IsTrue P.is_known → P.history result.pages ≡ P.history pages }
-    ensures counts { RiseOnlyAtFault result.fault (J.faults journal) (J.faults result.journal) (P.faults pages) (P.faults result.pages) }
+    ensures counts { CountsOnlyAtFault J.Disk P.Disk journal pages result }
 {
     let mut pages = pages;
     if fresh {

@@ -2,7 +2,7 @@
 ghost use Rattle.std.specs.Prelude.{◌≡◌, ◌≤◌, ◌<◌, ◌^◌, ◌++◌, length, IsTrue, IfOk, OnOk};
 ghost use Rattle.tree_model.specs.Entries.{Entries, Sorted, changed};
 ghost use Rattle.tree_model.specs.Changes.{Rising};
-ghost use Rattle.paged_recovery.specs.inside.Nets.{after_runs};
+ghost use Rattle.paged_recovery.specs.inside.Nets.{after_newest, after_runs};
 
 use dewey_labels::NoMemory;
 use std::alloc::Global;
@@ -88,7 +88,8 @@ impl Run {
 /// It answers the newest run. Each change costs a logarithm of moves, amortised, and nothing is copied.
 pub fn go_on(alloc: Global, older: &mut Vec<Run>, newest: Run, next: Run) -> Result<Run, NoMemory>
     ensures { IfOk result (λ run. (es : Entries) → Sorted es
-        → changed run (after_runs older.new.items es) ≡ changed next (changed newest (after_runs older.old.items es))) }
+        → after_newest older.new.items run es
+        ≡ changed next (after_newest older.old.items newest es)) }
 {
     if newest.is_before(&next) {
         let grown = newest.followed_by(next)?;
@@ -100,7 +101,8 @@ pub fn go_on(alloc: Global, older: &mut Vec<Run>, newest: Run, next: Run) -> Res
 
 /// Puts a run behind older ones, and lays it over those of them that aren't twice as long.
 fn keep(alloc: Global, older: &mut Vec<Run>, run: Run) -> Result<(), NoMemory>
-    ensures { OnOk result ((es : Entries) → Sorted es → after_runs older.new.items es ≡ changed run (after_runs older.old.items es)) }
+    ensures { OnOk result ((es : Entries) → Sorted es
+        → after_runs older.new.items es ≡ after_newest older.old.items run es) }
 {
     let mut run = run;
     while is_short(older, run.len()) {
@@ -125,7 +127,8 @@ fn is_short(runs: &[Run], len: usize) -> bool
 
 /// Lays the newest run over all older ones.
 pub fn all_in_one(alloc: Global, mut older: Vec<Run>, newest: Run) -> Result<Run, NoMemory>
-    ensures { IfOk result (λ run. (es : Entries) → Sorted es → changed run es ≡ changed newest (after_runs older.items es)) }
+    ensures { IfOk result (λ run. (es : Entries) → Sorted es
+        → changed run es ≡ after_newest older.items newest es) }
 {
     let mut run = newest;
     while let Some(lower) = older.pop() {

@@ -1,8 +1,9 @@
 // An opening begins with a sync of both disks.
 ghost use Rattle.std.specs.Prelude.{◌≡◌, ◌≤◌, IsTrue, OnOk, OnErr};
-ghost use Rattle.outside_traits.specs.DiskPairs.{pair_of};
 ghost use Rattle.outside_traits.specs.Disks.{all_synced};
-ghost use Rattle.paged_recovery.specs.Causes.{OneRose};
+ghost use Rattle.paged_recovery.specs.Causes.{OneDiskRose};
+ghost use Rattle.paged_recovery.specs.Openings.{KnownFilesHave};
+ghost use Rattle.paged_recovery.specs.inside.Counts.{SameCounts};
 ghost use Rattle.paged_recovery.specs.inside.Syncs.{LeaveNoOther};
 
 use outside_traits::{Disk, Failed};
@@ -11,10 +12,12 @@ use outside_traits::{Disk, Failed};
 pub fn sync_both<J: Disk, P: Disk>(journal: &mut J, pages: &mut P) -> Result<(), Failed>
     ensures journal { OnOk result (IsTrue J.is_known → (J.history journal.new).now ≡ all_synced (J.history journal.old).now.reads) }
     ensures pages { OnOk result (IsTrue P.is_known → (P.history pages.new).now ≡ all_synced (P.history pages.old).now.reads) }
-    ensures any_moment { IsTrue J.is_known → IsTrue P.is_known
-        → LeaveNoOther (pair_of (J.history journal.old) (P.history pages.old)) (pair_of (J.history journal.new) (P.history pages.new)) }
-    ensures fault { OnErr result (OneRose (J.faults journal.old) (J.faults journal.new) (P.faults pages.old) (P.faults pages.new)) }
-    ensures exact { OnOk result ((J.faults journal.new ≡ J.faults journal.old) × (P.faults pages.new ≡ P.faults pages.old)) }
+    ensures any_moment { KnownFilesHave LeaveNoOther
+        J.Disk P.Disk journal.old pages.old journal.new pages.new }
+    ensures fault { OnErr result (OneDiskRose
+        J.Disk P.Disk journal.old pages.old journal.new pages.new) }
+    ensures exact { OnOk result (SameCounts
+        J.Disk P.Disk journal.old pages.old journal.new pages.new) }
     ensures journal_later { J.faults journal.old ≤ J.faults journal.new }
     ensures pages_later { P.faults pages.old ≤ P.faults pages.new }
 {

@@ -6,10 +6,9 @@ ghost use Rattle.tree_model.specs.Entries.{Sorted};
 ghost use Rattle.tree_model.specs.Keys.{node_key};
 ghost use Rattle.dewey_labels.specs.Labels.{root};
 ghost use Rattle.node_seq.specs.Reads.{LiesBelow};
-ghost use Rattle.node_seq.specs.WalkSteps.{from_entry};
 ghost use Rattle.node_seq.specs.declared.node_read.SeqError.TheVariants.{DiskFault};
 ghost use Rattle.paged_seq.specs.PagedMaps.{file_entries};
-ghost use Rattle.paged_recovery.specs.inside.Walking.{IsTested};
+ghost use Rattle.paged_recovery.specs.inside.Walking.{BeginWith, IsTested};
 
 use crate::merging::{put_before, take_record};
 use dewey_labels::Label;
@@ -60,7 +59,7 @@ fn first_entry<P: Disk + Drop>(
 ) -> Result<Option<(Key, Record)>, SeqError>
     requires sorted { IsTrue P.is_known → Sorted (file_entries (P.history seq.old.disk).now.reads) }
     ensures first { IfOk result (λ found. IsTrue P.is_known
-        → file_entries (P.history seq.old.disk).now.reads ≡ from_entry found (file_entries (P.history seq.old.disk).now.reads)) }
+        → BeginWith found (file_entries (P.history seq.old.disk).now.reads)) }
     ensures most { seq.new.pool.most ≡ seq.old.pool.most }
     ensures same { IsTrue P.is_known → P.history seq.new.disk ≡ P.history seq.old.disk }
     ensures cause { HasCause DiskFault (P.faults seq.old.disk) (P.faults seq.new.disk) result }

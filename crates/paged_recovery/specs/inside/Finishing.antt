@@ -1,8 +1,9 @@
 -- A checkpoint that a crash broke off is finished (docs/FILE_FORMAT.md, "With pages").
-use Rattle.std.specs.Prelude.{◌≡◌, ◌*◌, ◌≤◌, max, ℕ, suc, ◌+◌, ◌==◌, Bool, true, false, ◌&&◌, nat_lt, nat_le, if◌then◌else◌, List, [], ◌∷◌, length, Option, Some, None, MatchOption, Result, Ok, Err}
+use Rattle.std.specs.Prelude.{◌≡◌, ◌*◌, ◌≤◌, max, ℕ, suc, ◌+◌, ◌==◌, Bool, true, false, ◌&&◌, nat_lt, nat_le, if◌then◌else◌, List, [], ◌∷◌, length, Option, Some, None, MatchOption, Result, Ok, Err, IsTrue, ◌++◌, ◌-◌}
 use Rattle.std.specs.List.{AllByRecursion}
-use Rattle.outside_traits.specs.DiskPairs.{Pair}
+use Rattle.outside_traits.specs.DiskPairs.{Pair, PairsLeave}
 use Rattle.outside_traits.specs.Moments.{History}
+use Rattle.outside_traits.specs.declared.disk.Disk.{Ghosts}
 use Rattle.page_images.specs.Images.{Lacks, Rising}
 use Rattle.page_store.specs.Pages.{ArePagesOf, page_of}
 use Rattle.node_records.specs.declared.open_error.File.TheVariants.{Pages}
@@ -13,10 +14,12 @@ use Rattle.node_pages.specs.PageFiles.{contents_of_file}
 use Rattle.node_pages.specs.PageZero.{Header, count_of, header_in}
 use Rattle.journal.specs.Groups.{only_commits}
 use Rattle.journal.specs.Journals.{read}
+use Rattle.journal.specs.Views.{JournalView}
 use Rattle.journal.specs.declared.group.Groups.{Groups}
 use Rattle.journal.specs.declared.group.Images.{Images}
 use Rattle.store_contents.specs.Contents.{Contents, contents_of_files, over_pages, page_among, place_in, with_images}
 use Rattle.store_contents.specs.MadePages.{AreMade}
+use Rattle.paged_recovery.specs.Openings.{HasImages, files_on}
 use Rattle.paged_recovery.specs.inside.Fronts.{front}
 
 -- whole pages with rising numbers
@@ -53,6 +56,19 @@ left_behind n (image ∷ images) = if image.0 == n then images else image ∷ im
 -- its bytes, where these are all that a page has
 abbrev pub if_whole : List ℕ → List ℕ
 if_whole page = if length page == 8_192 then page else []
+
+-- of a known file with these images put in it was told whether it has this page whole
+abbrev pub TellsWhole : Bool → ℕ → List (ℕ × List ℕ) → List ℕ → Bool → Type 0
+TellsWhole is_known page images file has = IsTrue is_known → ArePages images → has ≡ (length (page_here page images file) == 8_192)
+
+-- the page was put behind these bytes, where the file has it whole
+abbrev pub AddsPage : Bool → ℕ → List (ℕ × List ℕ) → List ℕ → List ℕ → List ℕ → Type 0
+AddsPage is_known page images file bytes bytes_now = IsTrue is_known → ArePages images → bytes_now ≡ bytes ++ if_whole (page_here page images file)
+
+-- so were the pages from 1 on, up to this one, until one isn't whole
+abbrev pub AddsPagesUpTo : ℕ → Bool → List (ℕ × List ℕ) → List ℕ → List ℕ → List ℕ → Type 0
+AddsPagesUpTo end is_known images file bytes bytes_now = IsTrue is_known → ArePages images → StandFrom 1 images
+    → bytes_now ≡ bytes ++ front (page_among images file) 1 (end - 1)
 
 -- ---- images that are written in place
 
@@ -107,6 +123,10 @@ pub record AreSound (file : List ℕ) (images : Images) (count : ℕ) : Type 0 w
   pub said : header_in (page_among images.pages file 0) ≡ Some header
   pub counted : count ≡ count_of header
 
+-- at this place a known file breaks its first rule with the images put in, which are pages
+abbrev pub BreaksWithImages : Bool → List ℕ → Images → Place → Type 0
+BreaksWithImages is_known file images place = IsTrue is_known → ArePages images.pages → with_images file images ≡ Err place
+
 -- ---- images that are to be written
 
 -- images are open in a synced journal, with them the files stand for this; these are as many of them as are written,
@@ -125,6 +145,18 @@ pub record AreUnfinished (journal pages : History) (written : List (ℕ × List 
 abbrev pub StandForThis : Contents → List ℕ → List ℕ → Type 0
 StandForThis contents journal pages = contents_of_files journal pages ≡ Ok contents
 
+-- where these images are unfinished, this holds of what the files stand for with them
+abbrev pub WhereUnfinished : (Contents → Pair → Pair → Type 0) → List (ℕ × List ℕ) → Pair → Pair → Type 0
+WhereUnfinished Q written old new = (contents : Contents) → AreUnfinished old.journal old.pages written contents → Q contents old new
+
+-- after each call a crash leaves two files that stand for this
+abbrev pub LeaveThis : Contents → Pair → Pair → Type 0
+LeaveThis contents old new = PairsLeave (StandForThis contents) old new
+
+-- the files stand for this in the end
+abbrev pub EndWithThis : Contents → Pair → Pair → Type 0
+EndWithThis contents old new = StandForThis contents new.journal.now.reads new.pages.now.reads
+
 -- what the two files stood for they stand for still, and no group is open any more
 pub record IsFinished (old new : Pair) : Type 0 where
   pub contents : Contents
@@ -142,3 +174,18 @@ pub record HasOpen (journal : History) (images : Images) : Type 0 where
 pub record IsUntouchedAt (old new : Pair) (place : Place) : Type 0 where
   pub broken : contents_of_files old.journal.now.reads old.pages.now.reads ≡ Err place
   pub same : new ≡ old
+
+-- ---- the disks of a store whose images are put in
+
+-- an open journal on such a disk tells the disk's history and count of faults
+abbrev pub journal_on : {J : Type 0} → Ghosts J → Ghosts JournalView
+journal_on of_journal = record { is_known = of_journal.is_known; history = λ journal. journal.history; faults = λ journal. journal.faults }
+
+-- the files of two disks that are answered
+abbrev pub files_done : {J P : Type 0} → Ghosts J → Ghosts P → J × P → Pair
+files_done of_journal of_pages done = files_on of_journal of_pages done.0 done.1
+
+-- where no images were open, both files are as they were
+abbrev pub StayUnlessImages : {J P : Type 0} → Ghosts J → Ghosts P → J → P → J → P → Type 0
+StayUnlessImages of_journal of_pages journal pages journal_now pages_now = (HasImages (of_journal.history journal).now.reads → ⊥)
+    → (of_journal.history journal_now ≡ of_journal.history journal) × (of_pages.history pages_now ≡ of_pages.history pages)

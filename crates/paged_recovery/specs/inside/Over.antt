@@ -4,6 +4,7 @@ use Rattle.dewey_labels.specs.Lists.{is_empty}
 use Rattle.outside_traits.specs.DiskPairs.{Pair}
 use Rattle.outside_traits.specs.Disks.{Synced}
 use Rattle.outside_traits.specs.Moments.{History}
+use Rattle.outside_traits.specs.declared.disk.Disk.{Ghosts}
 use Rattle.tree_model.specs.Entries.{Entries}
 use Rattle.tree_model.specs.declared.change.Change.{Change}
 use Rattle.node_records.specs.declared.open_error.Place.{Place}
@@ -15,7 +16,10 @@ use Rattle.journal.specs.Openings.{Opens}
 use Rattle.journal.specs.declared.group.Group.{Group}
 use Rattle.journal.specs.declared.group.Groups.{Groups}
 use Rattle.store_contents.specs.Contents.{Contents, checked, contents_of_files, first_broken, goes_on_from, place_in, with_commits}
-use Rattle.paged_recovery.specs.Openings.{HasImages}
+use Rattle.paged_recovery.specs.Causes.{OneDiskRose}
+use Rattle.paged_recovery.specs.Openings.{HasImages, OpensFiles, files_on, files_opened, map_opened}
+use Rattle.paged_recovery.specs.declared.fault.StoreFault.{StoreFault}
+use Rattle.paged_recovery.specs.declared.opening.Opened.{Opened}
 use Rattle.paged_recovery.specs.inside.Nets.{NetOf}
 use Rattle.paged_recovery.specs.inside.Walking.{AreRead}
 
@@ -61,11 +65,25 @@ pub record FollowsPages (journal_known pages_known : Bool) (file : List ℕ) (ba
   pub are : AreRead pages_known file records
   pub follows : FollowsOver journal_known records base old new changes number
 
+-- the map of a store that was opened on these disks, where it is known, is the one that their files stood for, and stand for now
+abbrev pub HasFilesMap : {J P : Type 0} → Ghosts J → Ghosts P → J → P → Opened J P → Type 0
+HasFilesMap of_journal of_pages journal pages store = OpensFiles of_journal.is_known of_pages.is_known (map_opened of_pages store)
+    (files_on of_journal of_pages journal pages) (files_opened of_pages store) store.number
+
 -- ---- a store that isn't opened at first
 
 -- the place of the first rule that the files break; or page 0 where images are open, which are put into the pages before the store is opened once more
 abbrev pub IsRefusedAt : List ℕ → List ℕ → Place → Type 0
 IsRefusedAt journal pages place = (contents_of_files journal pages ≡ Err place) ⊎ (HasImages journal × (place ≡ place_in Pages 0))
+
+-- the files of two disks are refused there, where both are known
+abbrev pub RefusedAt : {J P : Type 0} → Ghosts J → Ghosts P → J → P → Place → Type 0
+RefusedAt of_journal of_pages journal pages place = IsTrue of_journal.is_known → IsTrue of_pages.is_known
+    → IsRefusedAt (of_journal.history journal).now.reads (of_pages.history pages).now.reads place
+
+-- one of the disks that are answered has counted a fault
+abbrev pub OneRoseIn : {J P : Type 0} → Ghosts J → Ghosts P → J → P → StoreFault J P → Type 0
+OneRoseIn of_journal of_pages journal pages refused = OneDiskRose of_journal of_pages journal pages refused.journal refused.pages
 
 -- the files are refused at this place; they are synced, and as they were
 pub record IsRefused (old new : Pair) (place : Place) : Type 0 where
