@@ -24,10 +24,10 @@ use Rattle.call_contract.specs.Calls.{CallLaws, CallMeaning}
 use Rattle.call_contract.specs.States.{start}
 use Rattle.call_contract.proofs.BookLaws.{sound}
 use Rattle.call_contract.proofs.SessionBooks.{number_told}
-use Rattle.tx_core.specs.Cores.{CoreView, over, state_from, with_committed}
+use Rattle.tx_core.specs.Cores.{CoreView, InState, over, state_from, with_committed}
 use Rattle.checkpoint.specs.Bases.{IsUnchanged, contents_of, is_paged}
 use Rattle.checkpoint.specs.Checkpoints.{IsCleared, OpenAs}
-use Rattle.checkpoint.specs.Renewals.{InState, IsSettledWith, StandThroughout, committed_in, last_number, pages_of}
+use Rattle.checkpoint.specs.Renewals.{IsSettledWith, StandThroughout, committed_in, last_number, pages_of}
 use Rattle.checkpoint.specs.declared.base.Base.{Base}
 use Rattle.checkpoint.specs.declared.base.Base.TheVariants.{Paged, Copied}
 use Rattle.checkpoint.specs.declared.renew_fault.RenewFault.{RenewFault}

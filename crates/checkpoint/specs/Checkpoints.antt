@@ -1,6 +1,6 @@
 -- What a checkpoint leaves of a store (docs/FILE_FORMAT.md, "Checkpoints").
 use Rattle.std.specs.Prelude.{◌≡◌, ◌≤◌, ◌⊎◌, ℕ, Bool, IsTrue, List, [], Option, Some, Result, Ok, Err, OnOk}
-use Rattle.outside_traits.specs.DiskPairs.{Pair}
+use Rattle.outside_traits.specs.DiskPairs.{Pair, PairsLeave, pair_of}
 use Rattle.outside_traits.specs.Faults.{FaultCounted}
 use Rattle.outside_traits.specs.Moments.{History, IsAllSynced}
 use Rattle.tree_model.specs.Entries.{Entries}
@@ -10,6 +10,7 @@ use Rattle.node_seq.specs.declared.node_read.SeqError.{SeqError}
 use Rattle.node_seq.specs.declared.node_read.SeqError.TheVariants.{DiskFault, NoMemory}
 use Rattle.node_pages.specs.declared.cut.Cut.{Cut}
 use Rattle.node_pages.specs.declared.cut.Cut.TheVariants.{Pages, TooMany}
+use Rattle.node_pages.specs.Cuts.{cut_of, data_of}
 use Rattle.node_pages.specs.PageFiles.{contents_of_file}
 use Rattle.journal.specs.Groups.{is_last, only_commits}
 use Rattle.journal.specs.Heads.{first_gate}
@@ -26,6 +27,10 @@ pub record MayCheckpoint (pages_known : Bool) (number : ℕ) (journal : JournalV
   pub last : IsTrue (is_last journal.last number)
   pub synced : IsTrue pages_known → IsAllSynced pages
 
+-- the map of a tree, cut into pages with this number
+abbrev pub cut_of_tree : ℕ → Tree → Cut
+cut_of_tree number t = cut_of number (data_of (map_of t))
+
 -- whether a checkpoint is made, by the cut of its tree
 abbrev pub made_of : Cut → Made
 made_of (Pages pages) = Yes
@@ -39,10 +44,14 @@ pub record IsCleared (is_known : Bool) (number : ℕ) (journal : JournalView) : 
   pub none : IsTrue is_known → read journal.history.now.reads ≡ Ok (only_commits [])
   pub synced : IsTrue is_known → IsAllSynced journal.history
 
+-- a file of pages that holds this tree with this number
+abbrev pub HoldsAs : Tree → ℕ → List ℕ → Type 0
+HoldsAs t number file = contents_of_file file ≡ Ok (map_of t, number)
+
 -- the tree of this map is in the pages alone, with this number: known pages hold exactly it, and the journal has no group
 pub record IsInPages (journal_known pages_known : Bool) (map : Option Entries) (number : ℕ) (journal : JournalView) (file : History) : Type 0 where
   pub cleared : IsCleared journal_known number journal
-  pub pages : IsTrue pages_known → (t : Tree) → StandsFor map t → contents_of_file file.now.reads ≡ Ok (map_of t, number)
+  pub pages : IsTrue pages_known → (t : Tree) → StandsFor map t → HoldsAs t number file.now.reads
 
 -- ---- what the files stand for
 
@@ -59,6 +68,24 @@ pub record IsSettledAs (t : Tree) (number : ℕ) (pair : Pair) : Type 0 where
   pub stand : StandFor pair.journal.now.reads pair.pages.now.reads t number
   pub journal_synced : IsAllSynced pair.journal
   pub pages_synced : IsAllSynced pair.pages
+
+-- ---- what a crash leaves
+
+-- disks that stand for this map with this number: a crash at any moment from the first states of both to the second leaves files that do
+abbrev pub LeaveOpen : Contents → Pair → Pair → Type 0
+LeaveOpen contents old new = OpenAs contents old.journal.now.reads old.pages.now.reads → PairsLeave (OpenAs contents) old new
+
+-- known files that stood for the tree of this map with this number, all of both synced: a crash at any moment leaves files that do
+abbrev pub LeaveTree : Bool → Bool → Option Entries → ℕ → JournalView → JournalView → History → History → Type 0
+LeaveTree journal_known pages_known map number journal journal_now pages pages_now =
+    IsTrue journal_known → IsTrue pages_known → (t : Tree) → StandsFor map t → IsSettledAs t number (pair_of journal.history pages)
+    → PairsLeave (StandAs t number) (pair_of journal.history pages) (pair_of journal_now.history pages_now)
+
+-- known files that stood for the tree of this map with this number, all of both synced, do so at the end, too
+abbrev pub KeepTree : Bool → Bool → Option Entries → ℕ → JournalView → JournalView → History → History → Type 0
+KeepTree journal_known pages_known map number journal journal_now pages pages_now =
+    IsTrue journal_known → IsTrue pages_known → (t : Tree) → StandsFor map t → IsSettledAs t number (pair_of journal.history pages)
+    → IsSettledAs t number (pair_of journal_now.history pages_now)
 
 -- ---- answers after which nothing was written
 
@@ -84,6 +111,10 @@ pub record Counts : Type 0 where
 
 abbrev pub counts_of : ℕ → ℕ → ℕ → Counts
 counts_of journal pages map = record { journal = journal; pages = pages; map = map }
+
+-- the counts of a journal, of its pages and of a map, as the disk and the map tell theirs
+abbrev pub counts_at : {P S : Type 0} → (P → ℕ) → (S → ℕ) → JournalView → P → S → Counts
+counts_at faults count journal pages map = counts_of journal.faults (faults pages) (count map)
 
 -- no count fell; one of them rose where a fault of a disk is answered, and none after Ok
 pub record HasOneCause {T : Type 0} (before now : Counts) (result : Result T SeqError) : Type 0 where

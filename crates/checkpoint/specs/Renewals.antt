@@ -1,24 +1,22 @@
 -- What a checkpoint under a core leaves of the core, the journal and the pages (docs/FILE_FORMAT.md, "Checkpoints").
 use Rattle.std.specs.Prelude.{◌≡◌, ◌≤◌, ◌⊎◌, ℕ, ◌+◌, Bool, not, IsTrue, [], Option, is_none, is_some, option_map, unwrap_or, Result, Ok, Err, IfErr, OnOk}
-use Rattle.outside_traits.specs.DiskPairs.{Pair, PairsLeave}
+use Rattle.outside_traits.specs.DiskPairs.{Pair, PairsLeave, pair_of}
 use Rattle.outside_traits.specs.Disks.{all_synced}
 use Rattle.outside_traits.specs.Faults.{FaultCounted}
 use Rattle.outside_traits.specs.Moments.{History, IsAllSynced}
 use Rattle.tree_model.specs.Entries.{Entries}
-use Rattle.tree_model.specs.Tree.{Tree, map_of}
+use Rattle.tree_model.specs.Tree.{map_of}
 use Rattle.node_records.specs.declared.open_error.OpenError.TheVariants.{Damaged, DiskFault}
 use Rattle.node_records.specs.declared.open_error.Place.{Place}
-use Rattle.node_seq.specs.Trees.{StandsFor}
-use Rattle.node_pages.specs.PageFiles.{contents_of_file}
 use Rattle.journal.specs.Groups.{is_next}
 use Rattle.journal.specs.Views.{JournalView, TakesGroups}
 use Rattle.store_contents.specs.Contents.{Contents}
 use Rattle.call_contract.specs.Calls.{CallMeaning}
 use Rattle.call_contract.specs.Sessions.{commits_in}
 use Rattle.call_contract.specs.States.{State}
-use Rattle.tx_core.specs.Cores.{CoreView, next_number, over, state_from, with_committed}
-use Rattle.checkpoint.specs.Bases.{count_of, is_paged}
-use Rattle.checkpoint.specs.Checkpoints.{IsCleared, OpenAs}
+use Rattle.tx_core.specs.Cores.{CoreView, InState, next_number, over, with_committed}
+use Rattle.checkpoint.specs.Bases.{contents_of, count_of, is_paged}
+use Rattle.checkpoint.specs.Checkpoints.{HoldsAs, IsCleared, OpenAs}
 use Rattle.checkpoint.specs.declared.base.Base.{Base}
 use Rattle.checkpoint.specs.declared.base.Base.TheVariants.{Paged, Copied}
 use Rattle.checkpoint.specs.declared.made.Made.{Made}
@@ -27,9 +25,9 @@ use Rattle.checkpoint.specs.declared.renew_fault.RenewFault.{RenewFault}
 
 -- ---- what is committed
 
--- this holds of the state that the core's book has led to, where it was opened over the map of a tree
-abbrev pub InState : {C B : Type 0} → CallMeaning C → (B → Option Entries) → CoreView C B → (State C → Type 0) → Type 0
-InState m contents core Q = (t : Tree) → StandsFor (contents core.opening) t → Q (state_from m t core)
+-- this holds of the state that a core's book has led to, where it was opened over the map of a tree, and its pages are known
+abbrev pub InKnownState : {C P : Type 0} → CallMeaning C → Bool → (P → History) → CoreView C (Base P) → (State C → Type 0) → Type 0
+InKnownState m is_known history core Q = IsTrue is_known → InState m (contents_of is_known history) core Q
 
 -- the map of what is committed in a state, and the last commit's number
 abbrev pub committed_in : {C : Type 0} → State C → Contents
@@ -85,12 +83,23 @@ pub record LeavesCore {A C P : Type 0} (is_known : Bool) (history : P → Histor
 -- what a core has committed is in the pages alone, with the last commit's number: known pages hold exactly it, and the journal has no group
 pub record IsCommittedInPages {C B : Type 0} (m : CallMeaning C) (contents : B → Option Entries) (core : CoreView C B) (journal_known pages_known : Bool) (journal : JournalView) (file : History) : Type 0 where
   pub cleared : IsCleared journal_known (last_number core) journal
-  pub pages : IsTrue pages_known → InState m contents core (λ s. contents_of_file file.now.reads ≡ Ok (map_of s.tree, s.number))
+  pub pages : IsTrue pages_known → InState m contents core (λ s. HoldsAs s.tree s.number file.now.reads)
+
+-- what a core had committed before a checkpoint is in the pages alone that it lies over after it
+abbrev pub IsMoved : {C P : Type 0} → CallMeaning C → Bool → Bool → (P → History) → CoreView C (Base P) → CoreView C (Base P) → JournalView → Type 0
+IsMoved m journal_known pages_known history old new journal =
+    IsCommittedInPages m (contents_of pages_known history) old journal_known pages_known journal (pages_of history new.base)
 
 -- where two disks stood for this map with this number, all synced: a crash at any moment leaves files that do, after an error too, and after Ok both do, all synced
 pub record StandThroughout {A P : Type 0} (contents : Contents) (result : Result A (RenewFault P)) (old new : Pair) : Type 0 where
   pub phases : IsSettledWith contents old → PairsLeave (OpenAs contents) old new
   pub settled : OnOk result (IsSettledWith contents old → IsSettledWith contents new)
+
+-- known disks stand throughout for what a core has committed: the journal's, and that of the pages under the core, or that were handed out
+abbrev pub KeepCommitted : {A C P : Type 0} → CallMeaning C → Bool → Bool → (P → History) → CoreView C (Base P) → CoreView C (Base P) → JournalView → JournalView → Result A (RenewFault P) → Type 0
+KeepCommitted m journal_known pages_known history old new journal journal_now result =
+    IsTrue journal_known → InKnownState m pages_known history old (λ s. StandThroughout (committed_in s) result
+    (pair_of journal.history (pages_of history old.base)) (pair_of journal_now.history (pages_left history result new.base)))
 
 -- no checkpoint was made, or an error came while the core lay over its pages
 abbrev pub IsUnbegun : {P : Type 0} → Result Made (RenewFault P) → Type 0

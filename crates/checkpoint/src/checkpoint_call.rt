@@ -1,17 +1,13 @@
 //! A checkpoint.
 ghost use Rattle.std.specs.Prelude.{◌≡◌, List, Ok, Err, IsTrue, OnOk};
-ghost use Rattle.outside_traits.specs.DiskPairs.{PairsLeave, pair_of};
 ghost use Rattle.outside_traits.specs.Moments.{IsAllSynced};
-ghost use Rattle.tree_model.specs.Tree.{Tree, map_of};
-ghost use Rattle.node_seq.specs.Trees.{OnTree, StandsFor};
-ghost use Rattle.node_pages.specs.Cuts.{cut_of, data_of};
-ghost use Rattle.node_pages.specs.PageFiles.{contents_of_file};
+ghost use Rattle.tree_model.specs.Tree.{Tree};
+ghost use Rattle.node_seq.specs.Trees.{OnTree};
 ghost use Rattle.journal.specs.Groups.{is_last};
 ghost use Rattle.journal.specs.Views.{TakesGroups};
-ghost use Rattle.store_contents.specs.Contents.{contents_of_files};
 ghost use Rattle.node_seq.specs.declared.node_read.SeqError.TheVariants as seq;
-ghost use Rattle.checkpoint.specs.inside.Phases.{HasTwoCauses, IsCutOf, stored};
-ghost use Rattle.checkpoint.specs.Checkpoints.{HasOneCause, IsCleared, IsInPages, IsSettledAs, IsUnwritten, MayCheckpoint, OpenAs, SameUnwritten, StandAs, counts_of, made_of};
+ghost use Rattle.checkpoint.specs.inside.Phases.{HasTwoCauses, IsCutOf, LeaveCut};
+ghost use Rattle.checkpoint.specs.Checkpoints.{HasOneCause, HoldsAs, IsCleared, IsInPages, IsUnwritten, KeepTree, LeaveTree, MayCheckpoint, SameUnwritten, counts_at, cut_of_tree, made_of};
 ghost use Rattle.checkpoint.specs.declared.made.Made.TheVariants.{Yes};
 
 use crate::images_body::images_body;
@@ -38,22 +34,21 @@ pub fn checkpoint<J: Disk, P: Disk, S: NodeRead>(
     requires { MayCheckpoint P.is_known number journal.old (P.history pages.old) }
 
     // It is made but where the tree takes too many pages. Then the pages alone hold the tree with its number, and the journal no group.
-    ensures made { OnTree (S.contents seq.old) result (λ t made. made ≡ made_of (cut_of number (data_of (map_of t)))) }
+    ensures made { OnTree (S.contents seq.old) result
+        (λ t made. made ≡ made_of (cut_of_tree number t)) }
     ensures moved { result ≡ Ok Yes → IsInPages J.is_known P.is_known (S.contents seq.old) number journal.new (P.history pages.new) }
 
     // Where the files stood for the tree with this number, a crash at any moment leaves files that do, after an error too; after Ok all is synced again.
-    ensures phases { IsTrue J.is_known → IsTrue P.is_known → (t : Tree) → StandsFor (S.contents seq.old) t
-        → IsSettledAs t number (pair_of journal.old.history (P.history pages.old))
-        → PairsLeave (StandAs t number) (pair_of journal.old.history (P.history pages.old)) (pair_of journal.new.history (P.history pages.new)) }
-    ensures settled { OnOk result (IsTrue J.is_known → IsTrue P.is_known → (t : Tree) → StandsFor (S.contents seq.old) t
-        → IsSettledAs t number (pair_of journal.old.history (P.history pages.old))
-        → IsSettledAs t number (pair_of journal.new.history (P.history pages.new))) }
+    ensures phases { LeaveTree J.is_known P.is_known (S.contents seq.old) number
+        journal.old journal.new (P.history pages.old) (P.history pages.new) }
+    ensures settled { OnOk result (KeepTree J.is_known P.is_known (S.contents seq.old) number
+        journal.old journal.new (P.history pages.old) (P.history pages.new)) }
 
     // Where none is made, and where memory is wanting, nothing was written.
     ensures unwritten { IsUnwritten result → SameUnwritten P.is_known journal.old journal.new (P.history pages.old) (P.history pages.new) }
     ensures unchanged { S.unchanged seq.old seq.new }
-    ensures cause { HasOneCause (counts_of journal.old.faults (P.faults pages.old) (S.count seq.old))
-        (counts_of journal.new.faults (P.faults pages.new) (S.count seq.new)) result }
+    ensures cause { HasOneCause (counts_at P.faults S.count journal.old pages.old seq.old)
+        (counts_at P.faults S.count journal.new pages.new seq.new) result }
 {
     let cut = cut_pages(alloc, seq, number)?;
     match cut {
@@ -80,11 +75,10 @@ pub(crate) fn write_cut<J: Disk, P: Disk>(
     ensures cleared { OnOk result (IsCleared J.is_known number journal.new) }
     ensures synced { OnOk result (IsTrue P.is_known → IsAllSynced (P.history pages.new)) }
     ensures pages { OnOk result (IsTrue P.is_known → (t : Tree) → IsCutOf t number cut
-        → contents_of_file (P.history pages.new).now.reads ≡ Ok (map_of t, number)) }
+        → HoldsAs t number (P.history pages.new).now.reads) }
 
-    ensures phases { IsTrue J.is_known → IsTrue P.is_known → (t : Tree) → IsCutOf t number cut
-        → contents_of_files journal.old.history.now.reads (P.history pages.old).now.reads ≡ Ok (stored t number)
-        → PairsLeave (OpenAs (stored t number)) (pair_of journal.old.history (P.history pages.old)) (pair_of journal.new.history (P.history pages.new)) }
+    ensures phases { LeaveCut J.is_known P.is_known number cut
+        journal.old journal.new (P.history pages.old) (P.history pages.new) }
     ensures unwritten { result ≡ Err seq.NoMemory → SameUnwritten P.is_known journal.old journal.new (P.history pages.old) (P.history pages.new) }
     ensures cause { HasTwoCauses seq.DiskFault journal.old.faults journal.new.faults (P.faults pages.old) (P.faults pages.new) result }
 {

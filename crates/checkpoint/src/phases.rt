@@ -1,15 +1,13 @@
 //! The three phases of a checkpoint.
-ghost use Rattle.std.specs.Prelude.{◌≡◌, ◌≤◌, Some, Ok, IsTrue, OnOk, length};
-ghost use Rattle.outside_traits.specs.DiskPairs.{PairsLeave, pair_of};
+ghost use Rattle.std.specs.Prelude.{◌≡◌, ◌≤◌, Some, IsTrue, OnOk, length};
 ghost use Rattle.outside_traits.specs.Moments.{IsAllSynced};
 ghost use Rattle.page_images.specs.Images.{AreImages as AreInstallable, Rising};
 ghost use Rattle.journal.specs.DiskFaults.{disk_fault};
 ghost use Rattle.journal.specs.Groups.{AreImages};
 ghost use Rattle.journal.specs.PageImages.{images_in};
 ghost use Rattle.journal.specs.Views.{TakesGroups};
-ghost use Rattle.store_contents.specs.Contents.{Contents, HoldsImages, contents_of_files};
-ghost use Rattle.checkpoint.specs.Checkpoints.{IsCleared, OpenAs};
-ghost use Rattle.checkpoint.specs.inside.Phases.{HasTwoCauses, HasWritten, numbered_images};
+ghost use Rattle.checkpoint.specs.Checkpoints.{IsCleared};
+ghost use Rattle.checkpoint.specs.inside.Phases.{HasTwoCauses, HasWritten, LeaveImages, numbered_images};
 
 use dewey_labels::List;
 use journal::{DiskFault, Journal};
@@ -37,10 +35,8 @@ pub(crate) fn write_images<J: Disk, P: Disk>(
     ensures written { OnOk result (IsTrue P.is_known → HasWritten images.now (P.history pages.old) (P.history pages.new)) }
 
     // What the files stood for, and the pages with the images put in hold, each crash leaves, and the files at the end.
-    ensures phases { IsTrue J.is_known → IsTrue P.is_known → (contents : Contents)
-        → contents_of_files journal.old.history.now.reads (P.history pages.old).now.reads ≡ Ok contents
-        → HoldsImages (P.history pages.old).now.reads (numbered_images number images.now) contents
-        → PairsLeave (OpenAs contents) (pair_of journal.old.history (P.history pages.old)) (pair_of journal.new.history (P.history pages.new)) }
+    ensures phases { LeaveImages J.is_known P.is_known (numbered_images number images.now)
+        journal.old journal.new (P.history pages.old) (P.history pages.new) }
     ensures cause { HasTwoCauses disk_fault journal.old.faults journal.new.faults (P.faults pages.old) (P.faults pages.new) result }
 {
     let _usable = journal.is_usable();

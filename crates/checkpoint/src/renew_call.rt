@@ -1,24 +1,19 @@
 //! A checkpoint under a core whose sessions go on.
 ghost use Rattle.std.specs.Prelude.{◌≡◌, Some, Ok, Err, IsTrue, IfOk, OnOk};
-ghost use Rattle.outside_traits.specs.DiskPairs.{PairsLeave, pair_of};
 ghost use Rattle.outside_traits.specs.Faults.{HasCause};
 ghost use Rattle.outside_traits.specs.Moments.{IsAllSynced};
-ghost use Rattle.tree_model.specs.Tree.{map_of};
 ghost use Rattle.node_seq.specs.Trees.{StandsFor};
 ghost use Rattle.node_seq.specs.declared.node_read.SeqError.TheVariants as seq;
-ghost use Rattle.node_pages.specs.Cuts.{cut_of, data_of};
-ghost use Rattle.node_pages.specs.PageFiles.{contents_of_file};
 ghost use Rattle.journal.specs.Groups.{is_last};
 ghost use Rattle.journal.specs.Views.{TakesGroups};
-ghost use Rattle.store_contents.specs.Contents.{contents_of_files};
-ghost use Rattle.tx_core.specs.Cores.{over, with_committed};
+ghost use Rattle.tx_core.specs.Cores.{InState, over, with_committed};
 ghost use Rattle.checkpoint.specs.Bases.{IsUnchanged, contents_of, count_of, is_paged};
-ghost use Rattle.checkpoint.specs.Checkpoints.{IsCleared, OpenAs, SameUnwritten, made_of};
-ghost use Rattle.checkpoint.specs.Renewals.{DamagedOnly, HasDiskCause, InState, IsCommittedInPages, IsUnbegun, LeavesCore, MayRenew, StandThroughout, committed_in, faults_left, pages_left, pages_of};
+ghost use Rattle.checkpoint.specs.Checkpoints.{HoldsAs, IsCleared, SameUnwritten, cut_of_tree, made_of};
+ghost use Rattle.checkpoint.specs.Renewals.{DamagedOnly, HasDiskCause, InKnownState, IsMoved, IsUnbegun, KeepCommitted, LeavesCore, MayRenew, faults_left, pages_left, pages_of};
 ghost use Rattle.checkpoint.specs.declared.base.Base.TheVariants as base;
 ghost use Rattle.checkpoint.specs.declared.made.Made.TheVariants.{Yes};
-ghost use Rattle.checkpoint.specs.inside.Phases.{IsCutOf, stored};
-ghost use Rattle.checkpoint.specs.inside.Renewing.{HasPagesCause, HoldsTree, IsOverAgain, IsOverCopy};
+ghost use Rattle.checkpoint.specs.inside.Phases.{IsCutOf};
+ghost use Rattle.checkpoint.specs.inside.Renewing.{HasPagesCause, HoldsTree, IsOverAgain, IsOverCopy, LeaveCommitted};
 
 use crate::base::Base;
 use crate::checkpoint_call::write_cut;
@@ -54,19 +49,19 @@ pub fn renew<C: TreeCall + Drop, J: Disk, P: Disk + Drop>(
 
     // It is made but where the tree takes too many pages. Then the pages alone hold what is committed, and the journal no group.
     ensures made { IfOk result (λ made. InState C.meaning (contents_of P.is_known P.history) core.old
-        (λ s. made ≡ made_of (cut_of s.number (data_of (map_of s.tree))))) }
-    ensures moved { result ≡ Ok Yes → IsCommittedInPages C.meaning (contents_of P.is_known P.history) core.old
-        J.is_known P.is_known journal.new (pages_of P.history core.new.base) }
+        (λ s. made ≡ made_of (cut_of_tree s.number s.tree))) }
+    ensures moved { result ≡ Ok Yes
+        → IsMoved C.meaning J.is_known P.is_known P.history core.old core.new journal.new }
 
     // Where the files stood for what is committed, a crash at any moment leaves files that do, after an error too; after Ok all is synced again.
-    ensures files { IsTrue J.is_known → IsTrue P.is_known → InState C.meaning (contents_of P.is_known P.history) core.old
-        (λ s. StandThroughout (committed_in s) result (pair_of journal.old.history (pages_of P.history core.old.base))
-        (pair_of journal.new.history (pages_left P.history result core.new.base))) }
+    ensures files { KeepCommitted C.meaning J.is_known P.is_known P.history
+        core.old core.new journal.old journal.new result }
 
     // Where none is made, and where the core lies over its pages after an error, nothing was written.
     ensures unwritten { IsUnbegun result
         → SameUnwritten P.is_known journal.old journal.new (pages_of P.history core.old.base) (pages_of P.history core.new.base) }
-    ensures damaged { IsTrue P.is_known → InState C.meaning (contents_of P.is_known P.history) core.old (λ s. DamagedOnly result ⊥) }
+    ensures damaged { InKnownState C.meaning P.is_known P.history core.old
+        (λ s. DamagedOnly result ⊥) }
     ensures cause { HasDiskCause journal.old.faults journal.new.faults (count_of P.faults core.old.base) (faults_left P.faults result core.new.base) result }
 {
     // It tells that the book is legal.
@@ -101,7 +96,7 @@ fn cut_committed<C: TreeCall + Drop, P: Disk + Drop>(
 ) -> Result<(SortedSeq, Cut), SeqError>
     ensures copy { IfOk result (λ found. InState C.meaning (contents_of P.is_known P.history) core.old (λ s. StandsFor (Some found.0) s.tree)) }
     ensures cut { IfOk result (λ found. InState C.meaning (contents_of P.is_known P.history) core.old
-        (λ s. found.1 ≡ cut_of number (data_of (map_of s.tree)))) }
+        (λ s. found.1 ≡ cut_of_tree number s.tree)) }
     ensures same { core.new ≡ over core.old core.new.base }
     ensures unchanged { IsUnchanged P.is_known P.history P.faults core.old.base core.new.base }
     ensures cause { HasCause seq.DiskFault (count_of P.faults core.old.base) (count_of P.faults core.new.base) result }
@@ -154,13 +149,12 @@ fn move_tree<C: TreeCall + Drop, J: Disk, P: Disk + Drop>(
     ensures over { IsOverAgain core.old core.new result }
     ensures cleared { OnOk result (IsCleared J.is_known number journal.new) }
     ensures synced { OnOk result (IsTrue P.is_known → IsAllSynced (pages_of P.history core.new.base)) }
-    ensures pages { OnOk result (IsTrue P.is_known → InState C.meaning (contents_of P.is_known P.history) core.old
-        (λ s. contents_of_file (pages_of P.history core.new.base).now.reads ≡ Ok (map_of s.tree, number))) }
-    ensures phases { IsTrue J.is_known → IsTrue P.is_known → InState C.meaning (contents_of P.is_known P.history) core.old
-        (λ s. contents_of_files journal.old.history.now.reads (P.history pages).now.reads ≡ Ok (stored s.tree number)
-        → PairsLeave (OpenAs (stored s.tree number)) (pair_of journal.old.history (P.history pages))
-        (pair_of journal.new.history (pages_left P.history result core.new.base))) }
-    ensures damaged { IsTrue P.is_known → InState C.meaning (contents_of P.is_known P.history) core.old (λ s. DamagedOnly result ⊥) }
+    ensures pages { OnOk result (InKnownState C.meaning P.is_known P.history core.old
+        (λ s. HoldsAs s.tree number (pages_of P.history core.new.base).now.reads)) }
+    ensures phases { LeaveCommitted C.meaning J.is_known P.is_known P.history number pages
+        core.old core.new journal.old journal.new result }
+    ensures damaged { InKnownState C.meaning P.is_known P.history core.old
+        (λ s. DamagedOnly result ⊥) }
     ensures cause { HasDiskCause journal.old.faults journal.new.faults (P.faults pages) (faults_left P.faults result core.new.base) result }
 {
     let mut pages = pages;
@@ -181,11 +175,12 @@ fn open_again<C: TreeCall + Drop, P: Disk + Drop>(
     pool: Pool,
 ) -> Result<(), RenewFault<P>>
     requires core { IsOverCopy P.faults core.old pages }
-    requires pages { IsTrue P.is_known
-        → InState C.meaning (contents_of P.is_known P.history) core.old (λ s. HoldsTree s.tree (P.history pages).now.reads) }
+    requires pages { InKnownState C.meaning P.is_known P.history core.old
+        (λ s. HoldsTree s.tree (P.history pages).now.reads) }
     ensures over { IsOverAgain core.old core.new result }
     ensures same { IsTrue P.is_known → pages_left P.history result core.new.base ≡ P.history pages }
-    ensures damaged { IsTrue P.is_known → InState C.meaning (contents_of P.is_known P.history) core.old (λ s. DamagedOnly result ⊥) }
+    ensures damaged { InKnownState C.meaning P.is_known P.history core.old
+        (λ s. DamagedOnly result ⊥) }
     ensures cause { HasPagesCause (P.faults pages) (faults_left P.faults result core.new.base) result }
 {
     let mut pool = pool;

@@ -3,10 +3,9 @@ use Rattle.outside_traits.specs.DiskPairs.{PairsLeave, pair_of}
 use Rattle.outside_traits.specs.Moments.{History, IsAllSynced}
 use Rattle.tree_model.specs.Tree.{map_of}
 use Rattle.node_pages.specs.PageFiles.{contents_of_file}
-use Rattle.tx_core.specs.Cores.{state_from}
+use Rattle.tx_core.specs.Cores.{InState, state_from}
 use Rattle.checkpoint.specs.Bases.{contents_of, count_of}
 use Rattle.checkpoint.specs.Checkpoints.{OpenAs}
-use Rattle.checkpoint.specs.Renewals.{InState}
 use Rattle.checkpoint.specs.inside.Phases.{stored}
 use Rattle.checkpoint.proofs.RenewAnswers.{always, never_damage, opened_cause, under, written_cause}
 use Rattle.checkpoint.proofs.renew_call.move_tree.Goals as goal
