@@ -2,6 +2,7 @@
 pub mod Counts
 pub mod Lines
 pub mod Machine
+pub mod Reads
 pub mod Runs
 pub mod Texts
 pub mod Whole

@@ -1,12 +1,13 @@
 -- What a run of a script leaves, by its end.
-use Rattle.std.specs.Prelude.{◌≡◌, ◌⊎◌, ℕ, ◌+◌, ◌≤◌, List, [], ◌++◌, length, take, Option, Some, IfSome}
+use Rattle.std.specs.Prelude.{◌≡◌, ◌⊎◌, ℕ, ◌+◌, ◌-◌, ◌≤◌, List, [], ◌++◌, length, take, Option, Some, IfSome}
 use Rattle.std.specs.List.{AllByRecursion}
 use Rattle.outside_kinds.specs.Bounds.{input_limit}
 use Rattle.outside_traits.specs.Bytes.{Took, TookPrefix}
 use Rattle.outside_traits.specs.DiskPairs.{PairsHave, PairsLeave}
 use Rattle.script_runs.specs.Counts.{CountedWhere, DisksCountedWhere, ReadCountedWhere, Tally}
-use Rattle.script_runs.specs.Lines.{ended, lines_of, first_long, AllShort}
+use Rattle.script_runs.specs.Lines.{line_limit, ended, lines_of, first_long, AllShort}
 use Rattle.script_runs.specs.Machine.{Machine, IsSettled}
+use Rattle.script_runs.specs.Reads.{GaveSome}
 use Rattle.script_runs.specs.Texts.{state_after, text_of, script_text}
 use Rattle.script_runs.specs.declared.halt.Halt.TheVariants.{DiskFault}
 use Rattle.script_runs.specs.declared.running.End.{End}
@@ -63,6 +64,13 @@ pub record FaultsCounted (end : End) (before now : Tally) : Type 0 where
   pub write : CountedWhere (end ≡ WriteFault) before.write now.write
   pub disk : DisksCountedWhere (end ≡ Halted DiskFault) before.disks now.disks
 
+-- `FaultsCounted` of a run: `given` and `faults` are the source's, and `write_faults` the sink's
+abbrev pub CountsRunFaults : {S K M : Type 0} (m : Machine M) → (S → ℕ) → (S → ℕ) → (K → ℕ) → M → M → S → S → K → K → End → Type 0
+CountsRunFaults m given faults write_faults old new source source_now sink sink_now how =
+    FaultsCounted how
+    (record { read = faults source; given = given source; write = write_faults sink; disks = m.faults old })
+    (record { read = faults source_now; given = given source_now; write = write_faults sink_now; disks = m.faults new })
+
 -- A run from this state, of which these bytes were read, the first `asked` of them before the last read was asked for.
 -- Of the lines that it was to do it did so many, all short and valid; the sink took a prefix of what these are answered;
 -- and the files stand for these, and for one more at most where the machine stopped within it.
@@ -81,3 +89,10 @@ pub record Ran {M : Type 0} (m : Machine M) (limit : ℕ) (s : m.State) (end : E
   pub settled : IsSettled m old s → IfAnswered end (m.settled new)
   pub fixed : m.fixed new ≡ m.fixed old
   pub stands : IfDone end (m.stands new (state_after m s lines))
+
+-- The source gave bytes, and they were run as a script from whichever state the machine stood in.
+-- `left`, `given` and `asked` are the source's, and `held` is the sink's.
+abbrev pub RunsInput : {S K M : Type 0} (m : Machine M) → (S → Option (List ℕ)) → (S → ℕ) → (S → ℕ) → (K → Option (List ℕ)) → M → M → S → S → K → K → End → Type 0
+RunsInput m left given asked held old new source source_now sink sink_now how =
+    GaveSome left given source source_now (λ read. (s : m.State) → m.stands old s
+    → Ran m line_limit s how read (asked source_now - given source) (left source_now) (held sink) (held sink_now) old new)

@@ -1,11 +1,10 @@
 // The bytes of a script put together to lines, each done by the machine as it ends.
 ghost use Rattle.std.specs.Prelude.{◌≡◌, ◌==◌, position, ◌≢◌, ℕ, ◌+◌, ◌<◌, ◌≤◌, ◌^◌, List, [], ◌∷◌, ◌++◌, length, Option, Err, OnOk, OnErr};
-ghost use Rattle.outside_traits.specs.DiskPairs.{PairsLeave};
 ghost use Rattle.script_runs.specs.Counts.{CountedWhere, DisksCountedWhere};
 ghost use Rattle.node_records.specs.declared.open_error.Place.{Place};
 ghost use Rattle.script_runs.specs.Lines.{line_limit};
-ghost use Rattle.script_runs.specs.Machine.{IsSettled, HoldsEither};
-ghost use Rattle.script_runs.specs.inside.Feeding.{Ends, IsInLine, IsFirstEnd, IsNew, FedFrom, Leaves, IfGoesOn};
+ghost use Rattle.script_runs.specs.Machine.{StaysSettled, LeavesWithOrWithoutLine};
+ghost use Rattle.script_runs.specs.inside.Feeding.{Ends, IsInLine, IsFirstEnd, IsNew, FedWithoutWriting, Leaves, IfGoesOn};
 
 use crate::halt::Halt;
 use crate::machine::LineMachine;
@@ -225,14 +224,14 @@ impl<M: LineMachine> Script<M> {
     fn do_line(&mut self, alloc: Global) -> Result<(), Halt>
         requires room { self.old.lines + 1 < 2 ^ 64 }
         requires ready { M.machine.usable self.old.machine }
-        ensures fed { OnOk result ((held : Option (List ℕ)) (s : M.machine.State) → M.machine.stands self.old.machine s
-            → FedFrom M.machine line_limit s self.old self.new held held (10 ∷ [])) }
+        ensures fed { OnOk result
+            (FedWithoutWriting M.machine line_limit self.old self.new (10 ∷ [])) }
         ensures valid { OnOk result (M.machine.valid self.old.unended) }
         ensures ready { OnOk result (M.machine.answered self.new.machine) }
-        ensures settled { OnOk result ((s : M.machine.State) → M.machine.stands self.old.machine s → IsSettled M.machine self.old.machine s
-            → IsSettled M.machine self.new.machine (M.machine.next s self.old.unended)) }
-        ensures any_moment { (s : M.machine.State) → M.machine.stands self.old.machine s → IsSettled M.machine self.old.machine s
-            → PairsLeave (HoldsEither M.machine s (M.machine.next s self.old.unended)) (M.machine.disks self.old.machine) (M.machine.disks self.new.machine) }
+        ensures settled { OnOk result
+            (StaysSettled M.machine self.old.machine self.new.machine self.old.unended) }
+        ensures any_moment { LeavesWithOrWithoutLine M.machine
+            self.old.machine self.new.machine self.old.unended }
         ensures fixed { M.machine.fixed self.new.machine ≡ M.machine.fixed self.old.machine }
         ensures damaged { (place : Place) → result ≡ Err (Halt.Damaged place) → M.machine.damages }
         ensures cause { DisksCountedWhere (result ≡ Err Halt.DiskFault) (M.machine.faults self.old.machine) (M.machine.faults self.new.machine) }

@@ -1,9 +1,8 @@
 // What does the lines of a script, as the loop sees it.
 ghost use Rattle.std.specs.Prelude.{◌≡◌, ◌++◌, Err, OnOk};
-ghost use Rattle.outside_traits.specs.DiskPairs.{PairsLeave};
 ghost use Rattle.script_runs.specs.Counts.{DisksCountedWhere};
 ghost use Rattle.node_records.specs.declared.open_error.Place.{Place};
-ghost use Rattle.script_runs.specs.Machine.{Machine, IsSettled, HoldsEither};
+ghost use Rattle.script_runs.specs.Machine.{Machine, IsSettled, HasDoneLine, LeavesWithOrWithoutLine, LeavesCommitted};
 
 use crate::halt::Halt;
 use std::alloc::Global;
@@ -21,16 +20,12 @@ pub trait LineMachine {
         out: &mut Vec<u8>,
     ) -> Result<(), Halt>
         requires ready { machine.usable self.old }
-        ensures state { OnOk result ((s : machine.State) → machine.stands self.old s → machine.stands self.new (machine.next s line.now)) }
+        ensures done { OnOk result (HasDoneLine machine self.old self.new line.now) }
         ensures text { OnOk result ((s : machine.State) → machine.stands self.old s → out.new.items ≡ out.old.items ++ machine.text s number line.now) }
         ensures valid { OnOk result (machine.valid line.now) }
-        ensures ready { OnOk result (machine.answered self.new) }
-        ensures settled { OnOk result ((s : machine.State) → machine.stands self.old s → IsSettled machine self.old s
-            → IsSettled machine self.new (machine.next s line.now)) }
 
         // A crash at any moment of it leaves what was committed before the line or what is after it.
-        ensures any_moment { (s : machine.State) → machine.stands self.old s → IsSettled machine self.old s
-            → PairsLeave (HoldsEither machine s (machine.next s line.now)) (machine.disks self.old) (machine.disks self.new) }
+        ensures any_moment { LeavesWithOrWithoutLine machine self.old self.new line.now }
         ensures fixed { machine.fixed self.new ≡ machine.fixed self.old }
         ensures damaged { (place : Place) → result ≡ Err (Halt.Damaged place) → machine.damages }
         ensures cause { DisksCountedWhere (result ≡ Err Halt.DiskFault) (machine.faults self.old) (machine.faults self.new) };
@@ -47,8 +42,7 @@ pub trait LineMachine {
         ensures settled { OnOk result ((s : machine.State) → machine.stands self.old s → IsSettled machine self.old s → IsSettled machine self.new s) }
 
         // A crash at any moment of it leaves what was committed before.
-        ensures any_moment { (s : machine.State) → machine.stands self.old s → IsSettled machine self.old s
-            → PairsLeave (machine.holds s) (machine.disks self.old) (machine.disks self.new) }
+        ensures any_moment { LeavesCommitted machine self.old self.new }
         ensures fixed { machine.fixed self.new ≡ machine.fixed self.old }
         ensures damaged { (place : Place) → result ≡ Err (Halt.Damaged place) → machine.damages }
         ensures cause { DisksCountedWhere (result ≡ Err Halt.DiskFault) (machine.faults self.old) (machine.faults self.new) };

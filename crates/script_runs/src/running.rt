@@ -1,13 +1,11 @@
 // The loop over a script: pieces of the source are read, their lines done, and the answers written before the next read.
-ghost use Rattle.std.specs.Prelude.{◌≡◌, ◌≢◌, ◌+◌, ◌-◌, ◌<◌, ◌≤◌, ℕ, List, [], length, OnOk, Ok, Err, IfSome, IfOk};
+ghost use Rattle.std.specs.Prelude.{◌≡◌, ◌≢◌, ◌+◌, ◌<◌, ◌≤◌, [], length, Ok, Err, IfSome, IfOk};
 ghost use Rattle.outside_kinds.specs.Bounds.{input_limit};
-ghost use Rattle.outside_traits.specs.Bytes.{Gave};
 ghost use Rattle.node_records.specs.declared.open_error.Place.{Place};
-ghost use Rattle.script_runs.specs.Lines.{line_limit};
-ghost use Rattle.script_runs.specs.Runs.{FaultsCounted, Ran};
+ghost use Rattle.script_runs.specs.Runs.{CountsRunFaults, RunsInput};
 ghost use Rattle.script_runs.specs.Whole.{piece};
 ghost use Rattle.script_runs.specs.inside.Feeding.{IsNew, stopped};
-ghost use Rattle.script_runs.specs.inside.Inputs.{TakesInput, RunsScript};
+ghost use Rattle.script_runs.specs.inside.Inputs.{TakesInput, TakesBounded, HasRunScript};
 
 use crate::feeding::{Script, Stop};
 use crate::halt::Halt;
@@ -52,16 +50,13 @@ pub fn run<S: Source, K: Sink, M: LineMachine>(
     sink: &mut K,
 ) -> Finish<M>
     requires ready { M.machine.usable machine }
-    ensures ran { (read : List ℕ) × Gave (S.left source.old) (S.left source.new) read × (S.given source.new ≡ S.given source.old + length read)
-        × ((s : M.machine.State) → M.machine.stands machine s
-        → Ran M.machine line_limit s result.end read (S.asked source.new - S.given source.old) (S.left source.new)
-        (K.held sink.old) (K.held sink.new) machine result.machine) }
+    ensures ran { RunsInput M.machine S.left S.given S.asked K.held machine result.machine
+        source.old source.new sink.old sink.new result.end }
     ensures bound { S.given source.new ≤ S.given source.old + input_limit }
     ensures whole { result.end ≡ End.Done → IfSome (S.left source.new) (λ rest. rest ≡ []) }
     ensures usable { result.end ≡ End.Done → M.machine.usable result.machine }
-    ensures counted { FaultsCounted result.end
-        (record { read = S.faults source.old; given = S.given source.old; write = K.faults sink.old; disks = M.machine.faults machine })
-        (record { read = S.faults source.new; given = S.given source.new; write = K.faults sink.new; disks = M.machine.faults result.machine }) }
+    ensures counted { CountsRunFaults M.machine S.given S.faults K.faults machine result.machine
+        source.old source.new sink.old sink.new result.end }
     ensures damaged { (place : Place) → result.end ≡ End.Halted (Halt.Damaged place) → M.machine.damages }
 {
     let mut script = Script::new(alloc, machine);
@@ -94,8 +89,8 @@ fn run_script<S: Source, K: Sink, M: LineMachine>(
     requires new { IsNew script.old }
     requires ready { M.machine.usable script.old.machine }
     requires some { 0 < length buffer.old }
-    ensures { RunsScript M.machine S.left S.given S.asked S.faults K.held K.faults script.old.machine script.new.machine
-        source.old source.new sink.old sink.new result }
+    ensures { HasRunScript M.machine S.left S.given S.asked S.faults K.held K.faults
+        script.old script.new source.old source.new sink.old sink.new result }
 {
     match take_all(script, alloc, source, sink, buffer) {
         Ok(Input::Ended) => match script.finish(alloc, sink) {
@@ -154,8 +149,8 @@ fn take_pieces<S: Source, K: Sink, M: LineMachine>(
     requires ready { M.machine.usable script.old.machine }
     requires room { source.old.room ≡ input_limit }
     requires some { 0 < length buffer.old }
-    ensures takes { TakesInput M.machine S.left S.given S.asked S.faults K.held K.faults script.old script.new
-        source.old.inner.now source.new.inner.now sink.old sink.new result }
+    ensures takes { TakesBounded M.machine S.left S.given S.asked S.faults K.held K.faults
+        script.old script.new source.old source.new sink.old sink.new result }
     ensures same_reference { source.new.inner.ghost_name ≡ source.old.inner.ghost_name }
 {
     loop {

@@ -1,7 +1,8 @@
 // A whole input within a limit, and a whole text to a sink: for commands that aren't done line by line.
-ghost use Rattle.std.specs.Prelude.{◌≡◌, ◌⊎◌, ◌+◌, ◌≤◌, ◌<◌, ℕ, List, [], length, OnOk, Err, IfSome, IfOk};
-ghost use Rattle.outside_traits.specs.Bytes.{Gave, Took, TookPrefix};
+ghost use Rattle.std.specs.Prelude.{◌≡◌, ◌⊎◌, [], OnOk, Err, IfSome};
+ghost use Rattle.outside_traits.specs.Bytes.{Took, TookPrefix};
 ghost use Rattle.script_runs.specs.Counts.{CountedWhere};
+ghost use Rattle.script_runs.specs.Reads.{GaveSome};
 ghost use Rattle.script_runs.specs.Whole.{IsGathered};
 
 use crate::running::{End, buffer};
@@ -22,8 +23,8 @@ pub fn gather<S: Source>(
     limit: usize,
     source: &mut S,
 ) -> Result<Vec<u8>, GatherError>
-    ensures read { (read : List ℕ) × Gave (S.left source.old) (S.left source.new) read
-        × (S.given source.new ≡ S.given source.old + length read) × IsGathered limit read result (λ bytes. bytes.items) }
+    ensures read { GaveSome S.left S.given source.old source.new
+        (λ read. IsGathered limit read result (λ bytes. bytes.items)) }
     ensures whole { OnOk result (IfSome (S.left source.new) (λ rest. rest ≡ [])) }
     ensures cause { CountedWhere (result ≡ Err GatherError.ReadFault) (S.faults source.old) (S.faults source.new) }
 {

@@ -79,6 +79,10 @@ pub record Overran {M : Type 0} (m : Machine M) (limit : ℕ) (old new : Standin
 abbrev pub FedFrom : {M : Type 0} (m : Machine M) → ℕ → m.State → Script M → Script M → Option (List ℕ) → Option (List ℕ) → List ℕ → Type 0
 FedFrom m limit s old new before now bytes = (t : m.State) × m.stands new.machine t × Fed m limit (with_state m old s) (with_state m new t) before now bytes
 
+-- the bytes were taken from whichever state the machine stood in, and the sink took nothing
+abbrev pub FedWithoutWriting : {M : Type 0} (m : Machine M) → ℕ → Script M → Script M → List ℕ → Type 0
+FedWithoutWriting m limit old new bytes = (held : Option (List ℕ)) (s : m.State) → m.stands old.machine s → FedFrom m limit s old new held held bytes
+
 -- where the script stands, by the answer of a step that was to take these bytes; after a stop for good nowhere
 abbrev pub ComesFrom : {M : Type 0} (m : Machine M) → ℕ → m.State → Script M → Script M → Option (List ℕ) → Option (List ℕ) → List ℕ → Result (Unit {0}) Stop → Type 0
 ComesFrom m limit s old new before now bytes (Ok done) = FedFrom m limit s old new before now bytes

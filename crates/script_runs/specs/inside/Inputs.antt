@@ -1,12 +1,13 @@
 -- What taking an input into a new script leaves, and what running one does.
 use Rattle.std.specs.Prelude.{◌≡◌, ℕ, ◌+◌, ◌-◌, ◌≤◌, List, [], length, Option, Result, Ok, Err, OnOk, IfSome}
 use Rattle.outside_kinds.specs.Bounds.{input_limit}
-use Rattle.outside_traits.specs.Bytes.{Gave}
+use Rattle.outside_kinds.specs.declared.bounded.Bounded.{Bounded}
 use Rattle.node_records.specs.declared.open_error.Place.{Place}
 use Rattle.script_runs.specs.Counts.{CountedWhere, DisksCountedWhere, ReadCountedWhere}
 use Rattle.script_runs.specs.Lines.{line_limit}
 use Rattle.script_runs.specs.Machine.{Machine}
-use Rattle.script_runs.specs.Runs.{Ran}
+use Rattle.script_runs.specs.Reads.{GaveSome}
+use Rattle.script_runs.specs.Runs.{RunsInput}
 use Rattle.script_runs.specs.inside.Feeding.{Script, TakesFrom, IfGoesOn, went}
 use Rattle.script_runs.specs.declared.feeding.Stop.{Stop}
 use Rattle.script_runs.specs.declared.feeding.Stop.TheVariants.{WriteFault, Halted}
@@ -20,8 +21,8 @@ use Rattle.script_runs.specs.declared.running.Input.TheVariants.{Ended, Fault}
 -- `left`, `given`, `asked`, `faults` are the source's, `held` and `write_faults` the sink's.
 pub record TakesInput {S K M : Type 0} (m : Machine M) (left : S → Option (List ℕ)) (given asked faults : S → ℕ) (held : K → Option (List ℕ)) (write_faults : K → ℕ)
     (old new : Script M) (source source_now : S) (sink sink_now : K) (result : Result Input Stop) : Type 0 where
-  pub takes : (read : List ℕ) × Gave (left source) (left source_now) read × (given source_now ≡ given source + length read)
-      × ((s : m.State) → m.stands old.machine s → TakesFrom m line_limit s old new (held sink) (held sink_now) read (asked source_now - given source) (went result))
+  pub takes : GaveSome left given source source_now (λ read. (s : m.State) → m.stands old.machine s
+      → TakesFrom m line_limit s old new (held sink) (held sink_now) read (asked source_now - given source) (went result))
   pub ready : IfGoesOn (m.usable new.machine) (went result)
   pub lines : new.lines ≤ input_limit
   pub bound : given source_now ≤ given source + input_limit
@@ -32,11 +33,16 @@ pub record TakesInput {S K M : Type 0} (m : Machine M) (left : S → Option (Lis
   pub disk : DisksCountedWhere (result ≡ Err (Halted DiskFault)) (m.faults old.machine) (m.faults new.machine)
   pub damaged : (place : Place) → result ≡ Err (Halted (Damaged place)) → m.damages
 
+-- the same through a source that is read up to its limit
+abbrev pub TakesBounded : {S K M : Type 0} (m : Machine M) → (S → Option (List ℕ)) → (S → ℕ) → (S → ℕ) → (S → ℕ) → (K → Option (List ℕ)) → (K → ℕ)
+    → Script M → Script M → Bounded S → Bounded S → K → K → Result Input Stop → Type 0
+TakesBounded m left given asked faults held write_faults old new bounded bounded_now sink sink_now result =
+    TakesInput m left given asked faults held write_faults old new bounded.inner.now bounded_now.inner.now sink sink_now result
+
 -- What running a new script leaves, at its end.
 pub record RunsScript {S K M : Type 0} (m : Machine M) (left : S → Option (List ℕ)) (given asked faults : S → ℕ) (held : K → Option (List ℕ)) (write_faults : K → ℕ)
     (old new : M) (source source_now : S) (sink sink_now : K) (how : End) : Type 0 where
-  pub ran : (read : List ℕ) × Gave (left source) (left source_now) read × (given source_now ≡ given source + length read)
-      × ((s : m.State) → m.stands old s → Ran m line_limit s how read (asked source_now - given source) (left source_now) (held sink) (held sink_now) old new)
+  pub ran : RunsInput m left given asked held old new source source_now sink sink_now how
   pub bound : given source_now ≤ given source + input_limit
   pub whole : how ≡ end.Done → IfSome (left source_now) (λ rest. rest ≡ [])
   pub usable : how ≡ end.Done → m.usable new
@@ -44,3 +50,9 @@ pub record RunsScript {S K M : Type 0} (m : Machine M) (left : S → Option (Lis
   pub write : CountedWhere (how ≡ end.WriteFault) (write_faults sink) (write_faults sink_now)
   pub disk : DisksCountedWhere (how ≡ end.Halted DiskFault) (m.faults old) (m.faults new)
   pub damaged : (place : Place) → how ≡ end.Halted (Damaged place) → m.damages
+
+-- a script has run to this end
+abbrev pub HasRunScript : {S K M : Type 0} (m : Machine M) → (S → Option (List ℕ)) → (S → ℕ) → (S → ℕ) → (S → ℕ) → (K → Option (List ℕ)) → (K → ℕ)
+    → Script M → Script M → S → S → K → K → End → Type 0
+HasRunScript m left given asked faults held write_faults old new source source_now sink sink_now how =
+    RunsScript m left given asked faults held write_faults old.machine new.machine source source_now sink sink_now how

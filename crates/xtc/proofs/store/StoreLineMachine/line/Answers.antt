@@ -1,11 +1,11 @@
 use Rattle.std.proofs.Common.{◌≡◌, OnOk, Option, None, Err, ap, sym, subst, ◌∙◌, refl}
 use Rattle.outside_traits.specs.DiskPairs.{PairsLeave}
 use Rattle.script_runs.specs.Counts.{DisksCountedWhere}
-use Rattle.script_runs.specs.Machine.{HoldsEither, IsSettled}
+use Rattle.script_runs.specs.Machine.{HasDoneLine, HoldsEither, IsSettled, StaysSettled}
 use Rattle.xtc.specs.Book.{done_by, IsValidLine}
 use Rattle.xtc.specs.ReadLines.{line_in}
 use Rattle.xtc.specs.ScriptLine.{Line, line_of}
-use Rattle.xtc.specs.StoreMachine.{Booked, HasAnswered, HasRested, IsBooked, KeptStore, MakesAs, faults_of, store_machine, with_done}
+use Rattle.xtc.specs.StoreMachine.{Booked, HasRested, IsBooked, KeptStore, MakesAs, faults_of, store_machine, with_done}
 use Rattle.durable_sessions.specs.declared.halt.Halt.TheVariants as halt
 use Rattle.xtc.proofs.LineLaws.{line_fixed, line_moments, line_ready, line_settled, line_stands}
 use Rattle.xtc.proofs.StoreMachineLaws.{counted_out}
@@ -17,54 +17,33 @@ do_line-requires g c =
     let may = (subst (λ (k : KeptStore g.row.P.Denot). HasRested g.P.Disk.is_known g.P.Disk.history k × MakesAs g.C.MakesCheckpoints.makes k) (sym c.self.view_is) c.requires.ready).0.answered.may in
     record { takes = record { usable = may.usable; next = may.next } }
 
-pub returns-clause-state : goal.returns-clause-state
-returns-clause-state g c =
-    let P : Type 0 = g.row.P.Denot in
-    let old : KeptStore P = record { core = c.self.inside.core; journal = c.self.inside.journal; checkpoints = c.self.inside.checkpoints } in
-    let new : KeptStore P = record { core = c.do_line.new.core; journal = c.do_line.new.journal; checkpoints = c.self.inside.checkpoints } in
-    let After : Type 0 = (b : Booked P) → IsBooked g.P.Disk.is_known g.P.Disk.history c.args.self.now b → IsBooked g.P.Disk.is_known g.P.Disk.history new (with_done b (done_by b.state 0 (line_of c.args.line.now))) in
-    elim c.match-do_line.branch [
-      | in-Ok-do_line w ↦
-          let after : After = λ b stands.
-          let here = (subst (λ (k : KeptStore P). IsBooked g.P.Disk.is_known g.P.Disk.history k b) (sym c.self.view_is) stands).stands in
-          subst (λ (l : Line). IsBooked g.P.Disk.is_known g.P.Disk.history new (with_done b (done_by b.state 0 l))) c.in-Ok.ensures.line
-          (line_stands g.J.Disk.is_known g.P.Disk.is_known g.C.MakesCheckpoints.makes g.P.Disk.history g.P.Disk.faults c.args.self.now old new c.self.view_is c.do_line.ensures.base refl b stands (done_by b.state 0 (line_in c.in-Ok.line))
-          w.in-Ok-do_line.ensures.grown (w.in-Ok-do_line.ensures.state b.state here).stands (w.in-Ok-do_line.ensures.book b.state here)) in
-          subst (λ r. OnOk r After) (sym w.result-is) after
-      | in-Err-DiskFault w ↦ subst (λ r. OnOk r After) (sym w.result-is) tt
-      | in-Err-NoMemory w ↦ subst (λ r. OnOk r After) (sym w.result-is) tt
-    ]
-
-pub returns-clause-ready : goal.returns-clause-ready
-returns-clause-ready g c =
-    let P : Type 0 = g.row.P.Denot in
-    let old : KeptStore P = record { core = c.self.inside.core; journal = c.self.inside.journal; checkpoints = c.self.inside.checkpoints } in
-    let new : KeptStore P = record { core = c.do_line.new.core; journal = c.do_line.new.journal; checkpoints = c.self.inside.checkpoints } in
-    let After : Type 0 = HasAnswered g.P.Disk.is_known g.P.Disk.history new × MakesAs g.C.MakesCheckpoints.makes new in
-    elim c.match-do_line.branch [
-      | in-Ok-do_line w ↦ subst (λ r. OnOk r After) (sym w.result-is)
-          (line_ready g.J.Disk.is_known g.P.Disk.is_known g.C.MakesCheckpoints.makes g.P.Disk.history g.P.Disk.faults c.args.self.now old new c.self.view_is c.do_line.ensures.base refl c.requires.ready
-          w.in-Ok-do_line.ensures.grown w.in-Ok-do_line.ensures.takes w.is_legal.ensures.book)
-      | in-Err-DiskFault w ↦ subst (λ r. OnOk r After) (sym w.result-is) tt
-      | in-Err-NoMemory w ↦ subst (λ r. OnOk r After) (sym w.result-is) tt
-    ]
-
-pub returns-clause-settled : goal.returns-clause-settled
-returns-clause-settled g c =
+pub returns-clause-done : goal.returns-clause-done
+returns-clause-done g c =
     let P : Type 0 = g.row.P.Denot in
     let known = g.P.Disk.is_known in
     let history = g.P.Disk.history in
     let machine = store_machine g.J.Disk.is_known known g.C.MakesCheckpoints.makes history g.P.Disk.faults in
     let old : KeptStore P = record { core = c.self.inside.core; journal = c.self.inside.journal; checkpoints = c.self.inside.checkpoints } in
     let new : KeptStore P = record { core = c.do_line.new.core; journal = c.do_line.new.journal; checkpoints = c.self.inside.checkpoints } in
-    let After : Type 0 = (b : Booked P) → IsBooked known history c.args.self.now b → IsSettled machine c.args.self.now b → IsSettled machine new (with_done b (done_by b.state 0 (line_of c.args.line.now))) in
+    let After : Type 0 = HasDoneLine machine c.args.self.now new c.args.line.now in
     elim c.match-do_line.branch [
       | in-Ok-do_line w ↦
-          let after : After = λ b stands settled.
+          let state : (b : Booked P) → IsBooked known history c.args.self.now b → IsBooked known history new (with_done b (done_by b.state 0 (line_of c.args.line.now))) = λ b stands.
+          let here = (subst (λ (k : KeptStore P). IsBooked known history k b) (sym c.self.view_is) stands).stands in
+          subst (λ (l : Line). IsBooked known history new (with_done b (done_by b.state 0 l))) c.in-Ok.ensures.line
+          (line_stands g.J.Disk.is_known known g.C.MakesCheckpoints.makes history g.P.Disk.faults c.args.self.now old new c.self.view_is c.do_line.ensures.base refl b stands (done_by b.state 0 (line_in c.in-Ok.line))
+          w.in-Ok-do_line.ensures.grown (w.in-Ok-do_line.ensures.state b.state here).stands (w.in-Ok-do_line.ensures.book b.state here)) in
+          let settled : StaysSettled machine c.args.self.now new c.args.line.now = λ b stands settled.
           let here = (subst (λ (k : KeptStore P). IsBooked known history k b) (sym c.self.view_is) stands).stands in
           subst (λ (l : Line). IsSettled machine new (with_done b (done_by b.state 0 l))) c.in-Ok.ensures.line
           (line_settled g.J.Disk.is_known known g.C.MakesCheckpoints.makes history g.P.Disk.faults c.args.self.now old new c.self.view_is c.do_line.ensures.base refl b stands (done_by b.state 0 (line_in c.in-Ok.line)) settled
           (w.in-Ok-do_line.ensures.state b.state here)) in
+          let after : After = record {
+            ready = line_ready g.J.Disk.is_known known g.C.MakesCheckpoints.makes history g.P.Disk.faults c.args.self.now old new c.self.view_is c.do_line.ensures.base refl c.requires.ready
+                w.in-Ok-do_line.ensures.grown w.in-Ok-do_line.ensures.takes w.is_legal.ensures.book;
+            state = state;
+            settled = settled;
+          } in
           subst (λ r. OnOk r After) (sym w.result-is) after
       | in-Err-DiskFault w ↦ subst (λ r. OnOk r After) (sym w.result-is) tt
       | in-Err-NoMemory w ↦ subst (λ r. OnOk r After) (sym w.result-is) tt
