@@ -1,16 +1,22 @@
 -- What driving lines over a core does to it and to the lines written, by what the lines are to do (docs/PROFILE.md, "Lines of sessions").
-use Rattle.std.specs.Prelude.{◌≡◌, ◌<◌, ℕ, Bool, true, false, List, [], ◌∷◌, ◌++◌, length, Option, Some, None, is_some, IsTrue}
-use Rattle.call_contract.specs.Books.{Book}
+use Rattle.std.specs.Prelude.{◌≡◌, ◌<◌, ℕ, Bool, true, false, List, [], ◌∷◌, ◌++◌, length, Option, Some, None, is_some, IsTrue, Result, IfOk, IfSome}
+use Rattle.tree_model.specs.Entries.{Entries}
+use Rattle.tree_model.specs.declared.reply.Reply.TheVariants as reply
+use Rattle.call_contract.specs.Books.{Book, entry}
 use Rattle.call_contract.specs.Calls.{CallMeaning}
 use Rattle.call_contract.specs.Sessions.{commits_in}
 use Rattle.call_contract.specs.States.{State}
 use Rattle.call_contract.specs.declared.events.Event.{Event}
+use Rattle.call_contract.specs.declared.events.Event.TheVariants as event
 use Rattle.call_contract.specs.declared.events.Event.TheVariants.{Fail}
+use Rattle.call_contract.specs.declared.events.EventAnswer.TheVariants.{Number}
+use Rattle.command_lines.specs.declared.line_reply.LineAnswer.TheVariants as line_answer
 use Rattle.command_lines.specs.declared.line_reply.LineReply.{LineReply}
+use Rattle.command_lines.specs.declared.line_reply.LineReply.TheVariants.{Said}
 use Rattle.command_lines.specs.declared.line_reply.SessionRefusal.{SessionRefusal}
 use Rattle.command_lines.specs.declared.line_reply.SessionRefusal.TheVariants as refusal
 use Rattle.tx_core.specs.Commits.{HasChangesOf, IsPrepared}
-use Rattle.tx_core.specs.Cores.{CoreView}
+use Rattle.tx_core.specs.Cores.{CoreView, InState, next_number, with_entry}
 use Rattle.tx_core.specs.Refusals.{begin_refused, call_refused, abort_refused}
 use Rattle.tx_core.specs.declared.commits.Prepared.{Prepared}
 use Rattle.tx_core.specs.declared.errors.SessionError.{SessionError}
@@ -43,6 +49,14 @@ refused_by_book v s Commit = shown_of (call_refused v s)
 refused_by_book v s Abort = shown_of (abort_refused v s)
 refused_by_book v s (Call c) = shown_of (call_refused v s)
 
+-- where the book refuses a line that is answered, this holds of why, and of the answer
+abbrev pub IfRefused : {A C B E : Type 0} → CoreView C B → ℕ → Doing C → Result A E → (SessionRefusal → A → Type 0) → Type 0
+IfRefused v s doing result Q = IfSome (refused_by_book v s doing) (λ why. IfOk result (λ a. Q why a))
+
+-- one line more was written: why the session is refused
+abbrev pub SaysWhy : ℕ → SessionRefusal → List LineReply → List LineReply → Type 0
+SaysWhy s why before after = after ≡ before ++ Said s false (line_answer.Session why) ∷ []
+
 -- ---- what was done
 
 -- the core that was opened so, with further entries; of what is left to be made durable nothing is said
@@ -56,6 +70,11 @@ pub record HasGrown {C B : Type 0} (old new : CoreView C B) (before after : List
   pub core : new ≡ with_entries old entries new
   pub commits : commits_in entries ≡ 0
   pub out : after ≡ before ++ said
+
+-- the session's commit is made: it is an entry, with the next number, and its line is written; what else was added stands behind them
+abbrev pub HasMadeCommit : {C B : Type 0} → ℕ → CoreView C B → CoreView C B → List LineReply → List LineReply → Type 0
+HasMadeCommit s old new before after = HasGrown (with_entry old (entry s event.Commit (Number (next_number old)))) new
+    (before ++ Said s false (line_answer.Reply (reply.Number (next_number old))) ∷ []) after
 
 -- all that was to be done is done: the entries stand in the book, and the lines are written
 pub record HasDone {C B : Type 0} (old new : CoreView C B) (before after : List LineReply) (p : Progress C) : Type 0 where
@@ -91,6 +110,25 @@ pub record HasBegun {C B : Type 0} (old new : CoreView C B) (before after : List
 abbrev pub IsDriven : {C B : Type 0} → CallMeaning C → State C → Asked C → CoreView C B → CoreView C B → List LineReply → List LineReply → Option Prepared → Type 0
 IsDriven m st line old new before after None = HasDone old new before after (after_line m st line) × (line.doing ≡ Commit → IsTrue (is_some (refusals.refusal m st line.session Commit)))
 IsDriven m st line old new before after (Some p) = (line.doing ≡ Commit) × (refusals.refusal m st line.session Commit ≡ None) × HasChangesOf m st line.session p
+
+-- ---- a line over a core, from the state that the core's book has led to
+
+-- it is driven so
+abbrev pub DrivesLine : {C B : Type 0} → CallMeaning C → (B → Option Entries) → Asked C → CoreView C B → CoreView C B → List LineReply → List LineReply → Option Prepared → Type 0
+DrivesLine m contents line old new before after p = InState m contents old (λ st. IsDriven m st line old new before after p)
+
+-- a first part of all that it leads to is done
+abbrev pub BeginsLine : {C B : Type 0} → CallMeaning C → (B → Option Entries) → Asked C → CoreView C B → CoreView C B → List LineReply → List LineReply → Type 0
+BeginsLine m contents line old new before after = InState m contents old (λ st. HasBegun old new before after (after_line m st line))
+
+-- where it isn't refused, all of that is, or a first part
+abbrev pub DoesUnrefused : {C B : Type 0} → CallMeaning C → (B → Option Entries) → Asked C → CoreView C B → CoreView C B → List LineReply → List LineReply → Type 0
+DoesUnrefused m contents line old new before after = InState m contents old (λ st. refusals.refusal m st line.session line.doing ≡ None
+    → HasDone old new before after (after_line m st line))
+
+abbrev pub BeginsUnrefused : {C B : Type 0} → CallMeaning C → (B → Option Entries) → Asked C → CoreView C B → CoreView C B → List LineReply → List LineReply → Type 0
+BeginsUnrefused m contents line old new before after = InState m contents old (λ st. refusals.refusal m st line.session line.doing ≡ None
+    → HasBegun old new before after (after_line m st line))
 
 -- ---- a commit between its preparing and its making
 

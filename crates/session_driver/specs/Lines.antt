@@ -1,5 +1,5 @@
 -- What a line does, and lines one after another (docs/PROFILE.md, "Lines of sessions").
-use Rattle.std.specs.Prelude.{ℕ, false, List, [], ◌∷◌, Option, None, Some}
+use Rattle.std.specs.Prelude.{◌≡◌, ℕ, false, List, [], ◌∷◌, Option, None, Some}
 use Rattle.std.specs.List.{AllByRecursion}
 use Rattle.call_contract.specs.Books.{entry}
 use Rattle.call_contract.specs.Calls.{CallMeaning}
@@ -18,11 +18,17 @@ use Rattle.session_driver.specs.Refusals.{refusal}
 use Rattle.session_driver.specs.Retries.{retries}
 use Rattle.session_driver.specs.declared.doing.Doing.{Doing}
 use Rattle.session_driver.specs.declared.doing.Doing.TheVariants.{Begin, Commit, Abort, Call}
+use Rattle.tree_model.specs.Tree.{Tree}
+use Rattle.tree_model.specs.ValidTrees.{IsValidTree}
 
 -- a line as a session is asked it
 pub record Asked (C : Type 0) : Type 0 where
   pub session : ℕ
   pub doing : Doing C
+
+-- the line that asks this of a session
+abbrev pub asking : {C : Type 0} → ℕ → Doing C → Asked C
+asking session doing = record { session = session; doing = doing }
 
 -- a call that is asked is valid
 abbrev pub IsValidDoing : {C : Type 0} → (C → Type 0) → Doing C → Type 0
@@ -31,6 +37,14 @@ IsValidDoing is_valid doing = Unit {0}
 
 abbrev pub AreValid : {C : Type 0} → (C → Type 0) → List (Asked C) → Type 0
 AreValid is_valid lines = AllByRecursion (λ line. IsValidDoing is_valid line.doing) lines
+
+-- this holds of lines with such calls, from every valid tree, with every number and limit
+abbrev pub OfValidLines : {C : Type 0} → (C → Type 0) → (Tree → ℕ → ℕ → List (Asked C) → Type 0) → Type 0
+OfValidLines {C} is_valid Q = (t : Tree) (n limit : ℕ) (lines : List (Asked C)) → IsValidTree t → AreValid is_valid lines → Q t n limit lines
+
+-- this is why a line is refused
+abbrev pub IsRefusedFor : {C : Type 0} → CallMeaning C → State C → Asked C → SessionRefusal → Type 0
+IsRefusedFor m st line why = refusal m st line.session line.doing ≡ Some why
 
 -- what is asked, as an event of the machine
 abbrev pub event_of : {C : Type 0} → Doing C → Event C

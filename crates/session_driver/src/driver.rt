@@ -1,24 +1,15 @@
 //! What a line does over a core: its call, the line that is written, and the retries where it ended a transaction.
 
-ghost use Rattle.std.specs.Prelude.{◌≡◌, ◌≢◌, ◌<◌, ◌++◌, ◌∷◌, [], length, vec_capacity, false, None, Some, Err, IfOk, IfErr, IfSome, OnErr};
+ghost use Rattle.std.specs.Prelude.{◌≡◌, ◌≢◌, ◌<◌, length, vec_capacity, None, Some, Err, IfOk, IfErr, IfSome, OnErr};
 ghost use Rattle.outside_traits.specs.Faults.{HasCause};
-ghost use Rattle.tree_model.specs.Tree.{Tree};
-ghost use Rattle.node_seq.specs.Trees.{StandsFor};
-ghost use Rattle.command_lines.specs.declared.line_reply.LineAnswer.TheVariants as line_answer;
-ghost use Rattle.command_lines.specs.declared.line_reply.LineReply.TheVariants.{Said};
-ghost use Rattle.tx_core.specs.Commits.{IsPrepared, HasChangesOf};
-ghost use Rattle.call_contract.specs.Books.{entry as entry_of};
-ghost use Rattle.call_contract.specs.declared.events.Event.TheVariants as event;
-ghost use Rattle.call_contract.specs.declared.events.EventAnswer.TheVariants as said;
-ghost use Rattle.tree_model.specs.declared.reply.Reply.TheVariants as reply;
-ghost use Rattle.tx_core.specs.Cores.{state_from, with_entry, next_number};
+ghost use Rattle.tx_core.specs.Commits.{IsPrepared};
 ghost use Rattle.tx_core.specs.declared.commits.Prepared.{Prepared};
 ghost use Rattle.tx_core.specs.declared.errors.SessionError.{SessionError};
 ghost use Rattle.tx_core.specs.declared.errors.CallError.TheVariants as call_error;
-ghost use Rattle.session_driver.specs.Driving.{HasGrown, HasDone, HasBegun, IsDriven, IsReadyToCommit, MayFinishCommit, refused_by_book};
-ghost use Rattle.session_driver.specs.Lines.{after_line};
-ghost use Rattle.session_driver.specs.Refusals.{refusal};
+ghost use Rattle.session_driver.specs.Driving.{IfRefused, SaysWhy, HasGrown, HasMadeCommit, DrivesLine, BeginsLine, DoesUnrefused, BeginsUnrefused, IsReadyToCommit, MayFinishCommit};
+ghost use Rattle.session_driver.specs.Lines.{asking};
 ghost use Rattle.session_driver.specs.declared.doing.Doing.TheVariants as asked;
+ghost use Rattle.session_driver.specs.inside.Steps.{DoesLine};
 
 use crate::doing::Doing;
 use crate::replies::{refuse, say};
@@ -39,15 +30,14 @@ pub fn drive<C: TreeCall + Drop, B: NodeRead + Drop>(
     doing: Doing<C>,
     out: &mut Vec<LineReply>,
 ) -> Result<Option<Prepared>, CallError>
-    ensures line { IfOk result (λ p. (t : Tree) → StandsFor (B.contents core.old.opening) t
-        → IsDriven C.meaning (state_from C.meaning t core.old) (record { session = session; doing = doing }) core.old core.new out.old.items out.new.items p) }
+    ensures line { IfOk result (λ p. DrivesLine C.meaning B.contents (asking session doing)
+        core.old core.new out.old.items out.new.items p) }
     ensures ready { IfOk result (λ p. IfSome p (IsReadyToCommit core.old core.new session doing out.old.items out.new.items (vec_capacity out.new))) }
-    ensures begun { OnErr result ((t : Tree) → StandsFor (B.contents core.old.opening) t
-        → HasBegun core.old core.new out.old.items out.new.items
-        (after_line C.meaning (state_from C.meaning t core.old) (record { session = session; doing = doing }))) }
+    ensures begun { OnErr result (BeginsLine C.meaning B.contents (asking session doing)
+        core.old core.new out.old.items out.new.items) }
     ensures later { HasGrown core.old core.new out.old.items out.new.items }
-    ensures refused { IfSome (refused_by_book core.old session doing) (λ why. IfOk result (λ p.
-        (p ≡ None) × (core.new ≡ core.old) × (out.new.items ≡ out.old.items ++ Said session false (line_answer.Session why) ∷ []))) }
+    ensures refused { IfRefused core.old session doing result (λ w p.
+        (p ≡ None) × (core.new ≡ core.old) × SaysWhy session w out.old.items out.new.items) }
     ensures session { (why : SessionError) → result ≢ Err (call_error.Session why) }
     ensures unchanged { B.unchanged core.old.base core.new.base }
     ensures cause { HasCause call_error.DiskFault (B.count core.old.base) (B.count core.new.base) result }
@@ -73,16 +63,11 @@ pub fn finish_commit<C: TreeCall + Drop, B: NodeRead + Drop>(
     out: &mut Vec<LineReply>,
 ) -> Result<(), CallError>
     requires may_finish { MayFinishCommit core.old session prepared out.old.items (vec_capacity out.old) }
-    ensures line { IfOk result (λ _. (t : Tree) → StandsFor (B.contents core.old.opening) t
-        → refusal C.meaning (state_from C.meaning t core.old) session asked.Commit ≡ None
-        → HasDone core.old core.new out.old.items out.new.items
-        (after_line C.meaning (state_from C.meaning t core.old) (record { session = session; doing = asked.Commit }))) }
-    ensures begun { OnErr result ((t : Tree) → StandsFor (B.contents core.old.opening) t
-        → refusal C.meaning (state_from C.meaning t core.old) session asked.Commit ≡ None
-        → HasBegun core.old core.new out.old.items out.new.items
-        (after_line C.meaning (state_from C.meaning t core.old) (record { session = session; doing = asked.Commit }))) }
-    ensures made { HasGrown (with_entry core.old (entry_of session event.Commit (said.Number (next_number core.old)))) core.new
-        (out.old.items ++ Said session false (line_answer.Reply (reply.Number (next_number core.old))) ∷ []) out.new.items }
+    ensures line { IfOk result (λ _. DoesUnrefused C.meaning B.contents
+        (asking session asked.Commit) core.old core.new out.old.items out.new.items) }
+    ensures begun { OnErr result (BeginsUnrefused C.meaning B.contents
+        (asking session asked.Commit) core.old core.new out.old.items out.new.items) }
+    ensures made { HasMadeCommit session core.old core.new out.old.items out.new.items }
     ensures session { (why : SessionError) → result ≢ Err (call_error.Session why) }
     ensures unchanged { B.unchanged core.old.base core.new.base }
     ensures cause { HasCause call_error.DiskFault (B.count core.old.base) (B.count core.new.base) result }
@@ -108,15 +93,13 @@ fn begin<C: TreeCall + Drop, B: NodeRead + Drop>(
     out: &mut Vec<LineReply>,
 ) -> Result<(), CallError>
     requires room { length out.old.items < vec_capacity out.old }
-    ensures line { IfOk result (λ _. (t : Tree) → StandsFor (B.contents core.old.opening) t
-        → HasDone core.old core.new out.old.items out.new.items
-        (after_line C.meaning (state_from C.meaning t core.old) (record { session = session; doing = asked.Begin }))) }
-    ensures begun { OnErr result ((t : Tree) → StandsFor (B.contents core.old.opening) t
-        → HasBegun core.old core.new out.old.items out.new.items
-        (after_line C.meaning (state_from C.meaning t core.old) (record { session = session; doing = asked.Begin }))) }
+    ensures line { IfOk result (λ _. DoesLine C.meaning B.contents (asking session asked.Begin)
+        core.old core.new out.old.items out.new.items) }
+    ensures begun { OnErr result (BeginsLine C.meaning B.contents (asking session asked.Begin)
+        core.old core.new out.old.items out.new.items) }
     ensures later { HasGrown core.old core.new out.old.items out.new.items }
-    ensures refused { IfSome (refused_by_book core.old session (asked.Begin)) (λ why. IfOk result (λ _. (core.new ≡ core.old)
-        × (out.new.items ≡ out.old.items ++ Said session false (line_answer.Session why) ∷ []))) }
+    ensures refused { IfRefused core.old session asked.Begin result (λ why _.
+        (core.new ≡ core.old) × SaysWhy session why out.old.items out.new.items) }
     ensures session { (why : SessionError) → result ≢ Err (call_error.Session why) }
     ensures unchanged { B.unchanged core.old.base core.new.base }
     ensures cause { HasCause call_error.DiskFault (B.count core.old.base) (B.count core.new.base) result }
@@ -145,15 +128,13 @@ fn abort<C: TreeCall + Drop, B: NodeRead + Drop>(
     out: &mut Vec<LineReply>,
 ) -> Result<(), CallError>
     requires room { length out.old.items < vec_capacity out.old }
-    ensures line { IfOk result (λ _. (t : Tree) → StandsFor (B.contents core.old.opening) t
-        → HasDone core.old core.new out.old.items out.new.items
-        (after_line C.meaning (state_from C.meaning t core.old) (record { session = session; doing = asked.Abort }))) }
-    ensures begun { OnErr result ((t : Tree) → StandsFor (B.contents core.old.opening) t
-        → HasBegun core.old core.new out.old.items out.new.items
-        (after_line C.meaning (state_from C.meaning t core.old) (record { session = session; doing = asked.Abort }))) }
+    ensures line { IfOk result (λ _. DoesLine C.meaning B.contents (asking session asked.Abort)
+        core.old core.new out.old.items out.new.items) }
+    ensures begun { OnErr result (BeginsLine C.meaning B.contents (asking session asked.Abort)
+        core.old core.new out.old.items out.new.items) }
     ensures later { HasGrown core.old core.new out.old.items out.new.items }
-    ensures refused { IfSome (refused_by_book core.old session (asked.Abort)) (λ why. IfOk result (λ _. (core.new ≡ core.old)
-        × (out.new.items ≡ out.old.items ++ Said session false (line_answer.Session why) ∷ []))) }
+    ensures refused { IfRefused core.old session asked.Abort result (λ why _.
+        (core.new ≡ core.old) × SaysWhy session why out.old.items out.new.items) }
     ensures session { (why : SessionError) → result ≢ Err (call_error.Session why) }
     ensures unchanged { B.unchanged core.old.base core.new.base }
     ensures cause { HasCause call_error.DiskFault (B.count core.old.base) (B.count core.new.base) result }
@@ -178,15 +159,13 @@ fn attempt<C: TreeCall + Drop, B: NodeRead + Drop>(
     out: &mut Vec<LineReply>,
 ) -> Result<(), CallError>
     requires room { length out.old.items < vec_capacity out.old }
-    ensures line { IfOk result (λ _. (t : Tree) → StandsFor (B.contents core.old.opening) t
-        → HasDone core.old core.new out.old.items out.new.items
-        (after_line C.meaning (state_from C.meaning t core.old) (record { session = session; doing = asked.Call call }))) }
-    ensures begun { OnErr result ((t : Tree) → StandsFor (B.contents core.old.opening) t
-        → HasBegun core.old core.new out.old.items out.new.items
-        (after_line C.meaning (state_from C.meaning t core.old) (record { session = session; doing = asked.Call call }))) }
+    ensures line { IfOk result (λ _. DoesLine C.meaning B.contents
+        (asking session (asked.Call call)) core.old core.new out.old.items out.new.items) }
+    ensures begun { OnErr result (BeginsLine C.meaning B.contents
+        (asking session (asked.Call call)) core.old core.new out.old.items out.new.items) }
     ensures later { HasGrown core.old core.new out.old.items out.new.items }
-    ensures refused { IfSome (refused_by_book core.old session (asked.Call call)) (λ why. IfOk result (λ _. (core.new ≡ core.old)
-        × (out.new.items ≡ out.old.items ++ Said session false (line_answer.Session why) ∷ []))) }
+    ensures refused { IfRefused core.old session (asked.Call call) result (λ why _.
+        (core.new ≡ core.old) × SaysWhy session why out.old.items out.new.items) }
     ensures session { (why : SessionError) → result ≢ Err (call_error.Session why) }
     ensures unchanged { B.unchanged core.old.base core.new.base }
     ensures cause { HasCause call_error.DiskFault (B.count core.old.base) (B.count core.new.base) result }
@@ -233,16 +212,15 @@ fn prepare<C: TreeCall + Drop, B: NodeRead + Drop>(
     out: &mut Vec<LineReply>,
 ) -> Result<Option<Prepared>, CallError>
     requires room { length out.old.items < vec_capacity out.old }
-    ensures line { IfOk result (λ p. (t : Tree) → StandsFor (B.contents core.old.opening) t
-        → IsDriven C.meaning (state_from C.meaning t core.old)
-        (record { session = session; doing = asked.Commit }) core.old core.new out.old.items out.new.items p) }
+    ensures line { IfOk result (λ p. DrivesLine C.meaning B.contents (asking session asked.Commit)
+        core.old core.new out.old.items out.new.items p) }
     ensures prepared { IfOk result (λ p. IfSome p (λ prepared. (core.new ≡ record core.old { prepared = Some session }) × IsPrepared core.old prepared)) }
     ensures room { IfOk result (λ p. IfSome p (λ _. (out.new.items ≡ out.old.items) × (length out.new.items < vec_capacity out.new))) }
     ensures err { OnErr result (out.new.items ≡ out.old.items) }
     ensures same { core.new ≡ record core.old { prepared = core.new.prepared } }
     ensures later { HasGrown core.old core.new out.old.items out.new.items }
-    ensures refused { IfSome (refused_by_book core.old session asked.Commit) (λ why. IfOk result (λ p. (p ≡ None) × (core.new ≡ core.old)
-        × (out.new.items ≡ out.old.items ++ Said session false (line_answer.Session why) ∷ []))) }
+    ensures refused { IfRefused core.old session asked.Commit result (λ w p.
+        (p ≡ None) × (core.new ≡ core.old) × SaysWhy session w out.old.items out.new.items) }
     ensures memory { IfErr result (λ e. e ≡ call_error.NoMemory) }
 {
     let prepared = core.prepare(alloc, session);

@@ -1,16 +1,15 @@
 //! Laws of the definitions, for every type of calls.
-ghost use Rattle.std.specs.Prelude.{◌≡◌, ◌≢◌, ℕ, List, Some, None};
+ghost use Rattle.std.specs.Prelude.{◌≡◌, ◌≢◌, ℕ, List, None};
 ghost use Rattle.call_contract.specs.Books.{IsBookFrom, IsRun, IsSerial, last};
 ghost use Rattle.command_lines.specs.declared.line_reply.SessionRefusal.{SessionRefusal};
-ghost use Rattle.session_driver.specs.Committed.{Commits, SameCommitted};
-ghost use Rattle.session_driver.specs.Lines.{AreValid, Asked, after_line, after_lines};
+ghost use Rattle.session_driver.specs.Committed.{Commits, LineLeavesCommitted, SameCommitted};
+ghost use Rattle.session_driver.specs.Lines.{Asked, IsRefusedFor, OfValidLines, after_line, after_lines, asking};
 ghost use Rattle.session_driver.specs.Refusals.{refusal};
 ghost use Rattle.session_driver.specs.Retries.{retries};
 ghost use Rattle.session_driver.specs.Waiters.{AllStopped};
 ghost use Rattle.session_driver.specs.declared.doing.Doing.TheVariants.{Commit};
 ghost use Rattle.call_contract.specs.States.{State, start};
 ghost use Rattle.tree_model.specs.Tree.{Tree};
-ghost use Rattle.tree_model.specs.ValidTrees.{IsValidTree};
 
 use call_contract::TreeCall;
 
@@ -27,18 +26,21 @@ pub fn nobody_waits_in_vain<C: TreeCall>()
 
 /// The book of lines whose calls are valid is legal, and so serial: its committed transactions, made one after another by one thread on the opening's tree, give the replies that were given, and the committed tree.
 pub fn lines_are_serial<C: TreeCall>()
-    ensures legal { (t : Tree) (n limit : ℕ) (lines : List (Asked C)) → IsValidTree t → AreValid C.is_valid lines
-        → IsBookFrom C.is_valid C.meaning t n limit (after_lines C.meaning (start t n limit) lines).book }
-    ensures serial { (t : Tree) (n limit : ℕ) (lines : List (Asked C)) → IsValidTree t → AreValid C.is_valid lines
-        → IsSerial C.meaning t n limit (after_lines C.meaning (start t n limit) lines).book }
+    ensures legal { OfValidLines C.is_valid (λ t n limit lines.
+        IsBookFrom C.is_valid C.meaning t n limit
+        (after_lines C.meaning (start t n limit) lines).book) }
+    ensures serial { OfValidLines C.is_valid (λ t n limit lines.
+        IsSerial C.meaning t n limit
+        (after_lines C.meaning (start t n limit) lines).book) }
 {}
 
 /// Only a commit that isn't refused changes the committed tree and its number: the tree is then what the session's transaction saw, and the number the next one. The retries behind it leave both.
 pub fn only_commits_change_the_tree<C: TreeCall>()
     ensures retries { (st : State C) → SameCommitted st (retries C.meaning st).state }
-    ensures others { (st : State C) (line : Asked C) → line.doing ≢ Commit → SameCommitted st (after_line C.meaning st line).state }
-    ensures refused { (st : State C) (line : Asked C) (why : SessionRefusal) → refusal C.meaning st line.session line.doing ≡ Some why
-        → SameCommitted st (after_line C.meaning st line).state }
+    ensures others { (st : State C) (line : Asked C)
+        → line.doing ≢ Commit → LineLeavesCommitted C.meaning st line }
+    ensures refused { (st : State C) (line : Asked C) (why : SessionRefusal)
+        → IsRefusedFor C.meaning st line why → LineLeavesCommitted C.meaning st line }
     ensures commit { (st : State C) (s : ℕ) → refusal C.meaning st s Commit ≡ None
-        → Commits C.meaning st s (after_line C.meaning st (record { session = s; doing = Commit })).state }
+        → Commits C.meaning st s (after_line C.meaning st (asking s Commit)).state }
 {}

@@ -1,11 +1,10 @@
 //! The lines that are written.
 
-ghost use Rattle.std.specs.Prelude.{◌≡◌, ◌<◌, ◌++◌, ◌∷◌, [], length, vec_capacity, false, None, Some, IfOk, IfErr, OnErr};
-ghost use Rattle.command_lines.specs.declared.line_reply.LineAnswer.TheVariants.{Session};
+ghost use Rattle.std.specs.Prelude.{◌≡◌, ◌<◌, ◌++◌, ◌∷◌, [], length, vec_capacity, None, Some, IfOk, IfErr, OnErr};
 ghost use Rattle.command_lines.specs.declared.line_reply.LineReply.TheVariants.{Said};
 ghost use Rattle.command_lines.specs.declared.line_reply.SessionRefusal.{SessionRefusal};
 ghost use Rattle.tx_core.specs.declared.errors.CallError.TheVariants as call_error;
-ghost use Rattle.session_driver.specs.Driving.{shown_why};
+ghost use Rattle.session_driver.specs.Driving.{SaysWhy, shown_why};
 
 use command_lines::{LineAnswer, LineReply, SessionRefusal};
 use tx_core::{CallError, SessionError};
@@ -32,8 +31,8 @@ pub(crate) fn refuse(
     error: SessionError,
 ) -> Result<(), CallError>
     requires room { length out.old.items < vec_capacity out.old }
-    ensures ok { IfOk result (λ _. (why : SessionRefusal) × (shown_why error ≡ Some why)
-        × (out.new.items ≡ out.old.items ++ Said session false (Session why) ∷ [])) }
+    ensures ok { IfOk result (λ _. (why : SessionRefusal)
+        × (shown_why error ≡ Some why) × SaysWhy session why out.old.items out.new.items) }
     ensures err { OnErr result ((shown_why error ≡ None) × (out.new.items ≡ out.old.items)) }
     ensures memory { IfErr result (λ e. e ≡ call_error.NoMemory) }
 {

@@ -1,11 +1,9 @@
 //! The retries of the calls that wait, after a transaction has ended.
 
-ghost use Rattle.std.specs.Prelude.{◌≡◌, ◌≢◌, ◌≤◌, ◌<◌, ℕ, [], length, Err, IfOk, OnErr, IsTrue, false};
+ghost use Rattle.std.specs.Prelude.{◌≡◌, ◌≢◌, ◌≤◌, ◌<◌, [], length, Err, IfOk, OnErr, IsTrue, false};
 ghost use Rattle.outside_traits.specs.Faults.{HasCause};
-ghost use Rattle.tree_model.specs.Tree.{Tree};
-ghost use Rattle.node_seq.specs.Trees.{StandsFor};
 ghost use Rattle.call_contract.specs.Sessions.{queue_after};
-ghost use Rattle.tx_core.specs.Cores.{state_from};
+ghost use Rattle.tx_core.specs.Cores.{InState};
 ghost use Rattle.tx_core.specs.Queues.{times};
 ghost use Rattle.tx_core.specs.declared.errors.SessionError.{SessionError};
 ghost use Rattle.tx_core.specs.declared.errors.CallError.TheVariants as call_error;
@@ -26,10 +24,10 @@ pub(crate) fn retry_all<C: TreeCall + Drop, B: NodeRead + Drop>(
     core: &mut Core<C, B>,
     out: &mut Vec<LineReply>,
 ) -> Result<(), CallError>
-    ensures ok { IfOk result (λ _. (t : Tree) → StandsFor (B.contents core.old.opening) t
-        → HasDone core.old core.new out.old.items out.new.items (retries C.meaning (state_from C.meaning t core.old))) }
-    ensures err { OnErr result ((t : Tree) → StandsFor (B.contents core.old.opening) t
-        → HasBegun core.old core.new out.old.items out.new.items (retries C.meaning (state_from C.meaning t core.old))) }
+    ensures ok { IfOk result (λ _. InState C.meaning B.contents core.old
+        (λ st. HasDone core.old core.new out.old.items out.new.items (retries C.meaning st))) }
+    ensures err { OnErr result (InState C.meaning B.contents core.old
+        (λ st. HasBegun core.old core.new out.old.items out.new.items (retries C.meaning st))) }
     ensures later { HasGrown core.old core.new out.old.items out.new.items }
     ensures session { (why : SessionError) → result ≢ Err (call_error.Session why) }
     ensures unchanged { B.unchanged core.old.base core.new.base }

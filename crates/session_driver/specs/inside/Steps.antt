@@ -11,11 +11,16 @@ use Rattle.call_contract.specs.Steps.{step}
 use Rattle.call_contract.specs.declared.events.Event.TheVariants.{Retry}
 use Rattle.call_contract.specs.declared.events.Noted.{Noted}
 use Rattle.command_lines.specs.declared.line_reply.LineReply.{LineReply}
-use Rattle.tx_core.specs.Cores.{CoreView, state_from, with_entry}
+use Rattle.tx_core.specs.Cores.{CoreView, InState, state_from, with_entry}
 use Rattle.tx_core.specs.Queues.{times}
-use Rattle.session_driver.specs.Driving.{with_entries, IsFailureAtMost, HasGrown, HasBegun}
+use Rattle.session_driver.specs.Driving.{with_entries, IsFailureAtMost, HasGrown, HasDone, HasBegun}
+use Rattle.session_driver.specs.Lines.{Asked, after_line}
 use Rattle.session_driver.specs.Progress.{Progress}
 use Rattle.session_driver.specs.Retries.{if_retried, round, rounds, retries}
+
+-- all that a line leads to from the state that the core's book has led to is done
+abbrev pub DoesLine : {C B : Type 0} → CallMeaning C → (B → Option Entries) → Asked C → CoreView C B → CoreView C B → List LineReply → List LineReply → Type 0
+DoesLine m contents line old new before after = InState m contents old (λ st. HasDone old new before after (after_line m st line))
 
 -- all of the first but the second was done
 pub record Leaves {C B : Type 0} (old new : CoreView C B) (before after : List LineReply) (all left : Progress C) : Type 0 where
