@@ -1,5 +1,7 @@
 -- What one thing that a session is asked leaves of the core and the journal.
 use Rattle.std.specs.Prelude.{◌≡◌, ◌≢◌, ◌≤◌, ◌++◌, ℕ, Bool, List, Option, IsTrue}
+use Rattle.std.specs.declared.alloc.Global.{Global}
+use Rattle.std.specs.declared.vec.Vec.{Vec}
 use Rattle.outside_traits.specs.Moments.{History, LeavesOnly}
 use Rattle.tree_model.specs.Entries.{Entries}
 use Rattle.journal.specs.Groups.{is_next}
@@ -11,12 +13,12 @@ use Rattle.call_contract.specs.Sessions.{commits_in}
 use Rattle.call_contract.specs.States.{State}
 use Rattle.command_lines.specs.declared.line_reply.LineReply.{LineReply}
 use Rattle.tx_core.specs.Cores.{CoreView, next_number}
-use Rattle.session_driver.specs.Lines.{after_line}
+use Rattle.session_driver.specs.Lines.{after_line, asking}
 use Rattle.session_driver.specs.Progress.{Progress}
 use Rattle.session_driver.specs.declared.doing.Doing.{Doing}
 use Rattle.session_driver.specs.declared.doing.Doing.TheVariants.{Commit}
 use Rattle.durable_sessions.specs.Durable.{HoldsAll, HoldsEither}
-use Rattle.durable_sessions.specs.Standing.{Stands}
+use Rattle.durable_sessions.specs.Standing.{FromEach, Stands}
 
 -- ---- before it
 
@@ -29,7 +31,11 @@ pub record TakesNext {C B : Type 0} (core : CoreView C B) (journal : JournalView
 
 -- what a session that is asked this does from a state
 abbrev pub asked_from : {C : Type 0} → CallMeaning C → State C → ℕ → Doing C → Progress C
-asked_from m s session doing = after_line m s (record { session = session; doing = doing })
+asked_from m s session doing = after_line m s (asking session doing)
+
+-- a fact of each state that the core stands in, and of what a session that is asked this does from it
+abbrev pub OfAsked : {C B : Type 0} → CallMeaning C → (B → Option Entries) → CoreView C B → ℕ → Doing C → (State C → Progress C → Type 0) → Type 0
+OfAsked m contents core session doing Q = FromEach m contents core (λ s. Q s (asked_from m s session doing))
 
 -- from the one state it has led to the other, in which the core is then; beside the pages beside which the journal held the one it holds the other
 pub record LeadsTo {C B : Type 0} (m : CallMeaning C) (contents : B → Option Entries) (is_known : Bool) (old : History) (core : CoreView C B) (new : History) (s t : State C) : Type 0 where
@@ -55,6 +61,12 @@ pub record DoesAsked {C B : Type 0} (m : CallMeaning C) (contents : B → Option
   pub state : LeadsTo m contents is_known journal.history new journal_now.history s (asked_from m s session doing).state
   pub replies : after ≡ before ++ (asked_from m s session doing).lines
   pub book : new.book ≡ old.book ++ (asked_from m s session doing).book
+
+-- and so it is from each state that the core stands in
+abbrev pub DoesAsAsked : {C B : Type 0} → CallMeaning C → (B → Option Entries) → Bool → ℕ → Doing C
+    → CoreView C B → CoreView C B → JournalView → JournalView → Vec LineReply Global → Vec LineReply Global → Type 0
+DoesAsAsked m contents is_known session doing old new journal journal_now before after =
+    FromEach m contents old (λ s. DoesAsked m contents is_known session doing old new journal journal_now before.items after.items s)
 
 -- the core has gone on by one commit at most, and the journal takes the next one
 pub record GoesOnByOne {C B : Type 0} (old new : CoreView C B) (journal : JournalView) : Type 0 where

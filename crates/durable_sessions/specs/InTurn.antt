@@ -1,19 +1,22 @@
 -- What asking sessions in turn leaves of the core and the journal, up to the first reply by which there is a reason to stop.
 use Rattle.std.specs.Prelude.{◌≡◌, ◌≢◌, ◌≤◌, ℕ, Bool, List, [], ◌++◌, length, map, Option, None, Some, Result, Ok, Err, IsTrue}
 use Rattle.std.specs.List.{AllByRecursion}
+use Rattle.std.specs.declared.vec.Vec.{Vec}
 use Rattle.outside_traits.specs.CrashImages.{IsImage}
 use Rattle.outside_traits.specs.Moments.{History, LeavesOnly}
 use Rattle.tree_model.specs.Entries.{Entries}
+use Rattle.journal.specs.Views.{JournalView}
 use Rattle.call_contract.specs.Calls.{CallMeaning}
 use Rattle.call_contract.specs.States.{State}
 use Rattle.command_lines.specs.declared.line_reply.LineReply.{LineReply}
-use Rattle.session_driver.specs.Lines.{Asked, AreValid, after_lines}
+use Rattle.session_driver.specs.Lines.{Asked, AreValid, after_lines, asking}
 use Rattle.session_driver.specs.declared.doing.Doing.{Doing}
 use Rattle.session_driver.specs.declared.doing.Doing.TheVariants.{Commit}
 use Rattle.tx_core.specs.Cores.{CoreView}
 use Rattle.durable_sessions.specs.Asked.{LeadsTo}
 use Rattle.durable_sessions.specs.Durable.{HoldState, HoldsAll, HoldsEither}
-use Rattle.durable_sessions.specs.Reasons.{first_reason}
+use Rattle.durable_sessions.specs.Reasons.{first_reason, reason_of}
+use Rattle.durable_sessions.specs.Standing.{FromEach}
 use Rattle.durable_sessions.specs.declared.halt.Halt.{Halt}
 use Rattle.durable_sessions.specs.declared.halt.Halt.TheVariants as halt
 use Rattle.durable_sessions.specs.declared.in_turn.Stop.{Stop}
@@ -24,7 +27,7 @@ use Rattle.durable_sessions.specs.declared.reasons.Reason.{Reason}
 
 -- a session is asked these
 abbrev pub all_asks : {C : Type 0} → ℕ → List (Doing C) → List (Asked C)
-all_asks session doings = map (λ doing. record { session = session; doing = doing }) doings
+all_asks session doings = map (λ doing. asking session doing) doings
 
 -- no commit is asked for
 abbrev pub AskNoCommit : {C : Type 0} → List (Asked C) → Type 0
@@ -104,3 +107,10 @@ abbrev pub AskedInTurn : {C B T : Type 0} → (C → Type 0) → CallMeaning C �
     → History → CoreView C B → History → List LineReply → List LineReply → Result T Stop → Type 0
 AskedInTurn is_valid m contents by is_known s all old core new before now (Ok done) = AllAnswered is_valid m contents by is_known s all old core new before now
 AskedInTurn is_valid m contents by is_known s all old core new before now (Err stop) = Stopped is_valid m by is_known s all old new stop
+
+-- a session is asked these from each state that the core stands in, and a refusal is a reason to stop
+abbrev pub AsksInTurn : {C B T Z Y : Type 0} → (C → Type 0) → CallMeaning C → (B → Option Entries) → Bool → ℕ → Vec (Doing C) Z
+    → CoreView C B → CoreView C B → JournalView → JournalView → Vec LineReply Y → Vec LineReply Y → Result T Stop → Type 0
+AsksInTurn is_valid m contents is_known session doings old new journal journal_now before now result =
+    FromEach m contents old (λ s. AskedInTurn is_valid m contents reason_of is_known s (all_asks session doings.items)
+    journal.history new journal_now.history before.items now.items result)

@@ -12,3 +12,7 @@ pub record Stands {C B : Type 0} (m : CallMeaning C) (contents : B → Option En
   pub tree : Tree
   pub opened : StandsFor (contents core.opening) tree
   pub state : state_from m tree core ≡ s
+
+-- a fact of each state that the core stands in
+abbrev pub FromEach : {C B : Type 0} → CallMeaning C → (B → Option Entries) → CoreView C B → (State C → Type 0) → Type 0
+FromEach {C} m contents core Q = (s : State C) → Stands m contents core s → Q s

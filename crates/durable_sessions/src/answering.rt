@@ -1,12 +1,10 @@
 // What one session is asked, over a core and the journal of its commits.
 ghost use Rattle.std.specs.Prelude.{◌≡◌, ◌≢◌, ◌<◌, ◌++◌, length, Some, Err, OnOk, OnErr, vec_capacity};
-ghost use Rattle.call_contract.specs.States.{State};
 ghost use Rattle.script_runs.specs.Counts.{DisksCountedWhere};
 ghost use Rattle.session_driver.specs.Driving.{HasBegun};
 ghost use Rattle.session_driver.specs.declared.doing.Doing.TheVariants.{Commit};
-ghost use Rattle.durable_sessions.specs.Asked.{asked_from, counts_of, DoesAsked, GoesOnByOne, GrowsByOne, IsDurableFirst, LeadsTo, LeavesEither, TakesNext};
-ghost use Rattle.durable_sessions.specs.Standing.{Stands};
-ghost use Rattle.durable_sessions.specs.inside.Commits.{IsDue};
+ghost use Rattle.durable_sessions.specs.Asked.{counts_of, DoesAsAsked, GoesOnByOne, GrowsByOne, IsDurableFirst, LeavesEither, OfAsked, TakesNext};
+ghost use Rattle.durable_sessions.specs.inside.Commits.{CommitLeads, IsDue};
 ghost use Rattle.durable_sessions.specs.inside.Halts.{halt_of};
 
 use crate::base::SessionBase;
@@ -30,14 +28,14 @@ pub fn answer<C: TreeCall + Drop, B: SessionBase, J: Disk>(
     replies: &mut Vec<LineReply>,
 ) -> Result<(), Halt>
     requires takes { TakesNext core.old journal.old }
-    ensures does { OnOk result ((s : State C) → Stands C.meaning B.contents core.old s
-        → DoesAsked C.meaning B.contents J.is_known session doing core.old core.new journal.old journal.new replies.old.items replies.new.items s) }
+    ensures does { OnOk result (DoesAsAsked C.meaning B.contents J.is_known session doing core.old core.new
+        journal.old journal.new replies.old replies.new) }
     ensures goes_on { OnOk result (GoesOnByOne core.old core.new journal.new) }
-    ensures any_moment { (s : State C) → Stands C.meaning B.contents core.old s
-        → LeavesEither J.is_known journal.old.history journal.new.history s (asked_from C.meaning s session doing).state }
+    ensures any_moment { OfAsked C.meaning B.contents core.old session doing
+        (λ s p. LeavesEither J.is_known journal.old.history journal.new.history s p.state) }
     ensures durable_first { IsDurableFirst doing core.old core.new journal.old journal.new }
-    ensures begun { OnErr result ((s : State C) → Stands C.meaning B.contents core.old s
-        → HasBegun core.old core.new replies.old.items replies.new.items (asked_from C.meaning s session doing)) }
+    ensures begun { OnErr result (OfAsked C.meaning B.contents core.old session doing
+        (λ s p. HasBegun core.old core.new replies.old.items replies.new.items p)) }
     ensures base { B.stays core.old.base core.new.base }
     ensures counts { DisksCountedWhere (result ≡ Err Halt.DiskFault) (counts_of B.count core.old journal.old) (counts_of B.count core.new journal.new) }
 {
@@ -68,19 +66,19 @@ fn commit<C: TreeCall + Drop, B: SessionBase, J: Disk>(
     requires prepared { core.old.prepared ≡ Some session }
     requires due { IsDue C.meaning B.contents core.old session prepared }
     requires room { length replies.old.items < vec_capacity replies.old }
-    ensures state { OnOk result ((s : State C) → Stands C.meaning B.contents core.old s
-        → LeadsTo C.meaning B.contents J.is_known journal.old.history core.new journal.new.history s (asked_from C.meaning s session Commit).state) }
-    ensures replies { OnOk result ((s : State C) → Stands C.meaning B.contents core.old s
-        → replies.new.items ≡ replies.old.items ++ (asked_from C.meaning s session Commit).lines) }
+    ensures state { OnOk result (CommitLeads C.meaning B.contents J.is_known session
+        core.old core.new journal.old.history journal.new.history) }
+    ensures replies { OnOk result (OfAsked C.meaning B.contents core.old session Commit
+        (λ s p. replies.new.items ≡ replies.old.items ++ p.lines)) }
     ensures takes { OnOk result (TakesNext core.new journal.new) }
-    ensures any_moment { (s : State C) → Stands C.meaning B.contents core.old s
-        → LeavesEither J.is_known journal.old.history journal.new.history s (asked_from C.meaning s session Commit).state }
+    ensures any_moment { OfAsked C.meaning B.contents core.old session Commit
+        (λ s p. LeavesEither J.is_known journal.old.history journal.new.history s p.state) }
     ensures unmade { journal.new.faults ≢ journal.old.faults → core.new ≡ core.old }
-    ensures begun { OnErr result ((s : State C) → Stands C.meaning B.contents core.old s
-        → HasBegun core.old core.new replies.old.items replies.new.items (asked_from C.meaning s session Commit)) }
+    ensures begun { OnErr result (OfAsked C.meaning B.contents core.old session Commit
+        (λ s p. HasBegun core.old core.new replies.old.items replies.new.items p)) }
     ensures grown { OnOk result (GrowsByOne core.old core.new) }
-    ensures book { OnOk result ((s : State C) → Stands C.meaning B.contents core.old s
-        → core.new.book ≡ core.old.book ++ (asked_from C.meaning s session Commit).book) }
+    ensures book { OnOk result (OfAsked C.meaning B.contents core.old session Commit
+        (λ s p. core.new.book ≡ core.old.book ++ p.book)) }
     ensures base { B.stays core.old.base core.new.base }
     ensures counts { DisksCountedWhere (result ≡ Err Halt.DiskFault) (counts_of B.count core.old journal.old) (counts_of B.count core.new journal.new) }
 {

@@ -1,12 +1,10 @@
 // What one session is asked in turn, up to the first that is refused.
 ghost use Rattle.std.specs.Prelude.{◌≡◌, ◌∷◌, [], None, Err, IfSome, OnOk};
-ghost use Rattle.call_contract.specs.States.{State};
 ghost use Rattle.script_runs.specs.Counts.{DisksCountedWhere};
 ghost use Rattle.session_driver.specs.Lines.{AreValid};
 ghost use Rattle.durable_sessions.specs.Asked.{counts_of, TakesNext};
-ghost use Rattle.durable_sessions.specs.InTurn.{all_asks, AskedInTurn};
-ghost use Rattle.durable_sessions.specs.Reasons.{reason_in, reason_of};
-ghost use Rattle.durable_sessions.specs.Standing.{Stands};
+ghost use Rattle.durable_sessions.specs.InTurn.{all_asks, AsksInTurn};
+ghost use Rattle.durable_sessions.specs.Reasons.{reason_in};
 ghost use Rattle.durable_sessions.specs.declared.in_turn.Stop.TheVariants.{DiskFault as Fails, NoMemory as WantsMemory};
 
 use crate::answering::answer;
@@ -65,9 +63,8 @@ pub fn ask_in_turn<C: TreeCall + Drop, B: SessionBase, J: Disk>(
     requires takes { TakesNext core.old journal.old }
     requires valid { AreValid C.is_valid (all_asks session doings.items) }
     requires unrefused { reason_in replies.old.items ≡ None }
-    ensures asked { (s : State C) → Stands C.meaning B.contents core.old s
-        → AskedInTurn C.is_valid C.meaning B.contents reason_of J.is_known s (all_asks session doings.items)
-        journal.old.history core.new journal.new.history replies.old.items replies.new.items result }
+    ensures asked { AsksInTurn C.is_valid C.meaning B.contents J.is_known session doings
+        core.old core.new journal.old journal.new replies.old replies.new result }
     ensures takes { OnOk result (TakesNext core.new journal.new) }
     ensures unrefused { OnOk result (reason_in replies.new.items ≡ None) }
     ensures base { B.stays core.old.base core.new.base }
