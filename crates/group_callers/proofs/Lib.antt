@@ -1,4 +1,3 @@
 pub mod Members
-mod Opened
 pub mod Joined
 mod Sent

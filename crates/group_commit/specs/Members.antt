@@ -9,7 +9,8 @@ use Rattle.journal.specs.Views.{JournalView}
 use Rattle.turn_lock.specs.Turns.{GoesOn, having_numbers, having_seen as having_marks, longer, merged, only_number, PassView}
 use Rattle.shared_store.specs.Calls.{HasCommitted}
 use Rattle.shared_store.specs.Lists.{book_of, number_of}
-use Rattle.shared_store.specs.Sessions.{HasDone, having_seen, SessionView}
+use Rattle.shared_store.specs.Sessions.{HasDone, having_seen, joined_session, session_without, SessionView}
+use Rattle.shared_store.specs.declared.desk.Entry.{Entry}
 use Rattle.shared_store.specs.declared.errors.StoreError.{StoreError}
 use Rattle.shared_store.specs.declared.errors.StoreError.TheVariants.{DiskFault, Halted}
 use Rattle.group_commit.specs.Marks.{AreDurable, durable_in, failure_in, last_commit, marked_by, opening_in}
@@ -44,7 +45,7 @@ module _ {C B : Type 0} where
   -- a number was given away
   abbrev pub without_number : ℕ → MemberView C B → MemberView C B
   without_number n v = record {
-    session = record { lock = v.session.lock; seen = v.session.seen; has = slice_set v.session.has n false; under = v.session.under };
+    session = session_without n v.session;
     pass = having_numbers (slice_set v.pass.has n false) v.pass;
   }
 
@@ -65,7 +66,7 @@ module _ {C B : Type 0} where
   -- and has the numbers of both
   abbrev pub joined : MemberView C B → MemberView C B → MemberView C B
   joined v w = record {
-    session = record { lock = v.session.lock; seen = longer v.session.seen w.session.seen; has = merged v.session.has w.session.has; under = v.session.under };
+    session = joined_session v.session w.session;
     pass = having_numbers (merged v.pass.has w.pass.has) (having_marks (longer v.pass.seen w.pass.seen) v.pass);
   }
 
@@ -75,6 +76,10 @@ module _ {C B : Type 0} where
     pub pass : GoesOn marked_by v.pass.has v.pass.seen w.pass.seen
 
   -- ---- commits
+
+  -- The member's session found some list, did this to it under its number, and has seen what came of it.
+  abbrev pub HasActed : MemberView C B → MemberView C B → (List (Entry C B) → ℕ → List (Entry C B) → Type 0) → Type 0
+  HasActed v w does = HasDone v.session w.session (λ before after. does before v.session.under after)
 
   -- a fault was counted since the group commit was made
   abbrev pub IsLater : Marks C B → ℕ → Type 0

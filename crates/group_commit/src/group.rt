@@ -1,9 +1,9 @@
 //! A store with a journal behind a turn of its own.
-ghost use Rattle.std.specs.Prelude.{◌≡◌, ◌≢◌, ◌<◌, ℕ, [], ◌∷◌, false, true, max, None, IfOk, IfErr, slice_set};
+ghost use Rattle.std.specs.Prelude.{◌≡◌, ◌≢◌, ◌<◌, ℕ, [], ◌∷◌, true, max, None, IfOk, IfErr};
 ghost use Rattle.call_contract.specs.Sessions.{live_in};
 ghost use Rattle.turn_lock.specs.Turns.{first_pass, HasAll, has_number};
 ghost use Rattle.shared_store.specs.Lists.{book_of, SessionsFit};
-ghost use Rattle.shared_store.specs.Sessions.{IsOpenedAs};
+ghost use Rattle.shared_store.specs.Sessions.{IsOpenedAs, session_without};
 ghost use Rattle.group_commit.specs.Asked.{IsDrained, IsWholeSession, TakesNextOf};
 ghost use Rattle.group_commit.specs.Closings.{IsAsTold};
 ghost use Rattle.group_commit.specs.Members.{GoesOnIn, HasCommittedAll, HasMadeDurable, IsOf, joined, met, only_with, without_number};
@@ -67,8 +67,7 @@ impl<C: TreeCall + Drop, B: NodeRead + Drop, J: Disk> GroupCommit<C, B, J> {
         requires takes { TakesNextOf session.seen journal }
 
         ensures store { IfOk result (λ r. r.0.store ≡ store) }
-        ensures session { IfOk result (λ r. r.1.session
-            ≡ record { lock = session.lock; seen = session.seen; has = slice_set session.has 0 false; under = session.under }) }
+        ensures session { IfOk result (λ r. r.1.session ≡ session_without 0 session) }
         ensures pass { IfOk result (λ r. r.1.pass ≡ first_pass r.0.lock (mark.Opening session journal ∷ [])) }
         ensures err { IfErr result (λ fault. (fault.store ≡ store) × (fault.session ≡ session) × (fault.journal ≡ journal)) }
     {

@@ -4,9 +4,9 @@ ghost use Rattle.call_contract.specs.Sessions.{live_in};
 ghost use Rattle.shared_store.specs.Calls.{HasAborted, HasBegun, HasTried, HasTriedAgain};
 ghost use Rattle.shared_store.specs.Lists.{book_of, is_opened};
 ghost use Rattle.turn_lock.specs.Turns.{has_number};
-ghost use Rattle.shared_store.specs.Sessions.{HasDone};
 ghost use Rattle.shared_store.specs.Waits.{HasCalled};
 ghost use Rattle.group_commit.specs.Marks.{durable_in};
+ghost use Rattle.group_commit.specs.Members.{HasActed};
 
 use crate::scribe::Scribe;
 use call_contract::{Answer, TreeCall};
@@ -54,7 +54,8 @@ impl<C: TreeCall + Drop, B: NodeRead + Drop, J: Disk> Member<C, B, J> {
     ) -> Result<u32, StoreError>
         requires store { self.old.session.lock ≡ store.now }
         requires number { self.old.session.under ≢ 0 }
-        ensures done { HasDone self.old.session self.new.session (λ before after. HasBegun before self.old.session.under result after) }
+        ensures done { HasActed self.old self.new
+            (λ before under after. HasBegun before under result after) }
         ensures pass { self.new.pass ≡ self.old.pass }
     {
         self.session.begin(rt, alloc, store)
@@ -69,7 +70,8 @@ impl<C: TreeCall + Drop, B: NodeRead + Drop, J: Disk> Member<C, B, J> {
         call: C,
     ) -> Result<Answer, StoreError>
         requires { self.old.session.lock ≡ store.now }
-        ensures done { HasDone self.old.session self.new.session (λ before after. HasTried B.count before self.old.session.under call result after) }
+        ensures done { HasActed self.old self.new
+            (λ before under after. HasTried B.count before under call result after) }
         ensures pass { self.new.pass ≡ self.old.pass }
     {
         self.session.try_call(rt, alloc, store, call)
@@ -83,8 +85,9 @@ impl<C: TreeCall + Drop, B: NodeRead + Drop, J: Disk> Member<C, B, J> {
         store: &Store<C, B>,
     ) -> Result<Option<Answer>, StoreError>
         requires { self.old.session.lock ≡ store.now }
-        ensures done { HasDone self.old.session self.new.session
-            (λ before after. HasTriedAgain B.count B.contents C.meaning before self.old.session.under result after) }
+        ensures done { HasActed self.old self.new
+            (λ before under after. HasTriedAgain B.count B.contents C.meaning
+            before under result after) }
         ensures pass { self.new.pass ≡ self.old.pass }
     {
         self.session.try_again(rt, alloc, store)
@@ -99,8 +102,9 @@ impl<C: TreeCall + Drop, B: NodeRead + Drop, J: Disk> Member<C, B, J> {
         call: C,
     ) -> Result<Ended, StoreError>
         requires { self.old.session.lock ≡ store.now }
-        ensures done { HasDone self.old.session self.new.session
-            (λ before after. HasCalled B.count B.contents C.meaning self.old.session.has before self.old.session.under call result after) }
+        ensures done { HasActed self.old self.new
+            (λ before under after. HasCalled B.count B.contents C.meaning
+            self.old.session.has before under call result after) }
         ensures pass { self.new.pass ≡ self.old.pass }
     {
         self.session.call(rt, alloc, store, call)
@@ -109,7 +113,8 @@ impl<C: TreeCall + Drop, B: NodeRead + Drop, J: Disk> Member<C, B, J> {
     /// Ends the transaction, a waiting call with it. The session then has none, whatever the answer. It takes no memory.
     pub fn abort<R: Wait>(&mut self, rt: &R, store: &Store<C, B>) -> Result<(), StoreError>
         requires { self.old.session.lock ≡ store.now }
-        ensures done { HasDone self.old.session self.new.session (λ before after. HasAborted before self.old.session.under result after) }
+        ensures done { HasActed self.old self.new
+            (λ before under after. HasAborted before under result after) }
         ensures ended { live_in (book_of self.new.session.seen) self.new.session.under ≡ None }
         ensures pass { self.new.pass ≡ self.old.pass }
     {

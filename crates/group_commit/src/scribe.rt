@@ -8,8 +8,7 @@ ghost use Rattle.journal.specs.Views.{TakesGroups};
 ghost use Rattle.shared_store.specs.Lists.{book_of, drained_in, is_opened};
 ghost use Rattle.group_commit.specs.Marks.{durable_in, last_commit};
 ghost use Rattle.group_commit.specs.Members.{IsAnswered, IsMadeDurable};
-ghost use Rattle.group_commit.specs.Written.{LeavesWritten};
-ghost use Rattle.group_commit.specs.inside.Scribes.{began_after, IsScribe, marks_in, scribe_of};
+ghost use Rattle.group_commit.specs.inside.Scribes.{began_after, IsScribe, KeepsWritten, marks_in, scribe_of};
 
 use crate::gathering::gather;
 use crate::mark::{Failed, Mark};
@@ -133,8 +132,7 @@ impl<C: TreeCall + Drop, B: NodeRead + Drop, J: Disk> Scribe<C, B, J> {
         ensures session { session.new ≡ session.old }
         ensures opening { (self.new.session ≡ self.old.session) × (self.new.opening ≡ self.old.opening) }
         ensures answer { IsAnswered (marks_in self.old) session.old.under number result (marks_in self.new) }
-        ensures moments { IsTrue J.is_known → LeavesWritten self.old.opening (began_after self.old) self.old.written
-            (last_commit self.new.drainer.seen) self.old.journal.history self.new.journal.history }
+        ensures moments { IsTrue J.is_known → KeepsWritten self.old self.new }
     {
         // Called for its contract: between two calls of the journal all is synced.
         self.journal.is_usable();
@@ -157,8 +155,7 @@ impl<C: TreeCall + Drop, B: NodeRead + Drop, J: Disk> Scribe<C, B, J> {
         ensures session { session.new ≡ session.old }
         ensures opening { (self.new.session ≡ self.old.session) × (self.new.opening ≡ self.old.opening) }
         ensures answer { IsMadeDurable (marks_in self.old) session.old.under (last_commit session.old.seen) result (marks_in self.new) }
-        ensures moments { IsTrue J.is_known → LeavesWritten self.old.opening (began_after self.old) self.old.written
-            (last_commit self.new.drainer.seen) self.old.journal.history self.new.journal.history }
+        ensures moments { IsTrue J.is_known → KeepsWritten self.old self.new }
     {
         // Called for its contract: between two calls of the journal all is synced.
         self.journal.is_usable();
@@ -183,8 +180,7 @@ impl<C: TreeCall + Drop, B: NodeRead + Drop, J: Disk> Scribe<C, B, J> {
         ensures session { session.new ≡ session.old }
         ensures opening { (self.new.session ≡ self.old.session) × (self.new.opening ≡ self.old.opening) }
         ensures answer { IsMadeDurable (marks_in self.old) session.old.under (last_commit session.old.seen) result (marks_in self.new) }
-        ensures moments { IsTrue J.is_known → LeavesWritten self.old.opening (began_after self.old) self.old.written
-            (last_commit self.new.drainer.seen) self.old.journal.history self.new.journal.history }
+        ensures moments { IsTrue J.is_known → KeepsWritten self.old self.new }
     {
         // Called for its contract: between two calls of the journal all is synced.
         self.journal.is_usable();

@@ -1,10 +1,9 @@
 //! Members in threads of their own, over a journal whose disk fails.
 ghost use Rattle.std.specs.Thread.{IsSync};
-ghost use Rattle.std.specs.Prelude.{◌≡◌, ◌≢◌, ◌<◌, ◌≤◌, ℕ, true};
-ghost use Rattle.turn_lock.specs.Turns.{has_number};
+ghost use Rattle.std.specs.Prelude.{◌≡◌, ◌≢◌, ◌<◌};
 ghost use Rattle.group_commit.specs.Members.{IsOf};
 ghost use Rattle.group_callers.specs.Members.{HasSeenMore};
-ghost use Rattle.group_tests.specs.Members.{HasComeBack};
+ghost use Rattle.group_tests.specs.Members.{HasComeBack, HasUpTo};
 
 use crate::stores::{
     Group, NoGroup, One, commit_next, end_and_take_back, group_of, journal_on, numbers_in,
@@ -96,7 +95,7 @@ fn spread<R: Threads + Wait + Sync>(
     commits: u32,
 ) -> Done
     requires group { IsOf group.now member × (member.session.under ≡ 64) × (threads < 64) }
-    requires numbers { (n : ℕ) → 0 < n → n ≤ threads → has_number member.session.has n ≡ true }
+    requires numbers { HasUpTo threads member }
     ensures { HasComeBack member result.member }
 {
     if threads == 0 {
@@ -111,7 +110,7 @@ fn spread<R: Threads + Wait + Sync>(
         rt,
         move || -> Done
             requires { IsSync R.row × IsOf group.now member × (member.session.under ≡ 64) × (fewer < 64)
-                × ((n : ℕ) → 0 < n → n ≤ fewer → has_number member.session.has n ≡ true) }
+                × HasUpTo fewer member }
             ensures { HasComeBack member result.member }
         { spread(rt, alloc, group, member, fewer, commits) },
         move || -> Done

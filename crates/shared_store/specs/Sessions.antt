@@ -1,7 +1,7 @@
 -- A session as contracts see it, and what its calls leave.
-use Rattle.std.specs.Prelude.{◌≡◌, ℕ, Bool, List, Some, IfSome}
+use Rattle.std.specs.Prelude.{◌≡◌, ℕ, Bool, false, slice_set, List, Some, IfSome}
 use Rattle.atomic_table.specs.Seated.{TableId}
-use Rattle.turn_lock.specs.Turns.{GoesOn}
+use Rattle.turn_lock.specs.Turns.{GoesOn, longer, merged}
 use Rattle.tx_core.specs.Cores.{CoreView}
 use Rattle.shared_store.specs.Lists.{base_in, limit_in, number_in, number_of, opening_in}
 use Rattle.shared_store.specs.declared.desk.Entry.{Entry}
@@ -17,6 +17,14 @@ module _ {C B : Type 0} where
   -- with this seen
   abbrev pub having_seen : List (Entry C B) → SessionView C B → SessionView C B
   having_seen seen p = record { lock = p.lock; seen = seen; has = p.has; under = p.under }
+
+  -- with this number given away
+  abbrev pub session_without : ℕ → SessionView C B → SessionView C B
+  session_without n p = record { lock = p.lock; seen = p.seen; has = slice_set p.has n false; under = p.under }
+
+  -- with what it or another has seen, and the numbers of both
+  abbrev pub joined_session : SessionView C B → SessionView C B → SessionView C B
+  joined_session p q = record { lock = p.lock; seen = longer p.seen q.seen; has = merged p.has q.has; under = p.under }
 
   -- The call found some list, which goes on from what the session had seen with no entry of its numbers, did this to it, and the session has seen what came of it.
   pub record HasDone (p q : SessionView C B) (does : List (Entry C B) → List (Entry C B) → Type 0) : Type 0 where

@@ -1,15 +1,15 @@
 //! The store and its sessions.
 
-ghost use Rattle.std.specs.Prelude.{◌≡◌, ◌≢◌, ◌<◌, [], false, true, None, IfOk, IfErr, OnOk, slice_set};
+ghost use Rattle.std.specs.Prelude.{◌≡◌, ◌≢◌, ◌<◌, [], true, None, IfOk, IfErr, OnOk};
 ghost use Rattle.call_contract.specs.Sessions.{live_in};
 ghost use Rattle.tx_core.specs.Cores.{waits_in};
-ghost use Rattle.turn_lock.specs.Turns.{all_numbers, GoesOn, HasAll, has_number, longer, merged, only_number};
+ghost use Rattle.turn_lock.specs.Turns.{all_numbers, GoesOn, HasAll, has_number, longer, only_number};
 ghost use Rattle.tree_model.specs.Tree.{Tree};
 ghost use Rattle.shared_store.specs.Bodies.{HasBodies, HaveLastBodies};
 ghost use Rattle.shared_store.specs.Calls.{HasAborted, HasBegun, HasCommitted, HasDrained, HasTried, HasTriedAgain};
 ghost use Rattle.shared_store.specs.Waits.{HasCalled, HasCalledAgain};
 ghost use Rattle.shared_store.specs.Lists.{book_of, drained_in, is_opened, list_of, number_of, OpensFrom, SessionsFit};
-ghost use Rattle.shared_store.specs.Sessions.{HasDone, having_seen, IsOpenedAs};
+ghost use Rattle.shared_store.specs.Sessions.{HasDone, having_seen, IsOpenedAs, joined_session, session_without};
 
 use crate::desk::Desk;
 use crate::ended::{Ended, first_end, later_end};
@@ -231,7 +231,7 @@ impl<C: TreeCall + Drop, B: NodeRead + Drop> Session<C, B> {
     pub fn split(&mut self, store: &Store<C, B>, number: u32) -> Session<C, B>
         requires store { self.old.lock ≡ store.now }
         requires number { (has_number self.old.has number ≡ true) × (self.old.under ≢ number) }
-        ensures kept { self.new ≡ record { lock = self.old.lock; seen = self.old.seen; has = slice_set self.old.has number false; under = self.old.under } }
+        ensures kept { self.new ≡ session_without number self.old }
         ensures given { result ≡ record { lock = self.old.lock; seen = self.old.seen; has = only_number number; under = number } }
     {
         let pass = store.lock.split(&mut self.pass, number);
@@ -280,12 +280,7 @@ impl<C: TreeCall + Drop, B: NodeRead + Drop> Store<C, B> {
     pub fn join(&self, session: &mut Session<C, B>, other: Session<C, B>)
         requires store { (session.old.lock ≡ self.now) × (other.lock ≡ self.now) }
         requires ended { live_in (book_of other.seen) other.under ≡ None }
-        ensures kept { session.new ≡ record {
-          lock = session.old.lock;
-          seen = longer session.old.seen other.seen;
-          has = merged session.old.has other.has;
-          under = session.old.under;
-        } }
+        ensures kept { session.new ≡ joined_session session.old other }
         ensures goes_on { GoesOn number_of session.old.has session.old.seen session.new.seen }
         ensures other_goes_on { GoesOn number_of other.has other.seen session.new.seen }
     {

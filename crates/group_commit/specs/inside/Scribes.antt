@@ -22,7 +22,7 @@ use Rattle.shared_store.specs.declared.desk.Entry.{Entry}
 use Rattle.group_commit.specs.Closings.{AreOthers}
 use Rattle.group_commit.specs.Marks.{durable_in, durables, failures, last_commit}
 use Rattle.group_commit.specs.Members.{Marks, MemberView}
-use Rattle.group_commit.specs.Written.{HasWritten}
+use Rattle.group_commit.specs.Written.{HasWritten, LeavesWritten}
 use Rattle.group_commit.specs.declared.mark.Failed.{Failed}
 use Rattle.group_commit.specs.declared.mark.Mark.TheVariants as mark
 
@@ -62,6 +62,10 @@ module _ {C B : Type 0} where
   -- the last commit before the first that was written
   abbrev pub began_after : ScribeView C B → ℕ
   began_after v = last_commit v.session.seen
+
+  -- within a call a crash leaves what was written before it at least, of the commits that are drained now
+  abbrev pub KeepsWritten : ScribeView C B → ScribeView C B → Type 0
+  KeepsWritten old new = LeavesWritten old.opening (began_after old) old.written (last_commit new.drainer.seen) old.journal.history new.journal.history
 
   -- its list
   abbrev pub marks_in : ScribeView C B → Marks C B
