@@ -1,6 +1,6 @@
 -- What the workers of a script do with its lines (docs/PROFILE.md, "Workers").
 use Rattle.std.specs.Prelude.{◌≡◌, ◌==◌, ℕ, List, [], ◌∷◌, ◌++◌, length, map, filter, Option, Some, None, if◌then◌else◌}
-use Rattle.std.specs.List.{AllByRecursion}
+use Rattle.std.specs.List.{AllByRecursion, AllZip}
 use Rattle.command_lines.specs.declared.command.Command.{Command}
 use Rattle.command_lines.specs.declared.line_reply.LineReply.{LineReply}
 use Rattle.worker_run.specs.declared.port.PortFault.{PortFault}
@@ -77,6 +77,14 @@ module _ {P : Type 0} (m : Ports P) where
     pub does : DoesLines lines gave old last (m.told old).fault
     pub session : (m.told last).session ≡ (m.told old).session
     pub ended : Ended m last new
+
+  -- a worker of its own left each port so
+  abbrev pub AllHaveWorked : List Command → List P → List P → Type 0
+  AllHaveWorked lines old new = AllZip (HasWorked lines) old new
+
+  -- of each port the transaction was ended
+  abbrev pub AllEnded : List P → List P → Type 0
+  AllEnded old new = AllZip (Ended m) old new
 
   -- it did its session's lines with the replies that stand in their places, and then ended its transaction
   pub record HasReplied (lines : List Command) (replies : List LineReply) (old new : P) : Type 0 where

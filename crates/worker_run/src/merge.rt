@@ -1,6 +1,6 @@
 //! The replies of the workers, put together in the order of the lines.
-ghost use Rattle.std.specs.Prelude.{◌≡◌, ◌≤◌, [], length, vec_capacity, MatchOption};
-ghost use Rattle.worker_run.specs.inside.Merging.{AreFull, AreMerged, Gave, HaveOneSeat, Lacks, ports_in, seats};
+ghost use Rattle.std.specs.Prelude.{◌≡◌, ◌≤◌, [], length, vec_capacity};
+ghost use Rattle.worker_run.specs.inside.Merging.{AreFull, AreMerged, HaveOneSeat, TookLast, ports_in, seats};
 
 use crate::port::SessionPort;
 use crate::worker::{Worker, keep};
@@ -8,8 +8,8 @@ use command_lines::{Command, LineReply};
 
 /// Takes the last reply of the worker of a session.
 fn take_last<T: SessionPort>(workers: &mut [Worker<T>], session: u32) -> Option<LineReply>
-    ensures taken { MatchOption result (Lacks session (seats T.ports workers.old))
-        (λ reply. Gave session reply (seats T.ports workers.old) (seats T.ports workers.new)) }
+    ensures taken { TookLast session (seats T.ports workers.old)
+        (seats T.ports workers.new) result }
     ensures ports { ports_in workers.new ≡ ports_in workers.old }
 {
     match workers.split_first_mut() {

@@ -1,13 +1,10 @@
 //! The workers of a script, one for each port.
-ghost use Rattle.std.specs.Prelude.{◌≡◌, ◌+◌, ◌≤◌, ◌<◌, ◌⊎◌, ℕ, [], length, vec_capacity, None, Some, Err, IfOk, IfErr};
-ghost use Rattle.std.specs.List.{AllByRecursion, AllZip, slice_index_or};
+ghost use Rattle.std.specs.Prelude.{◌≡◌, ◌+◌, ◌≤◌, ◌⊎◌, [], length, vec_capacity, None, Some, Err, IfOk, IfErr};
+ghost use Rattle.std.specs.List.{AllByRecursion, AllZip};
 ghost use Rattle.command_lines.specs.ValidCommands.{IsValidCommand};
-ghost use Rattle.worker_run.specs.Ports.{Ended};
-ghost use Rattle.worker_run.specs.Workers.{HasReplied, HasWorked, HaveOnePort, first_fault as first_told, own_lines};
-ghost use Rattle.worker_run.specs.inside.Merging.{IsSeated, ports_in};
-ghost use Rattle.worker_run.specs.declared.worker.Worker.{Worker};
+ghost use Rattle.worker_run.specs.Workers.{AllEnded, AllHaveWorked, HasReplied, HaveOnePort, first_fault as first_told, own_lines};
+ghost use Rattle.worker_run.specs.inside.Merging.{AtEachIndex, IsSeated, WorkerHasServed, ports_in};
 ghost use Rattle.worker_run.specs.inside.Running.{HasRooms, RunLeaves};
-ghost use Rattle.worker_run.specs.inside.Working.{HasServed};
 
 use crate::merge::merge;
 use crate::port::{PortFault, SessionPort};
@@ -39,9 +36,7 @@ fn run_all<R: Threads + Wait + Sync, T: SessionPort + Send, G: Gate + Sync>(
     requires ready { AllByRecursion (IsSeated T.ports lines.now) workers.old }
     requires valid { AllByRecursion IsValidCommand lines.now }
     ensures len { length workers.new ≡ length workers.old }
-    ensures each { (i : ℕ) (d : Worker T) → i < length workers.old
-        → HasServed T.ports lines.now (slice_index_or workers.old i d).port (slice_index_or workers.new i d).port
-        (slice_index_or workers.old i d).replies.items (slice_index_or workers.new i d).replies.items }
+    ensures each { AtEachIndex workers.old workers.new (WorkerHasServed T.ports lines.now) }
 {
     let count = workers.len();
     if count == 0 {
@@ -55,7 +50,7 @@ fn run_all<R: Threads + Wait + Sync, T: SessionPort + Send, G: Gate + Sync>(
             requires room { length worker.old.replies.items + length (own_lines (T.ports.told worker.old.port).session lines.now)
                 ≤ vec_capacity worker.old.replies }
             requires valid { AllByRecursion IsValidCommand lines.now }
-            ensures { HasServed T.ports lines.entry.now worker.old.port worker.new.port worker.old.replies.items worker.new.replies.items }
+            ensures { WorkerHasServed T.ports lines.entry.now worker.old worker.new }
         { work(rt, alloc, worker, lines, gate) },
     );
 }
@@ -101,7 +96,7 @@ fn replies_of<R: Threads + Wait + Sync, T: SessionPort + Send, G: Gate + Sync>(
 
 /// Ends the transaction of each port.
 fn end_all<R: Wait, T: SessionPort>(rt: &R, ports: &mut [T])
-    ensures { AllZip (Ended T.ports) ports.old ports.new }
+    ensures { AllEnded T.ports ports.old ports.new }
 {
     if let Some((first, rest)) = ports.split_first_mut() {
         first.end(rt);
@@ -143,8 +138,8 @@ pub fn run_workers<R: Threads + Wait + Sync, T: SessionPort + Send + Drop, G: Ga
 ) -> Worked<T>
     requires one_port { HaveOnePort T.ports ports lines.now }
     requires valid { AllByRecursion IsValidCommand lines.now }
-    ensures ports { AllZip (HasWorked T.ports lines.now) ports result.ports
-        ⊎ ((result.replies ≡ Err PortFault.NoMemory) × AllZip (Ended T.ports) ports result.ports) }
+    ensures ports { AllHaveWorked T.ports lines.now ports result.ports
+        ⊎ ((result.replies ≡ Err PortFault.NoMemory) × AllEnded T.ports ports result.ports) }
     ensures all { IfOk result.replies (λ replies. length replies ≡ length lines.now) }
     ensures replies { IfOk result.replies (λ replies. AllZip (HasReplied T.ports lines.now replies) ports result.ports) }
     ensures usable { IfOk result.replies (λ _. first_told T.ports result.ports ≡ None) }

@@ -1,1 +1,3 @@
 pub mod Shown
+-- words that private functions alone use
+pub mod inside

@@ -1,18 +1,15 @@
 //! The text of a whole script.
-ghost use Rattle.std.specs.Prelude.{◌≡◌, ℕ, List, [], ◌∷◌, ◌++◌, length, flat_map, Ok, IfOk, IfErr, OnOk};
-ghost use Rattle.call_contract.specs.States.{start};
+ghost use Rattle.std.specs.Prelude.{◌≡◌, List, ◌++◌, length, Ok, IfOk, IfErr, OnOk};
 ghost use Rattle.command_lines.specs.Replies.{reply_text};
 ghost use Rattle.command_lines.specs.declared.line_reply.LineReply.{LineReply};
-ghost use Rattle.node_seq.specs.Trees.{StandsFor};
 ghost use Rattle.shared_store.specs.Lists.{SessionsFit};
 ghost use Rattle.store_calls.specs.StoreCalls.{store_meaning, IsValidStoreCall};
-ghost use Rattle.tree_model.specs.Tree.{Tree};
-ghost use Rattle.workers_replies.specs.Shown.{lines_in, IsShownBy};
-ghost use Rattle.workers_script.specs.Entries.{commands_in, in_places};
-ghost use Rattle.workers_text.specs.Cores.{HasBookFrom, IsFrom, MayBegin};
+ghost use Rattle.workers_replies.specs.Shown.{ShowsText, lines_in};
+ghost use Rattle.workers_replies.specs.inside.Texts.{whole_text};
+ghost use Rattle.workers_script.specs.Entries.{commands_in};
+ghost use Rattle.workers_text.specs.Cores.{EachFrom, HasBookFrom, IsFrom, MayBegin};
 ghost use Rattle.workers_text.specs.Journals.{WroteCommits};
-ghost use Rattle.workers_text.specs.Sessions.{DoesSome};
-ghost use Rattle.workers_text.specs.WorkersText.{asked_of, order_of};
+ghost use Rattle.workers_text.specs.WorkersText.{DoesSomeAsked, order_of};
 
 use command_lines::{LineReply, write_reply};
 use dewey_labels::{List, NoMemory};
@@ -46,7 +43,7 @@ fn text_of<B: NodeRead + Drop>(
     requires all { IfOk replies (λ replies. length replies ≡ length (commands_in script.now.entries)) }
     requires sessions { SessionsFit core.now.book }
     ensures { IfOk result (λ text. (given : List LineReply) × (replies ≡ Ok given)
-        × (text.items ≡ flat_map reply_text (in_places script.now.entries given ++ order_of core.now.book ∷ []))) }
+        × (text.items ≡ whole_text script.now.entries given core.now.book)) }
 {
     let replies = replies?;
     match written(alloc, script, &replies, core) {
@@ -64,7 +61,8 @@ fn written<B: NodeRead + Drop>(
 ) -> Result<Vec<u8>, NoMemory>
     requires all { length replies.now ≡ length (commands_in script.now.entries) }
     requires sessions { SessionsFit core.now.book }
-    ensures { IfOk result (λ text. text.items ≡ flat_map reply_text (in_places script.now.entries replies.now ++ order_of core.now.book ∷ [])) }
+    ensures { IfOk result (λ text.
+        text.items ≡ whole_text script.now.entries replies.now core.now.book) }
 {
     let mut text = List::new(alloc);
     script.write_replies(alloc, replies.as_slice(), &mut text)?;
@@ -107,11 +105,10 @@ pub fn answer_script<
     ensures opened { IsFrom B.unchanged core result.core }
     ensures book { HasBookFrom IsValidStoreCall store_meaning B.contents core result.core }
     ensures written { WroteCommits store_meaning B.contents J.is_known journal result.text result.core result.journal }
-    ensures text { IfOk result.text (λ text. (lines : List LineReply) × (text.items ≡ flat_map reply_text lines)
-        × ((t : Tree) → StandsFor (B.contents core.opening) t
-        → IsShownBy store_meaning t core.number core.limit result.core.book (lines_in script.now.entries) lines)) }
-    ensures stops { IfErr result.text (λ _. (t : Tree) → StandsFor (B.contents core.opening) t
-        → (s : ℕ) → DoesSome store_meaning s (start t core.number core.limit) result.core.book (asked_of s (lines_in script.now.entries))) }
+    ensures text { IfOk result.text (λ text.
+        ShowsText store_meaning B.contents core result.core script.now.entries text.items) }
+    ensures stops { IfErr result.text (λ _.
+        EachFrom B.contents core result.core (DoesSomeAsked store_meaning (lines_in script.now.entries))) }
 {
     let Ran {
         core,

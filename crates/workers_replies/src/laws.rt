@@ -1,9 +1,8 @@
 //! Laws of the definitions, for every type of calls.
 ghost use Rattle.std.specs.Prelude.{ℕ, List};
 ghost use Rattle.call_contract.specs.Books.{Book};
-ghost use Rattle.command_lines.specs.declared.line_reply.LineReply.{LineReply};
 ghost use Rattle.tree_model.specs.Tree.{Tree};
-ghost use Rattle.workers_replies.specs.Shown.{IsShownBy};
+ghost use Rattle.workers_replies.specs.Shown.{EachTextIs, IsShownBy};
 ghost use Rattle.workers_text.specs.WorkersText.{Line, WorkersText};
 
 use call_contract::TreeCall;
@@ -11,6 +10,6 @@ use call_contract::TreeCall;
 /// What a book shows may be printed by workers.
 #[tactic(auto, using(crate::proofs::Shown::may_be_printed))]
 pub fn a_book_that_shows_a_text_makes_it_one_of_workers<C: TreeCall>()
-    ensures { (t : Tree) (number limit : ℕ) (book : Book C) (lines : List (Line C)) (text : List LineReply)
-        → IsShownBy C.meaning t number limit book lines text → WorkersText C.meaning t number limit lines text }
+    ensures { (t : Tree) (n l : ℕ) (book : Book C) (lines : List (Line C))
+        → EachTextIs (IsShownBy C.meaning t n l book lines) (WorkersText C.meaning t n l lines) }
 {}

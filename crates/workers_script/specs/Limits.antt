@@ -5,6 +5,7 @@ use Rattle.script_runs.specs.Lines.{AllShort, first_long, line_limit, lines_of}
 use Rattle.workers_script.specs.Entries.{Script, entries_of}
 use Rattle.workers_script.specs.declared.script_error.ScriptError.{ScriptError}
 use Rattle.workers_script.specs.declared.script_error.ScriptError.TheVariants.{TooLong, ReadFault, NoMemory}
+use Rattle.outside_traits.specs.Bytes.{Gave}
 
 -- the most bytes of a whole script
 abbrev pub script_limit : ℕ
@@ -27,6 +28,12 @@ too_long bytes = too_long_in script_limit line_limit bytes
 pub record KeepsLimits (most short : ℕ) (bytes : List ℕ) : Type 0 where
   pub lines : AllShort short (lines_of bytes)
   pub whole : length bytes ≤ most
+
+-- The source gave some bytes and counted them, no more than these, and this holds of them.
+-- `left` and `given` are the source's.
+abbrev pub GaveAtMost : {S : Type 0} → (S → Option (List ℕ)) → (S → ℕ) → ℕ → S → S → (List ℕ → Type 0) → Type 0
+GaveAtMost left given most old new holds =
+    (read : List ℕ) × Gave (left old) (left new) read × (given new ≡ given old + length read) × (length read ≤ most) × holds read
 
 -- what these bytes that were read say of the answer
 abbrev pub IsReadScript : List ℕ → Result Script ScriptError → Type 0

@@ -1,9 +1,8 @@
 //! An input that is read to its end, within the limits of its lines and of the whole.
-ghost use Rattle.std.specs.Prelude.{◌≡◌, ◌≤◌, ◌<◌, ◌+◌, ◌^◌, ℕ, List, [], ◌∷◌, ◌++◌, length, Some, None, Err, OnOk, IfSome, IfOk};
-ghost use Rattle.outside_traits.specs.Bytes.{Gave};
+ghost use Rattle.std.specs.Prelude.{◌≡◌, ◌≤◌, ◌<◌, ◌+◌, ◌^◌, [], ◌∷◌, ◌++◌, length, Some, None, Err, OnOk, IfSome, IfOk};
 ghost use Rattle.script_runs.specs.Counts.{CountedWhere};
 ghost use Rattle.script_runs.specs.Whole.{piece};
-ghost use Rattle.workers_script.specs.Limits.{too_long_in, KeepsLimits};
+ghost use Rattle.workers_script.specs.Limits.{too_long_in, KeepsLimits, GaveAtMost};
 ghost use Rattle.workers_script.specs.inside.Inputs.{column_after, lines_after, CameOn, IfTooLong, IsTaken};
 
 use crate::script_error::ScriptError;
@@ -132,9 +131,8 @@ pub(crate) fn read_input<S: Source>(
 ) -> Result<Vec<u8>, ScriptError>
     requires most { limits.most < 2 ^ 63 }
     requires short { limits.short < 2 ^ 63 }
-    ensures read { (read : List ℕ) × Gave (S.left source.old) (S.left source.new) read
-        × (S.given source.new ≡ S.given source.old + length read) × (length read ≤ limits.most + piece)
-        × IsTaken limits.most limits.short read result (λ bytes. bytes.items) }
+    ensures read { GaveAtMost S.left S.given (limits.most + piece) source.old source.new
+        (λ read. IsTaken limits.most limits.short read result (λ v. v.items)) }
     ensures whole { OnOk result (IfSome (S.left source.new) (λ rest. rest ≡ [])) }
     ensures cause { CountedWhere (result ≡ Err ScriptError.ReadFault) (S.faults source.old) (S.faults source.new) }
 {
@@ -153,9 +151,8 @@ fn read_pieces<S: Source>(
     requires short { limits.short < 2 ^ 63 }
     requires some { 0 < length buffer.old }
     requires size { length buffer.old ≤ piece }
-    ensures read { (read : List ℕ) × Gave (S.left source.old) (S.left source.new) read
-        × (S.given source.new ≡ S.given source.old + length read) × (length read ≤ limits.most + piece)
-        × IsTaken limits.most limits.short read result (λ bytes. bytes.items) }
+    ensures read { GaveAtMost S.left S.given (limits.most + piece) source.old source.new
+        (λ read. IsTaken limits.most limits.short read result (λ v. v.items)) }
     ensures whole { OnOk result (IfSome (S.left source.new) (λ rest. rest ≡ [])) }
     ensures cause { CountedWhere (result ≡ Err ScriptError.ReadFault) (S.faults source.old) (S.faults source.new) }
 {

@@ -1,12 +1,11 @@
 //! A whole script, read before its first line is done.
-ghost use Rattle.std.specs.Prelude.{◌≡◌, ◌==◌, ◌≤◌, ◌<◌, ◌+◌, ◌^◌, ℕ, List, [], ◌++◌, length, position, Err, OnOk, IfOk, IfSome};
-ghost use Rattle.outside_traits.specs.Bytes.{Gave};
+ghost use Rattle.std.specs.Prelude.{◌≡◌, ◌==◌, ◌≤◌, ◌<◌, ◌+◌, ◌^◌, [], ◌++◌, length, position, Err, OnOk, IfOk, IfSome};
 ghost use Rattle.script_runs.specs.Counts.{CountedWhere};
 ghost use Rattle.script_runs.specs.Whole.{piece};
 ghost use Rattle.script_runs.specs.inside.Feeding.{IsFirstEnd};
 ghost use Rattle.command_lines.specs.Lines.{line_of};
 ghost use Rattle.workers_script.specs.Entries.{entries_of, entry_by};
-ghost use Rattle.workers_script.specs.Limits.{script_limit, IsReadScript};
+ghost use Rattle.workers_script.specs.Limits.{script_limit, IsReadScript, GaveAtMost};
 
 use crate::entry::Entry;
 use crate::input::{Limits, read_input};
@@ -72,8 +71,8 @@ fn script_of(alloc: Global, bytes: &[u8]) -> Result<Script, NoMemory>
 
 /// Reads a whole script. Each line is read once all are there, so none is done where one is too long or a read fails.
 pub fn read_script<S: Source>(alloc: Global, source: &mut S) -> Result<Script, ScriptError>
-    ensures read { (read : List ℕ) × Gave (S.left source.old) (S.left source.new) read
-        × (S.given source.new ≡ S.given source.old + length read) × (length read ≤ script_limit + piece) × IsReadScript read result }
+    ensures read { GaveAtMost S.left S.given (script_limit + piece) source.old source.new
+        (λ read. IsReadScript read result) }
     ensures whole { OnOk result (IfSome (S.left source.new) (λ rest. rest ≡ [])) }
     ensures cause { CountedWhere (result ≡ Err ScriptError.ReadFault) (S.faults source.old) (S.faults source.new) }
 {

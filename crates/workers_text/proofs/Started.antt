@@ -1,16 +1,12 @@
 -- A store over a core with an empty book: what its list tells at the start, and of the core at the end.
-use Rattle.std.proofs.Common.{◌≡◌, ◌∙◌, ◌+◌, ℕ, true, refl, sym, ap, subst, arith, List, [], ◌∷◌, ◌++◌, length}
+use Rattle.std.proofs.Common.{◌≡◌, ◌∙◌, ◌+◌, ℕ, true, refl, sym, ap, subst, arith, List, [], ◌∷◌, ◌++◌}
 use Rattle.std.specs.Prelude.{Option, Some}
 use Rattle.tree_model.specs.Entries.{Entries}
 use Rattle.tree_model.specs.Tree.{Tree}
-use Rattle.node_records.specs.declared.pending.Pending.{Pending}
 use Rattle.node_seq.specs.Trees.{StandsFor}
 use Rattle.call_contract.specs.Books.{Book}
-use Rattle.call_contract.specs.Sessions.{commits_in}
-use Rattle.call_contract.specs.Calls.{CallMeaning}
-use Rattle.tx_core.specs.Cores.{CoreView, IsUndrained}
-use Rattle.shared_store.specs.Bodies.{HasBodies, HaveBodiesOf}
-use Rattle.shared_store.specs.Lists.{book_of, drained_in, is_opened, list_of, SessionsFit}
+use Rattle.tx_core.specs.Cores.{CoreView}
+use Rattle.shared_store.specs.Lists.{book_of, is_opened, list_of}
 use Rattle.shared_store.specs.Sessions.{IsOpenedAs}
 use Rattle.shared_store.specs.declared.desk.Entry.{Entry}
 use Rattle.shared_store.specs.declared.desk.Entry.TheVariants as kind
@@ -21,27 +17,10 @@ use Rattle.workers_text.specs.StorePorts.{IsOpenedOver}
 pub some_same : {X : Type 0} (a b : X) → Some a ≡ Some b → b ≡ a
 some_same a b e = cc
 
-none_waits : (waiting : List Pending) → length waiting ≡ 0 → waiting ≡ []
-none_waits [] e = refl
-none_waits (p ∷ ps) e = absurd (omega (arith, e))
-
 with_none : (n : ℕ) → n + 0 ≡ n
 with_none n = omega arith
 
 module _ {C B : Type 0} (first : CoreView C B) (empty : first.book ≡ []) where
-  -- no commit of an empty book waits
-  pub fresh_after : IsUndrained first → first.undrained.after ≡ first.number
-  fresh_after is = omega (arith, is.opened, is.last, ap commits_in empty)
-
-  pub fresh_waiting : IsUndrained first → first.undrained.waiting ≡ []
-  fresh_waiting is = none_waits first.undrained.waiting (omega (arith, is.opened, is.last, ap commits_in empty))
-
-  pub fresh_bodies : (m : CallMeaning C) (told : B → Option Entries) → IsUndrained first → HasBodies m told first
-  fresh_bodies m told is = subst (HaveBodiesOf m told first) (sym (fresh_waiting is)) tt
-
-  pub fresh_fits : SessionsFit first.book
-  fresh_fits = subst SessionsFit (sym empty) tt
-
   abbrev Begun : List (Entry C B)
   Begun = list_of first [] []
 
@@ -52,12 +31,9 @@ module _ {C B : Type 0} (first : CoreView C B) (empty : first.book ≡ []) where
     pub begun_book : book_of seen ≡ []
     begun_book = ap book_of (begun seen is)
 
-    -- the last commit that it tells is the one before, and all up to it were handed out
+    -- the last commit that it tells is the one before
     pub begun_last : last_commit seen ≡ first.number
     begun_last = ap last_commit (begun seen is) ∙ with_none first.number
-
-    pub begun_drained : IsUndrained first → drained_in seen ≡ last_commit seen
-    begun_drained undrained = ap drained_in (begun seen is) ∙ fresh_after undrained ∙ sym begun_last
 
     pub begun_over : (told : B → Option Entries) (t : Tree) → StandsFor (told first.opening) t → IsOpenedOver told seen t first.number first.limit
     begun_over told t stands = subst (λ (es : List (Entry C B)). IsOpenedOver told es t first.number first.limit) (sym (begun seen is)) (record { opened = refl; tree = stands; number = refl; limit = refl })
@@ -75,9 +51,6 @@ module _ {C B : Type 0} (first : CoreView C B) (empty : first.book ≡ []) where
       }
 
 module _ {C B : Type 0} (unchanged : B → B → Type 0) where
-  pub from_itself : ((b : B) → unchanged b b) → (first : CoreView C B) → IsFrom unchanged first first
-  from_itself itself first = record { opening = refl; number = refl; limit = refl; base = itself first.base }
-
   -- what a list tells of the opening, its first part tells
   pub opened_before : (seen list added : List (Entry C B)) (core : CoreView C B) → is_opened seen ≡ true → list ≡ seen ++ added → IsOpenedAs unchanged list core → IsOpenedAs unchanged seen core
   opened_before [] list added core is e h = cc

@@ -1,5 +1,8 @@
 -- What a session is asked by a line, and what it was answered.
 use Rattle.std.specs.Prelude.{ℕ, List, map}
+use Rattle.call_contract.specs.Books.{Book}
+use Rattle.call_contract.specs.Calls.{CallMeaning}
+use Rattle.call_contract.specs.States.{State}
 use Rattle.command_lines.specs.declared.command.Command.{Command}
 use Rattle.command_lines.specs.declared.command.StoreCall.{StoreCall}
 use Rattle.command_lines.specs.declared.command.What.{What}
@@ -9,7 +12,7 @@ use Rattle.session_driver.specs.declared.doing.Doing.{Doing}
 use Rattle.session_driver.specs.declared.doing.Doing.TheVariants as doing
 use Rattle.worker_run.specs.Ports.{Exchange}
 use Rattle.worker_run.specs.Workers.{own_exchanges, own_lines}
-use Rattle.workers_text.specs.Sessions.{Printed}
+use Rattle.workers_text.specs.Sessions.{Does, DoesSome, Printed}
 
 module _ {C : Type 0} (made : StoreCall → C) where
   -- what a command asks of its session, where this call is made of one that it names
@@ -30,3 +33,11 @@ module _ {C : Type 0} (made : StoreCall → C) where
   -- what a session is asked by these lines
   abbrev pub own_doings : ℕ → List Command → List (Doing C)
   own_doings s lines = map (λ (c : Command). doing_of c.what) (own_lines s lines)
+
+  -- from this state on the book has the lines of the session, answered by the replies that stand in their places
+  abbrev pub DoesOwnLines : CallMeaning C → List Command → List LineReply → ℕ → State C → Book C → Type 0
+  DoesOwnLines m lines replies s st book = Does m s st book (own_printed s lines replies)
+
+  -- it has the first of them, the last of these as far as it came
+  abbrev pub DoesSomeOwnLines : CallMeaning C → List Command → ℕ → State C → Book C → Type 0
+  DoesSomeOwnLines m lines s st book = DoesSome m s st book (own_doings s lines)

@@ -1,11 +1,12 @@
 -- What the workers of a script ask of a core, its journal and the lines, and which core they hand back.
-use Rattle.std.specs.Prelude.{◌≡◌, ◌+◌, IsTrue, List, [], Option}
+use Rattle.std.specs.Prelude.{◌≡◌, ◌+◌, ℕ, IsTrue, List, [], Option}
 use Rattle.std.specs.List.{AllByRecursion}
 use Rattle.tree_model.specs.Entries.{Entries}
 use Rattle.tree_model.specs.Tree.{Tree}
 use Rattle.node_seq.specs.Trees.{StandsFor}
-use Rattle.call_contract.specs.Books.{IsBookFrom}
+use Rattle.call_contract.specs.Books.{Book, IsBookFrom}
 use Rattle.call_contract.specs.Calls.{CallMeaning}
+use Rattle.call_contract.specs.States.{State, start}
 use Rattle.command_lines.specs.ValidCommands.{IsValidCommand}
 use Rattle.command_lines.specs.declared.command.Command.{Command}
 use Rattle.journal.specs.Groups.{is_next}
@@ -36,3 +37,7 @@ pub record IsFrom {C B : Type 0} (unchanged : B → B → Type 0) (first core : 
 pub record HasBookFrom {C B : Type 0} (is_valid : C → Type 0) (m : CallMeaning C) (told : B → Option Entries) (first core : CoreView C B) : Type 0 where
   pub legal : (t : Tree) → StandsFor (told first.opening) t → IsBookFrom is_valid m t first.number first.limit core.book
   pub sessions : SessionsFit core.book
+
+-- of each session: this holds of it, of the state at each opening of one core, and of the book of the other
+abbrev pub EachFrom : {C B : Type 0} → (B → Option Entries) → CoreView C B → CoreView C B → (ℕ → State C → Book C → Type 0) → Type 0
+EachFrom told first core holds = (t : Tree) → StandsFor (told first.opening) t → (s : ℕ) → holds s (start t first.number first.limit) core.book

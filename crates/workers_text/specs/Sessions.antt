@@ -119,6 +119,14 @@ module _ {C : Type 0} (m : CallMeaning C) where
   Part s st (n ∷ ns) (Some reply) ps = Retries s n reply ps (Part s (next m st n) ns) (n.session == s)
   Part s st (n ∷ ns) None ps = Behind st s ps (λ qs. Meets s n qs (Part s (next m st n) ns) (n.session == s))
 
+  -- .. where no call of it waits before them
+  abbrev pub IsPart : ℕ → State C → Book C → List (Printed C) → Type 0
+  IsPart s st book ps = Part s st book None ps
+
+  -- this follows where one stretch of entries has these lines of the session, and the stretch behind it has those
+  abbrev pub IfBoth : ℕ → State C → Book C → List (Printed C) → Book C → List (Printed C) → Type 0 → Type 0
+  IfBoth s st es ps fs qs P = IsPart s st es ps → IsPart s (last m st es) fs qs → P
+
   -- ---- the end of a session
 
   -- of the session an entry may be an abort alone

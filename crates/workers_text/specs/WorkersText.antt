@@ -2,13 +2,13 @@
 use Rattle.std.specs.Prelude.{◌≡◌, ◌==◌, ℕ, List, [], ◌∷◌, ◌++◌, map, if◌then◌else◌}
 use Rattle.call_contract.specs.Books.{Book, IsLegal, commits}
 use Rattle.call_contract.specs.Calls.{CallMeaning}
-use Rattle.call_contract.specs.States.{start}
+use Rattle.call_contract.specs.States.{State, start}
 use Rattle.command_lines.specs.declared.line_reply.LineReply.{LineReply}
 use Rattle.command_lines.specs.declared.line_reply.LineReply.TheVariants.{Order}
 use Rattle.session_driver.specs.Lines.{Asked}
 use Rattle.tree_model.specs.Tree.{Tree}
 use Rattle.session_driver.specs.declared.doing.Doing.{Doing}
-use Rattle.workers_text.specs.Sessions.{Does, Printed}
+use Rattle.workers_text.specs.Sessions.{Does, DoesSome, Printed}
 
 -- a line that isn't blank: what a session is asked, or a bad line with its reply
 pub data Line (C : Type 0) : Type 0 where
@@ -35,6 +35,10 @@ abbrev pub asked_of : {C : Type 0} → ℕ → List (Line C) → List (Doing C)
 asked_of s [] = []
 asked_of s (asked a ∷ lines) = if a.session == s then a.doing ∷ asked_of s lines else asked_of s lines
 asked_of s (bad b ∷ lines) = asked_of s lines
+
+-- from this state on the book has the first of the session's lines, the last of them as far as it came
+abbrev pub DoesSomeAsked : {C : Type 0} → CallMeaning C → List (Line C) → ℕ → State C → Book C → Type 0
+DoesSomeAsked m lines s st book = DoesSome m s st book (asked_of s lines)
 
 -- session and ordinal of each committed transaction, in the order of their commits
 abbrev pub order_of : {C : Type 0} → Book C → LineReply

@@ -5,3 +5,4 @@ pub mod Joining
 pub mod Handing
 pub mod Ordering
 pub mod PortLaws
+pub mod Running

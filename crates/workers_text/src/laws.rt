@@ -1,24 +1,24 @@
 //! Laws of the definitions, for every type of calls.
 
-ghost use Rattle.std.specs.Prelude.{◌≡◌, ◌==◌, ◌++◌, ℕ, List, [], None, false};
-ghost use Rattle.call_contract.specs.Books.{Book, last, next};
+ghost use Rattle.std.specs.Prelude.{◌≡◌, ◌==◌, ◌++◌, ℕ, List, [], false};
+ghost use Rattle.call_contract.specs.Books.{Book, next};
 ghost use Rattle.call_contract.specs.States.{State, of_session};
 ghost use Rattle.call_contract.specs.declared.events.Noted.{Noted};
-ghost use Rattle.workers_text.specs.Sessions.{AreOthers, Does, DoesSome, Part, Printed, doings_of};
+ghost use Rattle.workers_text.specs.Sessions.{AreOthers, Does, DoesSome, IfBoth, IsPart, Printed, doings_of};
 
 use call_contract::TreeCall;
 
 /// What a session's lines do in one stretch of a book and then in the next one, they do in both.
 #[tactic(auto, using(crate::specs::inside::SessionLaws::stretches))]
 pub fn stretches_follow_one_another<C: TreeCall>()
-    ensures { (s : ℕ) (es fs : Book C) (st : State C) (ps qs : List (Printed C)) → Part C.meaning s st es None ps
-        → Part C.meaning s (last C.meaning st es) fs None qs → Part C.meaning s st (es ++ fs) None (ps ++ qs) }
+    ensures { (s : ℕ) (es fs : Book C) (st : State C) (ps qs : List (Printed C))
+        → IfBoth C.meaning s st es ps fs qs (IsPart C.meaning s st (es ++ fs) (ps ++ qs)) }
 {}
 
 /// Entries of other sessions are no line's.
 #[tactic(auto, using(crate::specs::inside::SessionLaws::skipped))]
 pub fn entries_of_others_are_passed_over<C: TreeCall>()
-    ensures { (s : ℕ) (es : Book C) (st : State C) → AreOthers s es → Part C.meaning s st es None [] }
+    ensures { (s : ℕ) (es : Book C) (st : State C) → AreOthers s es → IsPart C.meaning s st es [] }
 {}
 
 /// An entry of another session leaves the session's transaction, with the call that waits, and how many it has begun.

@@ -1,20 +1,16 @@
 //! The workers of a script over a store, with their commits in its journal.
-ghost use Rattle.std.specs.Prelude.{◌≡◌, ◌^◌, ◌<◌, ℕ, [], length, true, None, Ok, IfOk, IfErr, IfSome, is_some};
-ghost use Rattle.call_contract.specs.Books.{IsRun};
-ghost use Rattle.call_contract.specs.States.{start};
-ghost use Rattle.node_seq.specs.Trees.{StandsFor};
-ghost use Rattle.shared_store.specs.Lists.{book_of, list_of, SessionsFit};
+ghost use Rattle.std.specs.Prelude.{◌≡◌, ◌^◌, ◌<◌, [], length, true, None, Ok, IfOk, IfErr, IfSome, is_some};
+ghost use Rattle.shared_store.specs.Lists.{list_of, SessionsFit};
 ghost use Rattle.shared_store.specs.Sessions.{IsOpenedAs};
-ghost use Rattle.tree_model.specs.Tree.{Tree};
 ghost use Rattle.group_commit.specs.Marks.{failure_in, last_commit, opening_in};
 ghost use Rattle.group_commit.specs.Members.{AreReached, IsOf};
-ghost use Rattle.workers_text.specs.Asking.{own_doings, own_printed};
-ghost use Rattle.workers_text.specs.Cores.{HasBookFrom, IsFrom, MayBeAsked, MayBegin};
+ghost use Rattle.workers_text.specs.Asking.{DoesOwnLines, DoesSomeOwnLines};
+ghost use Rattle.workers_text.specs.Cores.{EachFrom, HasBookFrom, IsFrom, MayBeAsked, MayBegin};
 ghost use Rattle.workers_text.specs.Journals.{WroteCommits};
-ghost use Rattle.workers_text.specs.Sessions.{Does, DoesSome};
-ghost use Rattle.workers_text.specs.StorePorts.{HaveSessions, IsOpenedOver, IsSamePass, IsSessionNumber};
+ghost use Rattle.workers_text.specs.StorePorts.{HaveSessions, IsSamePass, IsSessionNumber};
 ghost use Rattle.workers_text.specs.inside.Handing.{IsAllHandedOut, IsHandedOut};
 ghost use Rattle.workers_text.specs.inside.Joining.{HasAllBack, IsFirst};
+ghost use Rattle.workers_text.specs.inside.Running.{EachRunFrom, EachSeenFrom};
 
 use crate::answers::fault_of;
 use crate::joining::{join_all, join_ports, keep, split_ports};
@@ -133,12 +129,10 @@ fn work<
     ensures back { HasAllBack group.now main result.0 }
     ensures durable { IfOk result.1 (λ _. AreReached result.0.pass.seen (last_commit result.0.session.seen) × (failure_in result.0.pass.seen ≡ None)) }
     ensures all { IfOk result.1 (λ replies. length replies ≡ length lines.now) }
-    ensures does { IfOk result.1 (λ replies. (t : Tree) (n l : ℕ) → IsOpenedOver B.contents main.session.seen t n l
-        → IsRun C.meaning (start t n l) (book_of result.0.session.seen) → (s : ℕ) → IsSessionNumber s
-        → Does C.meaning s (start t n l) (book_of result.0.session.seen) (own_printed C.made s lines.now replies)) }
-    ensures stops { (t : Tree) (n l : ℕ) → IsOpenedOver B.contents main.session.seen t n l
-        → IsRun C.meaning (start t n l) (book_of result.0.session.seen) → (s : ℕ) → IsSessionNumber s
-        → DoesSome C.meaning s (start t n l) (book_of result.0.session.seen) (own_doings C.made s lines.now) }
+    ensures does { IfOk result.1 (λ replies.
+        EachSeenFrom C.meaning B.contents main result.0 (DoesOwnLines C.made C.meaning lines.now replies)) }
+    ensures stops { EachSeenFrom C.meaning B.contents main result.0
+        (DoesSomeOwnLines C.made C.meaning lines.now) }
 {
     let own = main.number();
     let mut ports = Vec::new(alloc);
@@ -176,11 +170,10 @@ fn run_over<
     ensures out { IsHandedOut C.meaning B.contents J.is_known main.pass result.core result.journal }
     ensures durable { IfOk result.replies (λ _. IsAllHandedOut C.meaning B.contents J.is_known main.pass result.core result.journal) }
     ensures all { IfOk result.replies (λ replies. length replies ≡ length lines.now) }
-    ensures does { IfOk result.replies (λ replies. (t : Tree) (n l : ℕ) → IsOpenedOver B.contents main.session.seen t n l
-        → IsRun C.meaning (start t n l) result.core.book
-        → (s : ℕ) → Does C.meaning s (start t n l) result.core.book (own_printed C.made s lines.now replies)) }
-    ensures stops { (t : Tree) (n l : ℕ) → IsOpenedOver B.contents main.session.seen t n l → IsRun C.meaning (start t n l) result.core.book
-        → (s : ℕ) → DoesSome C.meaning s (start t n l) result.core.book (own_doings C.made s lines.now) }
+    ensures does { IfOk result.replies (λ replies.
+        EachRunFrom C.meaning B.contents main result.core (DoesOwnLines C.made C.meaning lines.now replies)) }
+    ensures stops { EachRunFrom C.meaning B.contents main result.core
+        (DoesSomeOwnLines C.made C.meaning lines.now) }
 {
     let (main, replies) = work(rt, alloc, &group, main, lines, gate);
     // Called for its contract: the pass has each number that the session has.
@@ -218,10 +211,10 @@ pub fn run_lines<
     ensures book { HasBookFrom C.is_valid C.meaning B.contents core result.core }
     ensures written { WroteCommits C.meaning B.contents J.is_known journal result.replies result.core result.journal }
     ensures all { IfOk result.replies (λ replies. length replies ≡ length lines.now) }
-    ensures does { IfOk result.replies (λ replies. (t : Tree) → StandsFor (B.contents core.opening) t
-        → (s : ℕ) → Does C.meaning s (start t core.number core.limit) result.core.book (own_printed C.made s lines.now replies)) }
-    ensures stops { IfErr result.replies (λ _. (t : Tree) → StandsFor (B.contents core.opening) t
-        → (s : ℕ) → DoesSome C.meaning s (start t core.number core.limit) result.core.book (own_doings C.made s lines.now)) }
+    ensures does { IfOk result.replies (λ replies.
+        EachFrom B.contents core result.core (DoesOwnLines C.made C.meaning lines.now replies)) }
+    ensures stops { IfErr result.replies (λ _.
+        EachFrom B.contents core result.core (DoesSomeOwnLines C.made C.meaning lines.now)) }
 {
     let first = first_session(lines.as_slice());
     // Called for their contracts: what a usable journal reads, and that its count of faults has 64 bits.

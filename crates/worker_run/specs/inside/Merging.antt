@@ -1,6 +1,6 @@
 -- Replies are taken from their workers, the last line's first.
-use Rattle.std.specs.Prelude.{◌≡◌, ◌==◌, ◌≤◌, ℕ, Bool, true, false, List, [], ◌∷◌, ◌++◌, map, filter, length, take, drop, reverse, vec_capacity, if◌then◌else◌}
-use Rattle.std.specs.List.{AllByRecursion, AllZip}
+use Rattle.std.specs.Prelude.{◌≡◌, ◌==◌, ◌≤◌, ◌<◌, ℕ, Bool, true, false, List, [], ◌∷◌, ◌++◌, map, filter, length, take, drop, reverse, vec_capacity, MatchOption, Option, if◌then◌else◌}
+use Rattle.std.specs.List.{AllByRecursion, AllZip, slice_index_or}
 use Rattle.command_lines.specs.declared.command.Command.{Command}
 use Rattle.command_lines.specs.declared.line_reply.LineReply.{LineReply}
 use Rattle.worker_run.specs.declared.worker.Worker.{Worker}
@@ -17,9 +17,17 @@ ports_in ws = map (λ w. w.port) ws
 abbrev pub IsSeated : {P : Type 0} → Ports P → List Command → Worker P → Type 0
 IsSeated m lines w = (w.replies.items ≡ []) × (length (own_lines (m.told w.port).session lines) ≤ vec_capacity w.replies)
 
+-- at each index of the first list this holds of what stands there in the two
+abbrev pub AtEachIndex : {A : Type 0} → List A → List A → (A → A → Type 0) → Type 0
+AtEachIndex {A = A} old new holds = (i : ℕ) (d : A) → i < length old → holds (slice_index_or old i d) (slice_index_or new i d)
+
+-- a worker has done its part, and keeps its replies behind those that it had
+abbrev pub WorkerHasServed : {P : Type 0} → Ports P → List Command → Worker P → Worker P → Type 0
+WorkerHasServed m lines v w = HasServed m lines v.port w.port v.replies.items w.replies.items
+
 -- each worker has done its part
 abbrev pub AllServed : {P : Type 0} → Ports P → List Command → List (Worker P) → List (Worker P) → Type 0
-AllServed m lines old new = AllZip (λ v w. HasServed m lines v.port w.port v.replies.items w.replies.items) old new
+AllServed m lines old new = AllZip (WorkerHasServed m lines) old new
 
 -- ---- seats: a session and the replies that are kept for it
 
@@ -54,6 +62,10 @@ LacksHere x further false = further
 abbrev pub Lacks : ℕ → List Seat → Type 0
 Lacks s [] = Unit {0}
 Lacks s (x ∷ xs) = LacksHere x (Lacks s xs) (x.0 == s)
+
+-- the last reply was taken from the seat of the session, or there was none
+abbrev pub TookLast : ℕ → List Seat → List Seat → Option LineReply → Type 0
+TookLast s old new taken = MatchOption taken (Lacks s old) (λ r. Gave s r old new)
 
 -- ---- merging
 

@@ -8,7 +8,7 @@ use Rattle.command_lines.specs.declared.line_reply.LineReply.{LineReply}
 use Rattle.worker_run.specs.declared.port.PortFault.{PortFault}
 use Rattle.worker_run.specs.declared.worker.Worker.{Worker}
 use Rattle.worker_run.specs.Ports.{Ports}
-use Rattle.worker_run.specs.Workers.{HasReplied, HasWorked, first_fault}
+use Rattle.worker_run.specs.Workers.{AllHaveWorked, HasReplied, first_fault}
 use Rattle.worker_run.specs.inside.Seating.{IsRoom}
 
 -- the replies of all lines, each its own, where no port tells a fault, else the fault of the first that does
@@ -17,7 +17,7 @@ Gives m lines old new (Ok replies) = (length replies ≡ length lines) × AllZip
 Gives m lines old new (Err fault) = first_fault m new ≡ Some fault
 
 pub record RunLeaves {P : Type 0} (m : Ports P) (lines : List Command) (old new : List P) (given : Result (List LineReply) PortFault) : Type 0 where
-  pub worked : AllZip (HasWorked m lines) old new
+  pub worked : AllHaveWorked m lines old new
   pub gives : Gives m lines old new given
 
 -- room for the replies of each port, for the workers, and for the replies of all lines

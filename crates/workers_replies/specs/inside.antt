@@ -1,0 +1,2 @@
+-- words of the text in the making
+pub mod Texts
