@@ -20,7 +20,8 @@ use Rattle.xtc.specs.TopCall.{CommandRan, IsOfOpened, IsSilent, Outcome, tx_limi
 use Rattle.xtc.specs.declared.status.Status.{Status}
 use Rattle.xtc.specs.declared.status.Status.TheVariants.{Done, Usage, LineTooLong, Damaged, ReadFault, WriteFault, DiskFault, NoMemory, NotJsonMl, DocumentRefused}
 use Rattle.xtc.specs.inside.Asking.{IsQuiet, IsUnwritten, IsWriteEnd}
-use Rattle.xtc.specs.inside.CommandRuns.{Input, Output, Disks, RanOver, RanWith, RunsCommand, StandSettled}
+use Rattle.xtc.specs.Outside.{Input, Output, Disks}
+use Rattle.xtc.specs.inside.CommandRuns.{RanOver, RanWith, RunsCommand, StandSettled}
 use Rattle.node_records.specs.declared.open_error.Place.{Place}
 use Rattle.xtc.specs.Checkpoints.{may_lose, tries}
 use Rattle.xtc.proofs.StatusLaws.{LosesOnly, of_document, of_workers, script_not_silent, script_opened, silent_damaged}

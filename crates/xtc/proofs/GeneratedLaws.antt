@@ -45,7 +45,8 @@ use Rattle.xtc.specs.TopCall.{AreFirst, DocumentRan, IsDocumentEnd, IsOfOpened, 
 use Rattle.xtc.specs.declared.status.Status.{Status}
 use Rattle.xtc.specs.declared.status.Status.TheVariants.{Done, Usage, LineTooLong, Damaged, ReadFault, WriteFault, DiskFault, NoMemory, NotJsonMl, DocumentRefused}
 use Rattle.xtc.specs.inside.Asking.{AreValidAsks, IsQuiet, IsWriteEnd, after, said}
-use Rattle.xtc.specs.inside.CommandRuns.{Input, Output, RanWith, RunsCommand}
+use Rattle.xtc.specs.Outside.{Input, Output}
+use Rattle.xtc.specs.inside.CommandRuns.{RanWith, RunsCommand}
 use Rattle.xtc.specs.inside.Counting.{AllCounted, AnsweredOver, GoesOn, HoldFirstAsked, IsStopIf, StoppedOver}
 use Rattle.xtc.specs.inside.Generating.{DoneOverFiles, FromTree, HasTextOver, WentOver}
 use Rattle.xtc.specs.inside.Renewing.{ReadsGroups, StandFor, files_of}

@@ -15,7 +15,8 @@ use Rattle.xtc.specs.TopCall.{WroteWhole, tx_limit}
 use Rattle.xtc.specs.declared.status.Status.{Status}
 use Rattle.xtc.specs.declared.status.Status.TheVariants.{WriteFault, DiskFault}
 use Rattle.xtc.specs.inside.Asking.{DocumentDone, IsStop, IsUnwritten, IsWriteEnd}
-use Rattle.xtc.specs.inside.CommandRuns.{Input, Output, RunsCommand}
+use Rattle.xtc.specs.Outside.{Input, Output}
+use Rattle.xtc.specs.inside.CommandRuns.{RunsCommand}
 use Rattle.xtc.specs.inside.Showing.{IsOfShown}
 use Rattle.xtc.specs.inside.Stores.{Counts as PagesCounts}
 use Rattle.xtc.proofs.CommandRunLaws.{document_runs, ends_by, ends_undamaged, not_lost, quiets, read_never, without_checkpoints}

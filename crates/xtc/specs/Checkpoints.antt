@@ -1,5 +1,6 @@
 -- What a command that makes checkpoints leaves of a store's files (docs/MANUAL.md, "Checkpoints").
-use Rattle.std.specs.Prelude.{◌≡◌, ◌&&◌, ◌%◌, ◌+◌, ◌==◌, ℕ, zero, suc, Bool, true, false, not, nat_le, List, length, take, Option, None, Some, unwrap_or, IfSome, Ok}
+use Rattle.std.specs.Prelude.{◌≡◌, ◌&&◌, ◌%◌, ◌+◌, ◌==◌, ℕ, zero, suc, Bool, true, false, not, nat_le, List, length, take, Option, None, Some, unwrap_or, IfSome, Ok, String}
+use Rattle.std.specs.declared.alloc.Global.{Global}
 use Rattle.tree_model.specs.Tree.{Tree, map_of}
 use Rattle.node_pages.specs.Cuts.{cut_of, data_of}
 use Rattle.node_pages.specs.PageFiles.{contents_of_file}
@@ -13,7 +14,7 @@ use Rattle.checkpoint.specs.declared.made.Made.TheVariants.{Yes, No}
 use Rattle.call_contract.specs.Books.{Book, commits}
 use Rattle.call_contract.specs.SerialRuns.{serial}
 use Rattle.command_lines.specs.declared.command.StoreCall.{StoreCall}
-use Rattle.command_words.specs.Commands.{Command, run, workers, gen}
+use Rattle.command_words.specs.Commands.{Command, checkpoint_of, command_of, run, workers, gen}
 use Rattle.store_calls.specs.StoreCalls.{store_meaning}
 
 -- ---- where one is tried
@@ -93,3 +94,7 @@ AreMade command every t n book journal pages = IfSome (last_of_command command e
 -- a command may find a page file damaged that it wrote itself: where it tries checkpoints, and nothing is known of the file
 abbrev pub may_lose : Option Command → ℕ → Bool → Bool
 may_lose command every pages_known = tries command every && not pages_known
+
+-- the command that these words ask for may, by its checkpoints
+abbrev pub may_lose_by : List (String Global) → Bool → Bool
+may_lose_by words pages_known = may_lose (command_of words) (every_of (checkpoint_of words)) pages_known

@@ -122,9 +122,13 @@ show_asks st name q = find_asks name ++ question_asks q (label_in (after_asked s
 abbrev pub get_asks : State StoreCall → Name → List (Asked StoreCall)
 get_asks st name = show_asks st name Whole
 
+-- of its document what the path finds
+abbrev pub query_asks : State StoreCall → Name → XPath → List (Asked StoreCall)
+query_asks st name path = show_asks st name (FoundBy path)
+
 -- the path of these bytes is asked for, or refused
 abbrev pub query_asks_of : State StoreCall → Name → Result XPath PathError → Result (List (Asked StoreCall)) Status
-query_asks_of st name (Ok path) = Ok (show_asks st name (FoundBy path))
+query_asks_of st name (Ok path) = Ok (query_asks st name path)
 query_asks_of st name (Err why) = Err (DocumentRefused (reason.Path why))
 
 abbrev pub put_asks_of : Name → Result Fragment FragmentError → Result (List (Asked StoreCall)) Status

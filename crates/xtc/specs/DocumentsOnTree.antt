@@ -18,10 +18,28 @@ use Rattle.command_lines.specs.declared.command.StoreCall.{StoreCall}
 use Rattle.command_lines.specs.declared.line_reply.LineAnswer.TheVariants as answer
 use Rattle.command_lines.specs.declared.line_reply.LineReply.{LineReply}
 use Rattle.command_lines.specs.declared.line_reply.LineReply.TheVariants.{Said}
+use Rattle.call_contract.specs.States.{start}
 use Rattle.session_driver.specs.Progress.{Progress}
+use Rattle.xtc.specs.Book.{after_asked}
 use Rattle.durable_sessions.specs.Reasons.{reason_in}
 use Rattle.durable_sessions.specs.declared.reasons.Reason.TheVariants.{Call, Limit}
-use Rattle.xtc.specs.Documents.{label_of, label_in, tree_in, hits_in}
+use Rattle.xtc.specs.Documents.{get_asks, hits_in, label_in, label_of, put_asks, query_asks, tree_in}
+
+-- ---- what they ask, done by the sessions of a store that is opened as a tree, with a number and a limit
+
+-- to create the document, and to commit
+abbrev pub put_done : Tree → ℕ → ℕ → Name → Fragment → Progress StoreCall
+put_done t n limit name element = after_asked (start t n limit) (put_asks name element)
+
+-- to find the document, and to dump it
+abbrev pub get_done : Tree → ℕ → ℕ → Name → Progress StoreCall
+get_done t n limit name = after_asked (start t n limit) (get_asks (start t n limit) name)
+
+-- to find the document, and in it what the path finds
+abbrev pub query_done : Tree → ℕ → ℕ → Name → XPath → Progress StoreCall
+query_done t n limit name path = after_asked (start t n limit) (query_asks (start t n limit) name path)
+
+-- ---- what the tree says of it
 
 -- the label that a reply of the tree shows
 abbrev pub label_shown : Reply → Option Label

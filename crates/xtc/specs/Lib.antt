@@ -4,6 +4,7 @@ pub mod Book
 pub mod StoreMachine
 pub mod Statuses
 pub mod Checkpoints
+pub mod Outside
 pub mod TopCall
 pub mod Promises
 pub mod Commands

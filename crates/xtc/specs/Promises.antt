@@ -1,6 +1,7 @@
 -- What is promised of a run over a store that was opened, read off what the program's call says of it (README.md, "What is promised").
 use Rattle.std.specs.Prelude.{◌≡◌, ℕ, ◌+◌, List, ◌∷◌, ◌++◌, take, Option, Some, None}
 use Rattle.outside_traits.specs.Bytes.{TookPrefix}
+use Rattle.outside_traits.specs.DiskPairs.{Pair}
 use Rattle.call_contract.specs.Books.{Book}
 use Rattle.call_contract.specs.Deadlocks.{DeadlockIsTrue}
 use Rattle.call_contract.specs.Books as books
@@ -14,6 +15,8 @@ use Rattle.command_words.specs.Commands.{Command, run, workers, put, get, query,
 use Rattle.xtc.specs.Documents.{text_of}
 use Rattle.xtc.specs.TopCall.{Outcome, OpenedStoreLeaves, OpenAfterAsked, OpenAfterCommits, OpenAfterLines, IsWorkersOutput, WroteWhole, durable_at}
 use Rattle.xtc.specs.declared.status.Status.{Status}
+
+-- ---- of one run
 
 -- so it is of the book: of a script's lines, of what was asked in turn, or of what workers did
 abbrev pub OfBook : (limit : ℕ) (c : Option Command) (every : ℕ) (status : Status) (o : Outcome) → OpenedStoreLeaves limit c every status o → (Book StoreCall → Type 0) → Type 0
@@ -58,3 +61,21 @@ IsOutput limit None every status o left = Unit {0}
 abbrev pub ShowTrueCycles : Tree → ℕ → ℕ → Book StoreCall → Type 0
 ShowTrueCycles t n limit book = (before : Book StoreCall) (e : Noted StoreCall) (behind : Book StoreCall) → book ≡ before ++ e ∷ behind
     → DeadlockIsTrue store_meaning (books.last store_meaning (start t n limit) before) e
+
+-- ---- of each run
+
+-- so it is of each run over a store that was opened
+abbrev pub EachOpened : ((limit : ℕ) (c : Option Command) (every : ℕ) (status : Status) (o : Outcome) → OpenedStoreLeaves limit c every status o → Type 0) → Type 0
+EachOpened Q = (limit : ℕ) (c : Option Command) (every : ℕ) (status : Status) (o : Outcome) (left : OpenedStoreLeaves limit c every status o) → Q limit c every status o left
+
+-- so it is of the book of each, from the tree and the number that the store was opened as, and with its limit
+abbrev pub EachBook : (Tree → ℕ → ℕ → Book StoreCall → Type 0) → Type 0
+EachBook Q = EachOpened (λ limit c every status o left. OfBook limit c every status o left (Q left.tree left.number limit))
+
+-- so it is of what each has done, where `Held` are files that hold every commit that was answered
+abbrev pub EachAnswered : ((List ℕ → List ℕ → Type 0) → Outcome → Type 0) → Type 0
+EachAnswered Q = EachOpened (λ limit c every status o left. OfAnswered limit c every status o left (λ Held. Q Held o))
+
+-- so it is of the files at the opening and of what each has done, where `Held` are files that hold any of the first commits
+abbrev pub EachPrefix : ((List ℕ → List ℕ → Type 0) → Pair → Outcome → Type 0) → Type 0
+EachPrefix Q = EachOpened (λ limit c every status o left. OfPrefix limit c every status o left (λ Held. Q Held left.opening o))

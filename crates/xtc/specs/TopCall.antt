@@ -1,8 +1,12 @@
 -- What a run of the program leaves, by its status (docs/MANUAL.md, "Statuses").
-use Rattle.std.specs.Prelude.{◌≡◌, ◌≤◌, ◌⊎◌, ℕ, ◌+◌, List, [], ◌∷◌, ◌++◌, length, take, Bool, false, true, IsTrue, Option, Some, None, Result, Ok, Err, IfSome}
+use Rattle.std.specs.Prelude.{◌≡◌, ◌≤◌, ◌⊎◌, ℕ, ◌+◌, ◌-◌, List, [], ◌∷◌, ◌++◌, length, take, Bool, false, true, IsTrue, Option, Some, None, Result, Ok, Err, IfSome, String}
+use Rattle.std.specs.declared.alloc.Global.{Global}
 use Rattle.outside_kinds.specs.Bounds.{input_limit}
 use Rattle.outside_traits.specs.Bytes.{Took, TookPrefix}
 use Rattle.outside_traits.specs.DiskPairs.{Pair, PairsHave, PairsLeave}
+use Rattle.outside_traits.specs.declared.disk.Disk.{Ghosts as DiskOf}
+use Rattle.node_records.specs.declared.open_error.Place.{Place}
+use Rattle.paged_recovery.specs.Openings.{RefusesPages}
 use Rattle.tree_model.specs.Tree.{Tree}
 use Rattle.store_contents.specs.StoredTrees.{StandFor, StoodFor, LeaveWhatStood}
 use Rattle.script_runs.specs.Lines.{ended, lines_of, first_long, AllShort, line_limit}
@@ -23,19 +27,21 @@ use Rattle.session_driver.specs.Progress.{Progress}
 use Rattle.session_driver.specs.Waiters.{AllStopped}
 use Rattle.store_calls.specs.StoreCalls.{store_meaning, IsValidStoreCall}
 use Rattle.xtc.specs.Book.{script_of, after_asked, replies_text}
-use Rattle.command_words.specs.Commands.{Command, run, workers, put, get, query, gen}
+use Rattle.command_words.specs.Commands.{Command, checkpoint_of, command_of, run, workers, put, get, query, gen}
 use Rattle.workers_script.specs.Entries.{entries_of}
 use Rattle.workers_script.specs.Limits.{too_long}
 use Rattle.workers_replies.specs.Shown.{lines_in, IsShownBy}
 use Rattle.workers_text.specs.Sessions.{DoesSome}
 use Rattle.workers_text.specs.WorkersText.{asked_of}
-use Rattle.xtc.specs.Checkpoints.{AreMade, tries}
+use Rattle.xtc.specs.Checkpoints.{AreMade, every_of, may_lose_by, tries}
 use Rattle.xtc.specs.Commands.{may_commit, reads_input}
 use Rattle.durable_sessions.specs.InTurn as turn
 use Rattle.durable_sessions.specs.declared.reasons.Reason.{Reason}
 use Rattle.xtc.specs.Documents.{asks_of, end_of, stops_at, text_of}
+use Rattle.xtc.specs.Outside.{ReadSome, Input, Output, Through, disks_left, disks_of}
 use Rattle.xtc.specs.declared.status.Status.{Status}
 use Rattle.xtc.specs.declared.status.Status.TheVariants.{Done, Usage, LineTooLong, Damaged, ReadFault, WriteFault, DiskFault, NoMemory, NotJsonMl, DocumentRefused}
+use Rattle.xtc.specs.declared.top_call.Finish.{Finish}
 
 -- the greatest number that a commit may have
 abbrev pub tx_limit : ℕ
@@ -51,6 +57,18 @@ pub record Outcome : Type 0 where
   pub now : Option (List ℕ)
   pub old : Pair
   pub new : Pair
+
+-- what a run has done that read these bytes, by what is told of its source and its sink, and by the files
+abbrev pub outcome_of : Through Input → Through Output → Pair → Pair → List ℕ → Outcome
+outcome_of input output old new read = record {
+  read = read;
+  asked = input.now.asked - input.before.given;
+  left = input.now.left;
+  before = output.before.held;
+  now = output.now.held;
+  old = old;
+  new = new;
+}
 
 -- ---- the files
 
@@ -329,6 +347,20 @@ Leaves limit command every DiskFault o = UnopenedStoreLeaves o ⊎ OpenedStoreLe
 Leaves limit command every NoMemory o = UnopenedStoreLeaves o ⊎ OpenedStoreLeaves limit command every NoMemory o
 Leaves limit command every status o = OpenedStoreLeaves limit command every status o
 
+-- what a run of these words leaves, where the disks that it is given are known
+abbrev pub XtcLeaves : {J P : Type 0} → DiskOf J → DiskOf P → List (String Global) → J → P → Finish J P → Through Input → Through Output → Type 0
+XtcLeaves j p words journal pages finish input output = ReadSome input (λ read. IsTrue j.is_known → IsTrue p.is_known
+    → Leaves tx_limit (command_of words) (every_of (checkpoint_of words)) finish.status
+    (outcome_of input output (disks_of j p journal pages).files (disks_left j p finish).files read))
+
+-- files that were found damaged at this place are synced, and as they were, where both disks are known
+abbrev pub LeavesDamaged : {J P : Type 0} → DiskOf J → DiskOf P → J → P → Finish J P → Place → Type 0
+LeavesDamaged j p journal pages finish place = IsTrue j.is_known → IsTrue p.is_known → RefusesPages (disks_of j p journal pages).files (disks_left j p finish).files place
+
+-- nothing was begun: that is said of the words, or memory was wanting, and the disks are those that were given
+abbrev pub IsUnstarted : {J P : Type 0} → J → P → Finish J P → Type 0
+IsUnstarted journal pages finish = ((finish.status ≡ Usage) ⊎ (finish.status ≡ NoMemory)) × (finish.journal ≡ journal) × (finish.pages ≡ pages)
+
 -- so it is where nothing is read; `lost`: damage may have come behind the opening
 abbrev pub IsUnread : Bool → Status → Type 0 → Type 0
 IsUnread lost Usage P = P
@@ -340,6 +372,11 @@ pub record TookInput (command : Option Command) (lost : Bool) (status : Status) 
   pub whole : IsTrue (reads_input command) → status ≡ Done → IfSome left_now (λ rest. rest ≡ [])
   pub unread : IsUnread lost status ((left_now ≡ left) × (given_now ≡ given))
   pub bound : given_now ≤ given + input_limit
+
+-- the same of a run of these words, by what is told of its source
+abbrev pub RunTookInput : List (String Global) → Bool → Status → Through Input → Type 0
+RunTookInput words pages_known status input =
+    TookInput (command_of words) (may_lose_by words pages_known) status input.before.left input.now.left input.before.given input.now.given
 
 -- so it is in a command that isn't done line by line
 abbrev pub OfDocument : Option Command → Type 0 → Type 0

@@ -1,12 +1,11 @@
 // Checkpoints of a store whose sessions go on.
 ghost use Rattle.std.specs.Prelude.{◌≡◌, Bool, Err, IsTrue, None, OnOk};
-ghost use Rattle.checkpoint.specs.Renewals.{MayRenew, pages_of};
+ghost use Rattle.checkpoint.specs.Renewals.{MayRenew};
 ghost use Rattle.call_contract.specs.Sessions.{commits_in};
 ghost use Rattle.call_contract.specs.States.{State};
 ghost use Rattle.command_lines.specs.declared.command.StoreCall.{StoreCall};
-ghost use Rattle.script_runs.specs.Counts.{DisksCountedWhere};
 ghost use Rattle.xtc.specs.StoreMachine.{HasAnswered, HasPages, HasRested, Stands, faults_of, file_of};
-ghost use Rattle.xtc.specs.inside.Renewing.{DamagedWhere, IsMadeWhere, LeftAsBefore, LeftStanding, StandFor, counts_in, files_of, is_due, is_due_at_end, kept};
+ghost use Rattle.xtc.specs.inside.Renewing.{DamagedWhere, KeepsStanding, LeftAsBefore, MadeFromEach, StoreCounts, is_due_at_end, is_due_behind, kept};
 
 use crate::status::Status;
 use crate::store::disk_of;
@@ -78,7 +77,7 @@ impl<P: Disk + Drop> Checkpoints<P> {
     /// Whether the last commit is one behind which a checkpoint is made, and none was tried there.
     pub fn is_due(&self, core: &Core<StoreOp, Base<P>>) -> bool
         requires opened { self.now.opened ≡ core.now.number }
-        ensures { result ≡ is_due self.now (commits_in core.now.book) }
+        ensures { result ≡ is_due_behind self.now core.now }
     {
         let commits = core.number() - self.opened;
         self.every != 0 && self.seen < commits && commits % self.every == 0
@@ -103,13 +102,13 @@ impl<P: Disk + Drop> Checkpoints<P> {
         requires answered { HasAnswered P.is_known P.history (kept core.old journal.old self.old) }
         ensures rested { OnOk result (HasRested P.is_known P.history (kept core.new journal.new self.new)) }
         ensures every { self.new.every ≡ self.old.every }
-        ensures left { LeftAsBefore (is_due self.old (commits_in core.old.book)) core.old core.new journal.old journal.new self.old.pages self.new.pages }
-        ensures damaged { DamagedWhere (is_due self.old (commits_in core.old.book)) P.is_known result }
-        ensures files { IsTrue J.is_known → IsTrue P.is_known → (s : State StoreCall) → Stands P.is_known P.history core.old s
-            → StandFor s (files_of P.history (kept core.old journal.old self.old))
-            → LeftStanding s (files_of P.history (kept core.old journal.old self.old)) (files_of P.history (kept core.new journal.new self.new)) result }
-        ensures counts { DisksCountedWhere (result ≡ Err OpenError.DiskFault)
-            (counts_in P.faults (kept core.old journal.old self.old)) (counts_in P.faults (kept core.new journal.new self.new)) }
+        ensures left { LeftAsBefore (is_due_behind self.old core.old)
+            core.old core.new journal.old journal.new self.old.pages self.new.pages }
+        ensures damaged { DamagedWhere (is_due_behind self.old core.old) P.is_known result }
+        ensures files { KeepsStanding J.Disk P.Disk
+            (kept core.old journal.old self.old) (kept core.new journal.new self.new) result }
+        ensures counts { StoreCounts P.faults (result ≡ Err OpenError.DiskFault)
+            (kept core.old journal.old self.old) (kept core.new journal.new self.new) }
     {
         let due = self.is_due(core);
         self.seen = core.number() - self.opened;
@@ -127,18 +126,17 @@ impl<P: Disk + Drop> Checkpoints<P> {
         requires inside { self.old.pages ≡ None }
         requires opened { self.old.opened ≡ core.old.number }
         requires stands { IsTrue P.is_known → (s : State StoreCall) × Stands P.is_known P.history core.old s }
-        ensures made { OnOk result (IsTrue P.is_known → (s : State StoreCall) → Stands P.is_known P.history core.old s
-            → IsMadeWhere (is_due_at_end self.old (commits_in core.old.book)) s (pages_of P.history core.old.base) (pages_of P.history core.new.base)) }
+        ensures made { OnOk result (MadeFromEach P.Disk
+            (is_due_at_end self.old (commits_in core.old.book)) core.old core.new) }
         ensures again { OnOk result (MayRenew P.is_known P.history core.new journal.new) }
         ensures inside { OnOk result (self.new.pages ≡ None) }
         ensures left { LeftAsBefore (is_due_at_end self.old (commits_in core.old.book))
             core.old core.new journal.old journal.new self.old.pages self.new.pages }
         ensures damaged { DamagedWhere (is_due_at_end self.old (commits_in core.old.book)) P.is_known result }
-        ensures files { IsTrue J.is_known → IsTrue P.is_known → (s : State StoreCall) → Stands P.is_known P.history core.old s
-            → StandFor s (files_of P.history (kept core.old journal.old self.old))
-            → LeftStanding s (files_of P.history (kept core.old journal.old self.old)) (files_of P.history (kept core.new journal.new self.new)) result }
-        ensures counts { DisksCountedWhere (result ≡ Err OpenError.DiskFault)
-            (counts_in P.faults (kept core.old journal.old self.old)) (counts_in P.faults (kept core.new journal.new self.new)) }
+        ensures files { KeepsStanding J.Disk P.Disk
+            (kept core.old journal.old self.old) (kept core.new journal.new self.new) result }
+        ensures counts { StoreCounts P.faults (result ≡ Err OpenError.DiskFault)
+            (kept core.old journal.old self.old) (kept core.new journal.new self.new) }
     {
         let due = self.is_due_at_end(core);
         self.make_where(alloc, due, core, journal)
@@ -156,17 +154,15 @@ impl<P: Disk + Drop> Checkpoints<P> {
         requires inside { self.old.pages ≡ None }
         requires stands { IsTrue P.is_known → (s : State StoreCall) × Stands P.is_known P.history core.old s }
         ensures again { OnOk result (MayRenew P.is_known P.history core.new journal.new) }
-        ensures made { OnOk result (IsTrue P.is_known → (s : State StoreCall) → Stands P.is_known P.history core.old s
-            → IsMadeWhere due s (pages_of P.history core.old.base) (pages_of P.history core.new.base)) }
+        ensures made { OnOk result (MadeFromEach P.Disk due core.old core.new) }
         ensures others { self.new ≡ record self.old { pages = self.new.pages } }
         ensures inside { OnOk result (self.new.pages ≡ None) }
         ensures left { LeftAsBefore due core.old core.new journal.old journal.new self.old.pages self.new.pages }
         ensures damaged { DamagedWhere due P.is_known result }
-        ensures files { IsTrue J.is_known → IsTrue P.is_known → (s : State StoreCall) → Stands P.is_known P.history core.old s
-            → StandFor s (files_of P.history (kept core.old journal.old self.old))
-            → LeftStanding s (files_of P.history (kept core.old journal.old self.old)) (files_of P.history (kept core.new journal.new self.new)) result }
-        ensures counts { DisksCountedWhere (result ≡ Err OpenError.DiskFault)
-            (counts_in P.faults (kept core.old journal.old self.old)) (counts_in P.faults (kept core.new journal.new self.new)) }
+        ensures files { KeepsStanding J.Disk P.Disk
+            (kept core.old journal.old self.old) (kept core.new journal.new self.new) result }
+        ensures counts { StoreCounts P.faults (result ≡ Err OpenError.DiskFault)
+            (kept core.old journal.old self.old) (kept core.new journal.new self.new) }
     {
         if !due {
             return Ok(());

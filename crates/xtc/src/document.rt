@@ -1,29 +1,21 @@
 // The command that makes a document, over a store that was opened.
-ghost use Rattle.std.specs.Prelude.{◌≡◌, ◌≢◌, ◌+◌, ◌≤◌, ℕ, List, [], length, None, Ok, Err, IfOk, IfErr, OnOk, IfSome};
-ghost use Rattle.outside_traits.specs.Bytes.{Gave};
-ghost use Rattle.outside_traits.specs.DiskPairs.{pair_of};
+ghost use Rattle.std.specs.Prelude.{◌≡◌, ◌≢◌, [], Ok, Err, IfOk, IfErr, OnOk, IfSome};
 ghost use Rattle.tree_model.specs.Fragments.{IsValid, plain};
-ghost use Rattle.tree_model.specs.Tree.{Tree};
-ghost use Rattle.node_seq.specs.Trees.{StandsFor};
 ghost use Rattle.paged_recovery.specs.Openings.{TakesBehind};
-ghost use Rattle.script_runs.specs.Counts.{CountedWhere, DisksCountedWhere};
-ghost use Rattle.script_runs.specs.Whole.{piece};
-ghost use Rattle.call_contract.specs.States.{State, start};
-ghost use Rattle.command_lines.specs.declared.command.StoreCall.{StoreCall};
+ghost use Rattle.script_runs.specs.Counts.{CountedWhere};
 ghost use Rattle.command_lines.specs.ValidCommands.{IsValidWhat};
 ghost use Rattle.command_lines.specs.declared.command.What.TheVariants.{Call};
 ghost use Rattle.session_driver.specs.Lines.{IsValidDoing};
 ghost use Rattle.session_driver.specs.declared.doing.Doing.TheVariants as asked;
-ghost use Rattle.store_calls.specs.StoreCalls.{IsValidStoreCall, store_meaning};
+ghost use Rattle.store_calls.specs.StoreCalls.{IsValidStoreCall};
 ghost use Rattle.durable_sessions.specs.Asked.{counts_of, TakesNext};
-ghost use Rattle.durable_sessions.specs.Standing.{Stands};
 ghost use Rattle.jsonml_io.specs.declared.fragment_error.FragmentError.TheVariants as fragment_error;
 ghost use Rattle.command_words.specs.Commands.{put as put_command};
 ghost use Rattle.xtc.specs.Documents.{element_in, put_asks};
-ghost use Rattle.xtc.specs.TopCall.{IsWhole, WroteWhole, tx_limit, whole_limit};
-ghost use Rattle.xtc.specs.inside.Asking.{all_asks, AreValidAsks, DocumentDone, IfJudged, InputDone, IsReadElement, IsStop, IsQuiet, IsUnwritten, IsWriteEnd};
-ghost use Rattle.xtc.specs.StoreMachine.{pages_of, told};
-ghost use Rattle.xtc.specs.inside.CommandRuns.{RunsCommand, disks_of, input_of, output_of};
+ghost use Rattle.xtc.specs.Outside.{ReadSome, read_from, written_to};
+ghost use Rattle.xtc.specs.TopCall.{WroteWhole};
+ghost use Rattle.xtc.specs.inside.Asking.{all_asks, AreValidAsks, CountsDiskFault, EachState, FromOpening, IfJudged, IsReadElement, IsStop, IsQuiet, IsUnwritten, IsWriteEnd, PutsElement, PutsInput, counts_with};
+ghost use Rattle.xtc.specs.inside.CommandRuns.{RunsWithout};
 
 use crate::answers::label_line;
 use crate::status::Status;
@@ -57,12 +49,8 @@ pub fn run_put<S: Source, K: Sink, J: Disk, P: Disk + Drop>(
     store: OpenStore<J, P>,
 ) -> Finish<J, P>
     requires next { TakesBehind store.journal store.number }
-    ensures { (every : ℕ) → RunsCommand J.is_known P.is_known (told P.is_known P.history store.base) store.number (put_command name.now) every result.status
-        (input_of S.left S.given S.asked S.faults source.old)
-        (input_of S.left S.given S.asked S.faults source.new)
-        (output_of K.held K.faults sink.old) (output_of K.held K.faults sink.new)
-        (disks_of (pair_of store.journal.history (pages_of P.history store.base)) store.journal.faults (P.faults store.base.base.disk))
-        (disks_of (pair_of (J.history result.journal) (P.history result.pages)) (J.faults result.journal) (P.faults result.pages)) }
+    ensures { RunsWithout J.Disk P.Disk store (put_command name.now) result
+        (read_from S.Source source.old source.new) (written_to K.Sink sink.old sink.new) }
 {
     let OpenStore {
         base,
@@ -96,16 +84,14 @@ fn put_over<S: Source, B: SessionBase, J: Disk>(
     journal: &mut Journal<J>,
 ) -> Over<B>
     requires next { TakesBehind journal.old number }
-    ensures done { (read : List ℕ) × Gave (S.left source.old) (S.left source.new) read × (S.given source.new ≡ S.given source.old + length read)
-        × (length read ≤ whole_limit + piece) × ((t : Tree) → StandsFor (B.contents base) t
-        → InputDone J.is_known (start t number tx_limit) (put_command name.now) read (IsWhole (S.left source.new) read)
-        journal.old.history journal.new.history (λ text. text.items) result.text) }
+    ensures done { PutsInput (FromOpening (B.contents base) number) J.Disk name.now
+        (read_from S.Source source.old source.new) journal.old journal.new result.text }
     ensures whole { OnOk result.text (IfSome (S.left source.new) (λ rest. rest ≡ [])) }
     ensures unwritten { IfErr result.text IsUnwritten }
     ensures base { B.stays base result.base }
     ensures read { CountedWhere (result.text ≡ Err Status.ReadFault) (S.faults source.old) (S.faults source.new) }
-    ensures counts { DisksCountedWhere (result.text ≡ Err Status.DiskFault)
-        (record { journal = journal.old.faults; pages = B.count base }) (record { journal = journal.new.faults; pages = B.count result.base }) }
+    ensures counts { CountsDiskFault result.text (counts_with journal.old (B.count base))
+        (counts_with journal.new (B.count result.base)) }
 {
     match Core::new(alloc, base, number, TX_LIMIT) {
         Ok(mut core) => {
@@ -131,15 +117,14 @@ fn put_input<S: Source, B: SessionBase, J: Disk>(
     journal: &mut Journal<J>,
 ) -> Result<Vec<u8>, Status>
     requires takes { TakesNext core.old journal.old }
-    ensures done { (read : List ℕ) × Gave (S.left source.old) (S.left source.new) read × (S.given source.new ≡ S.given source.old + length read)
-        × (length read ≤ whole_limit + piece) × ((s : State StoreCall) → Stands store_meaning B.contents core.old s
-        → InputDone J.is_known s (put_command name.now) read (IsWhole (S.left source.new) read)
-        journal.old.history journal.new.history (λ text. text.items) result) }
+    ensures done { PutsInput (EachState B.contents core.old) J.Disk name.now
+        (read_from S.Source source.old source.new) journal.old journal.new result }
     ensures whole { OnOk result (IfSome (S.left source.new) (λ rest. rest ≡ [])) }
     ensures unwritten { IfErr result IsUnwritten }
     ensures base { B.stays core.old.base core.new.base }
     ensures read { CountedWhere (result ≡ Err Status.ReadFault) (S.faults source.old) (S.faults source.new) }
-    ensures counts { DisksCountedWhere (result ≡ Err Status.DiskFault) (counts_of B.count core.old journal.old) (counts_of B.count core.new journal.new) }
+    ensures counts { CountsDiskFault result (counts_of B.count core.old journal.old)
+        (counts_of B.count core.new journal.new) }
 {
     let element = read_element(alloc, source)?;
     put(alloc, core, journal, name, element)
@@ -147,8 +132,8 @@ fn put_input<S: Source, B: SessionBase, J: Disk>(
 
 /// The element that the whole input is.
 fn read_element<S: Source>(alloc: Global, source: &mut S) -> Result<Fragment, Status>
-    ensures read { (read : List ℕ) × Gave (S.left source.old) (S.left source.new) read
-        × (S.given source.new ≡ S.given source.old + length read) × IsReadElement read result }
+    ensures read { ReadSome (read_from S.Source source.old source.new)
+        (λ read. IsReadElement read result) }
     ensures valid { IfOk result (λ element. IsValid (plain element)) }
     ensures whole { IfJudged result (IfSome (S.left source.new) (λ rest. rest ≡ [])) }
     ensures cause { CountedWhere (result ≡ Err Status.ReadFault) (S.faults source.old) (S.faults source.new) }
@@ -182,12 +167,12 @@ fn put<B: SessionBase, J: Disk>(
 ) -> Result<Vec<u8>, Status>
     requires takes { TakesNext core.old journal.old }
     requires valid { IsValid (plain element) }
-    ensures done { (s : State StoreCall) → Stands store_meaning B.contents core.old s → (read : List ℕ) → element_in read ≡ Ok element
-        → length read ≤ whole_limit
-        → DocumentDone J.is_known s (put_command name.now) read journal.old.history journal.new.history (λ text. text.items) result }
+    ensures done { PutsElement B.contents J.Disk name.now element core.old
+        journal.old journal.new result }
     ensures stops { IfErr result IsStop }
     ensures base { B.stays core.old.base core.new.base }
-    ensures counts { DisksCountedWhere (result ≡ Err Status.DiskFault) (counts_of B.count core.old journal.old) (counts_of B.count core.new journal.new) }
+    ensures counts { CountsDiskFault result (counts_of B.count core.old journal.old)
+        (counts_of B.count core.new journal.new) }
 {
     let doings = put_doings(alloc, name, element)?;
     let mut replies = Vec::new(alloc);

@@ -1,37 +1,31 @@
 // The command that runs the generator's script over a store that was opened, and writes what is counted of its replies.
-ghost use Rattle.std.specs.Prelude.{◌≡◌, ◌≤◌, ◌&&◌, ◌++◌, ◌∷◌, [], false, not, Err, IfOk, IfErr, IsTrue, OnOk};
-ghost use Rattle.outside_traits.specs.DiskPairs.{pair_of};
+ghost use Rattle.std.specs.Prelude.{◌≡◌, ◌≤◌, ◌&&◌, ◌++◌, ◌∷◌, [], not, Err, IfOk, IfErr, IsTrue, OnOk};
 ghost use Rattle.outside_traits.specs.Faults.{HasCause};
 ghost use Rattle.outside_traits.specs.Moments.{IsAllSynced};
 ghost use Rattle.node_seq.specs.Trees.{OnTree};
 ghost use Rattle.paged_recovery.specs.Openings.{TakesBehind};
 ghost use Rattle.checkpoint.specs.Bases.{contents_of};
-ghost use Rattle.call_contract.specs.States.{State};
-ghost use Rattle.command_lines.specs.declared.command.StoreCall.{StoreCall};
 ghost use Rattle.command_words.specs.Commands.{gen as gen_command};
 ghost use Rattle.workload_gen.specs.LineTexts.{line_text};
 ghost use Rattle.workload_gen.specs.Summaries.{after_line, summary_text};
 ghost use Rattle.durable_sessions.specs.Asked.{GrowsByOne, counts_of, TakesNext};
-ghost use Rattle.durable_sessions.specs.InTurn.{AskedInTurn};
-ghost use Rattle.durable_sessions.specs.Reasons.{limit_of};
-ghost use Rattle.durable_sessions.specs.Standing.{Stands};
 ghost use Rattle.script_runs.specs.Counts.{DisksCountedWhere};
-ghost use Rattle.store_calls.specs.StoreCalls.{IsValidStoreCall, store_meaning};
 ghost use Rattle.xtc.specs.Book.{IsValidLine, after_asked};
 ghost use Rattle.xtc.specs.Checkpoints.{is_positive, may_lose};
 ghost use Rattle.xtc.specs.Documents.{has_documents};
 ghost use Rattle.xtc.specs.Generated.{generated_line};
 ghost use Rattle.xtc.specs.ReadLines.{line_in};
 ghost use Rattle.xtc.specs.ScriptLine.{line_of};
-ghost use Rattle.xtc.specs.StoreMachine.{HasRested, faults_of, file_in, file_of, pages_of, told};
-ghost use Rattle.xtc.specs.inside.Asking.{IsQuiet};
-ghost use Rattle.xtc.specs.inside.CommandRuns.{HasTree, Input, RunsCommand, disks_of, output_of};
-ghost use Rattle.xtc.specs.inside.Counting.{AskedLine, FromState, GoesOn, IsStopIf, LeftPages, RanLines};
-ghost use Rattle.xtc.specs.inside.Generating.{DoneOverFiles, FromTree, opened_with};
-ghost use Rattle.xtc.specs.inside.Renewing.{ReadsGroups, counts_in, files_of, kept};
+ghost use Rattle.xtc.specs.Outside.{Input, unread, written_to};
+ghost use Rattle.xtc.specs.StoreMachine.{HasRested, file_of, pages_of, told};
+ghost use Rattle.xtc.specs.inside.Asking.{CountsDiskFault, EachState, IsQuiet};
+ghost use Rattle.xtc.specs.inside.CommandRuns.{HasTree, RunsOver};
+ghost use Rattle.xtc.specs.inside.Counting.{AsksLine, DoesInTurn, GoesOn, IsStopIf, HasLeftPages, LeftPages, RunsLines};
+ghost use Rattle.xtc.specs.inside.Generating.{GeneratesIn, GeneratesOver, RunsGenerated, counts_behind, opened_with};
+ghost use Rattle.xtc.specs.inside.Renewing.{ReadsGroups, StoreCounts, kept};
 ghost use Rattle.xtc.specs.inside.Showing.{IsHalt};
 ghost use Rattle.xtc.specs.inside.Stores.{Counts};
-ghost use Rattle.xtc.specs.inside.Working.{IsNew};
+ghost use Rattle.xtc.specs.inside.Working.{IsNew, counts_beside};
 
 use crate::checkpoints::{Checkpoints, DoneOver};
 use crate::document::written;
@@ -66,11 +60,8 @@ pub fn run_gen<K: Sink, J: Disk, P: Disk + Drop>(
     requires next { TakesBehind store.journal store.number }
     requires synced { IsTrue P.is_known → IsAllSynced (pages_of P.history store.base) }
     requires tree { IsTrue P.is_known → HasTree (told P.is_known P.history store.base) }
-    ensures { (input : Input) → RunsCommand J.is_known P.is_known (told P.is_known P.history store.base) store.number
-        (gen_command seed count) every result.status input input
-        (output_of K.held K.faults sink.old) (output_of K.held K.faults sink.new)
-        (disks_of (pair_of store.journal.history (pages_of P.history store.base)) store.journal.faults (P.faults store.base.base.disk))
-        (disks_of (pair_of (J.history result.journal) (P.history result.pages)) (J.faults result.journal) (P.faults result.pages)) }
+    ensures { (input : Input) → RunsOver J.Disk P.Disk store (gen_command seed count) every result
+        (unread input) (written_to K.Sink sink.old sink.new) }
 {
     let OpenStore {
         base,
@@ -106,15 +97,13 @@ fn generate_over<J: Disk, P: Disk + Drop>(
 ) -> DoneOver<P>
     requires count { (1 ≤ count) × (count ≤ 20000) }
     requires rested { HasRested P.is_known P.history (opened_with P.is_known P.history base number journal.old checkpoints) }
-    ensures done { FromTree J.is_known P.is_known (contents_of P.is_known P.history base) number
-        (pair_of journal.old.history (file_of P.history base checkpoints.pages))
-        (λ t. DoneOverFiles t number (gen_command seed count) checkpoints.every (pair_of journal.old.history (file_of P.history base checkpoints.pages))
-        (pair_of journal.new.history (file_of P.history result.base result.checkpoints.pages)) (λ text. text.items) result.text) }
+    ensures done { GeneratesOver J.Disk P.Disk seed count base number checkpoints
+        journal.old journal.new result }
     ensures stops { IfErr result.text (IsStopIf (is_positive checkpoints.every && not P.is_known)) }
     ensures pages { LeftPages P.is_known P.history checkpoints.every (file_of P.history base checkpoints.pages) result.base result.checkpoints.pages }
-    ensures counts { DisksCountedWhere (result.text ≡ Err Status.DiskFault)
-        (record { journal = journal.old.faults; pages = faults_of P.faults base checkpoints.pages })
-        (record { journal = journal.new.faults; pages = faults_of P.faults result.base result.checkpoints.pages }) }
+    ensures counts { CountsDiskFault result.text
+        (counts_beside P.faults journal.old base checkpoints)
+        (counts_behind P.faults journal.new result) }
 {
     let mut base = base;
     match has_documents(alloc, &mut base) {
@@ -172,16 +161,13 @@ fn generate_in<J: Disk, P: Disk + Drop>(
 ) -> DoneOver<P>
     requires count { (1 ≤ count) × (count ≤ 20000) }
     requires rested { HasRested P.is_known P.history (opened_with P.is_known P.history base number journal.old checkpoints) }
-    ensures done { FromTree J.is_known P.is_known (contents_of P.is_known P.history base) number
-        (pair_of journal.old.history (file_of P.history base checkpoints.pages))
-        (λ t. has_documents t ≡ false → DoneOverFiles t number (gen_command seed count) checkpoints.every
-        (pair_of journal.old.history (file_of P.history base checkpoints.pages))
-        (pair_of journal.new.history (file_of P.history result.base result.checkpoints.pages)) (λ text. text.items) result.text) }
+    ensures done { GeneratesIn J.Disk P.Disk seed count base number checkpoints
+        journal.old journal.new result }
     ensures stops { IfErr result.text (IsStopIf (is_positive checkpoints.every && not P.is_known)) }
     ensures pages { LeftPages P.is_known P.history checkpoints.every (file_of P.history base checkpoints.pages) result.base result.checkpoints.pages }
-    ensures counts { DisksCountedWhere (result.text ≡ Err Status.DiskFault)
-        (record { journal = journal.old.faults; pages = faults_of P.faults base checkpoints.pages })
-        (record { journal = journal.new.faults; pages = faults_of P.faults result.base result.checkpoints.pages }) }
+    ensures counts { CountsDiskFault result.text
+        (counts_beside P.faults journal.old base checkpoints)
+        (counts_behind P.faults journal.new result) }
 {
     match Core::new(alloc, base, number, TX_LIMIT) {
         Ok(mut core) => {
@@ -213,16 +199,13 @@ fn run_script<J: Disk, P: Disk + Drop>(
     requires count { (1 ≤ count) × (count ≤ 20000) }
     requires opened { IsNew (contents_of P.is_known P.history) core.old }
     requires rested { HasRested P.is_known P.history (kept core.old journal.old checkpoints.old) }
-    ensures done { FromTree J.is_known P.is_known (contents_of P.is_known P.history core.old.base) core.old.number
-        (files_of P.history (kept core.old journal.old checkpoints.old))
-        (λ t. has_documents t ≡ false → DoneOverFiles t core.old.number (gen_command seed count) checkpoints.old.every
-        (files_of P.history (kept core.old journal.old checkpoints.old)) (files_of P.history (kept core.new journal.new checkpoints.new))
-        (λ text. text.items) result) }
+    ensures done { RunsGenerated J.Disk P.Disk seed count
+        core.old core.new journal.old journal.new checkpoints.old checkpoints.new result }
     ensures stops { IfErr result (IsStopIf (is_positive checkpoints.old.every && not P.is_known)) }
-    ensures pages { LeftPages P.is_known P.history checkpoints.old.every
-        (file_in P.history (kept core.old journal.old checkpoints.old)) core.new.base checkpoints.new.pages }
-    ensures counts { DisksCountedWhere (result ≡ Err Status.DiskFault)
-        (counts_in P.faults (kept core.old journal.old checkpoints.old)) (counts_in P.faults (kept core.new journal.new checkpoints.new)) }
+    ensures pages { HasLeftPages P.Disk (kept core.old journal.old checkpoints.old)
+        (kept core.new journal.new checkpoints.new) }
+    ensures counts { StoreCounts P.faults (result ≡ Err Status.DiskFault)
+        (kept core.old journal.old checkpoints.old) (kept core.new journal.new checkpoints.new) }
 {
     let mut script = Script::new(seed, count);
     let mut summary = Summary::new(count);
@@ -250,15 +233,15 @@ fn run_lines<J: Disk, P: Disk + Drop>(
     summary: &mut Summary,
 ) -> Result<(), Status>
     requires rested { HasRested P.is_known P.history (kept core.old journal.old checkpoints.old) }
-    ensures ran { FromState J.is_known P.is_known P.history (kept core.old journal.old checkpoints.old) (λ s. RanLines P.is_known P.history s script.old
-        (kept core.old journal.old checkpoints.old) (kept core.new journal.new checkpoints.new) summary.old summary.new result) }
+    ensures ran { RunsLines J.Disk P.Disk script.old core.old core.new journal.old journal.new
+        checkpoints.old checkpoints.new summary.old summary.new result }
     ensures goes_on { OnOk result (GoesOn P.is_known P.history (kept core.old journal.old checkpoints.old) (kept core.new journal.new checkpoints.new)) }
     ensures reads { OnOk result (ReadsGroups J.is_known journal.new) }
     ensures stops { IfErr result (IsStopIf (is_positive checkpoints.old.every && not P.is_known)) }
-    ensures pages { LeftPages P.is_known P.history checkpoints.old.every
-        (file_in P.history (kept core.old journal.old checkpoints.old)) core.new.base checkpoints.new.pages }
-    ensures counts { DisksCountedWhere (result ≡ Err Status.DiskFault)
-        (counts_in P.faults (kept core.old journal.old checkpoints.old)) (counts_in P.faults (kept core.new journal.new checkpoints.new)) }
+    ensures pages { HasLeftPages P.Disk (kept core.old journal.old checkpoints.old)
+        (kept core.new journal.new checkpoints.new) }
+    ensures counts { StoreCounts P.faults (result ≡ Err Status.DiskFault)
+        (kept core.old journal.old checkpoints.old) (kept core.new journal.new checkpoints.new) }
 {
     let mut replies = Vec::new(alloc);
     while let Some(line) = script.next() {
@@ -282,14 +265,13 @@ fn run_line<B: SessionBase, J: Disk>(
     replies: &mut Vec<LineReply>,
 ) -> Result<(), Stop>
     requires takes { TakesNext core.old journal.old }
-    ensures asked { (s : State StoreCall) → Stands store_meaning B.contents core.old s
-        → AskedInTurn IsValidStoreCall store_meaning B.contents limit_of J.is_known s (generated_line line)
-        journal.old.history core.new journal.new.history [] replies.new.items result }
+    ensures asked { DoesInTurn B.contents J.Disk (generated_line line)
+        core.old core.new journal.old journal.new replies.new.items result }
     ensures counted { OnOk result (summary.new ≡ after_line summary.old line.step replies.new.items) }
     ensures takes { OnOk result (TakesNext core.new journal.new) }
     ensures grown { OnOk result (GrowsByOne core.old core.new) }
-    ensures book { OnOk result ((s : State StoreCall) → Stands store_meaning B.contents core.old s
-        → core.new.book ≡ core.old.book ++ (after_asked s (generated_line line)).book) }
+    ensures book { OnOk result (EachState B.contents core.old
+        (λ s. core.new.book ≡ core.old.book ++ (after_asked s (generated_line line)).book)) }
     ensures base { B.stays core.old.base core.new.base }
     ensures counts { DisksCountedWhere (result ≡ Err Stop.DiskFault) (counts_of B.count core.old journal.old) (counts_of B.count core.new journal.new) }
 {
@@ -312,12 +294,12 @@ fn ask_line<B: SessionBase, J: Disk>(
 ) -> Result<(), Halt>
     requires takes { TakesNext core.old journal.old }
     requires none { replies.old.items ≡ [] }
-    ensures asked { (s : State StoreCall) → Stands store_meaning B.contents core.old s → AskedLine B.contents J.is_known s (generated_line line)
-        journal.old.history core.new journal.new.history replies.new.items result }
+    ensures asked { AsksLine B.contents J.Disk (generated_line line)
+        core.old core.new journal.old journal.new replies.new.items result }
     ensures takes { OnOk result (TakesNext core.new journal.new) }
     ensures grown { OnOk result (GrowsByOne core.old core.new) }
-    ensures book { OnOk result ((s : State StoreCall) → Stands store_meaning B.contents core.old s
-        → core.new.book ≡ core.old.book ++ (after_asked s (generated_line line)).book) }
+    ensures book { OnOk result (EachState B.contents core.old
+        (λ s. core.new.book ≡ core.old.book ++ (after_asked s (generated_line line)).book)) }
     ensures base { B.stays core.old.base core.new.base }
     ensures counts { DisksCountedWhere (result ≡ Err Halt.DiskFault) (counts_of B.count core.old journal.old) (counts_of B.count core.new journal.new) }
 {

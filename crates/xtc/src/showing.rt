@@ -1,10 +1,7 @@
 // The commands that write something of the document with a name: `get` the whole of it, `query` what a path finds from it.
-ghost use Rattle.std.specs.Prelude.{◌≡◌, ◌≢◌, ◌++◌, ◌∷◌, ℕ, Bool, [], Err, IfOk, IfErr, OnOk};
-ghost use Rattle.outside_traits.specs.DiskPairs.{pair_of};
+ghost use Rattle.std.specs.Prelude.{◌≡◌, ◌≢◌, ◌++◌, ◌∷◌, ℕ, [], Err, IfOk, IfErr, OnOk};
 ghost use Rattle.outside_traits.specs.Faults.{HasCause};
-ghost use Rattle.outside_traits.specs.Moments.{History};
-ghost use Rattle.tree_model.specs.Tree.{Tree};
-ghost use Rattle.node_seq.specs.Trees.{OnTree, StandsFor};
+ghost use Rattle.node_seq.specs.Trees.{OnTree};
 ghost use Rattle.paged_recovery.specs.Openings.{TakesBehind};
 ghost use Rattle.call_contract.specs.States.{start};
 ghost use Rattle.command_lines.specs.ValidCommands.{IsValidWhat};
@@ -12,14 +9,14 @@ ghost use Rattle.command_lines.specs.declared.command.StoreCall.TheVariants.{Dom
 ghost use Rattle.command_lines.specs.declared.command.What.TheVariants.{Call};
 ghost use Rattle.tree_model.specs.declared.dom_call.DomCall.TheVariants.{Doc};
 ghost use Rattle.tree_model.specs.declared.reply.Reply.TheVariants as reply;
-ghost use Rattle.command_words.specs.Commands.{Command, get as get_command, query as query_command};
+ghost use Rattle.command_words.specs.Commands.{get as get_command, query as query_command};
 ghost use Rattle.store_calls.specs.StoreCalls.{IsValidStoreCall, store_meaning};
 ghost use Rattle.xtc.specs.Documents.{call_of};
-ghost use Rattle.xtc.specs.StoreMachine.{pages_of, told};
+ghost use Rattle.xtc.specs.Outside.{Input, unread, written_to};
 ghost use Rattle.xtc.specs.TopCall.{tx_limit};
-ghost use Rattle.xtc.specs.inside.Asking.{DocumentDone, IsStop};
-ghost use Rattle.xtc.specs.inside.CommandRuns.{Input, RunsCommand, disks_of, output_of};
-ghost use Rattle.xtc.specs.inside.Showing.{AddsAnswer, AreLinesOf, IsHalt, IsLawful, said_line, Shows};
+ghost use Rattle.xtc.specs.inside.Asking.{IsStop};
+ghost use Rattle.xtc.specs.inside.CommandRuns.{RunsWithout};
+ghost use Rattle.xtc.specs.inside.Showing.{AddsAnswer, AreLinesOf, IsHalt, IsLawful, ShowsAsked, ShowsBy, said_line};
 ghost use Rattle.xtc.specs.inside.Stores.{Counts};
 
 use crate::answers::{answer_line, label_in};
@@ -47,12 +44,8 @@ pub fn run_get<K: Sink, J: Disk, P: Disk + Drop>(
     store: OpenStore<J, P>,
 ) -> Finish<J, P>
     requires next { TakesBehind store.journal store.number }
-    ensures { (input : Input) (every : ℕ)
-        → RunsCommand J.is_known P.is_known (told P.is_known P.history store.base) store.number (get_command name.now) every result.status
-        input input
-        (output_of K.held K.faults sink.old) (output_of K.held K.faults sink.new)
-        (disks_of (pair_of store.journal.history (pages_of P.history store.base)) store.journal.faults (P.faults store.base.base.disk))
-        (disks_of (pair_of (J.history result.journal) (P.history result.pages)) (J.faults result.journal) (P.faults result.pages)) }
+    ensures { (input : Input) → RunsWithout J.Disk P.Disk store (get_command name.now) result
+        (unread input) (written_to K.Sink sink.old sink.new) }
 {
     let OpenStore {
         mut base,
@@ -72,12 +65,8 @@ pub fn run_query<K: Sink, J: Disk, P: Disk + Drop>(
     store: OpenStore<J, P>,
 ) -> Finish<J, P>
     requires next { TakesBehind store.journal store.number }
-    ensures { (input : Input) (every : ℕ)
-        → RunsCommand J.is_known P.is_known (told P.is_known P.history store.base) store.number (query_command name.now path.now) every result.status
-        input input
-        (output_of K.held K.faults sink.old) (output_of K.held K.faults sink.new)
-        (disks_of (pair_of store.journal.history (pages_of P.history store.base)) store.journal.faults (P.faults store.base.base.disk))
-        (disks_of (pair_of (J.history result.journal) (P.history result.pages)) (J.faults result.journal) (P.faults result.pages)) }
+    ensures { (input : Input) → RunsWithout J.Disk P.Disk store (query_command name.now path.now)
+        result (unread input) (written_to K.Sink sink.old sink.new) }
 {
     let OpenStore {
         mut base,
@@ -96,8 +85,7 @@ fn query_document<S: NodeRead>(
     seq: &mut S,
     number: u32,
 ) -> Result<Vec<u8>, Status>
-    ensures done { (is_known : Bool) (journal : History) (t : Tree) → StandsFor (S.contents seq.old) t
-        → DocumentDone is_known (start t number tx_limit) (query_command name.now path.now) [] journal journal (λ text. text.items) result }
+    ensures done { ShowsBy (S.contents seq.old) number (query_command name.now path.now) result }
     ensures stops { IfErr result IsStop }
     ensures unchanged { S.unchanged seq.old seq.new }
     ensures counts { Counts (result ≡ Err Status.DiskFault) (S.count seq.old) (S.count seq.new) }
@@ -116,9 +104,7 @@ fn show_document<S: NodeRead>(
     number: u32,
 ) -> Result<Vec<u8>, Status>
     requires lawful { IsLawful question.now }
-    ensures done { (is_known : Bool) (journal : History) (c : Command) (t : Tree) → StandsFor (S.contents seq.old) t
-        → Shows c (start t number tx_limit) name.now question.now
-        → DocumentDone is_known (start t number tx_limit) c [] journal journal (λ text. text.items) result }
+    ensures done { ShowsAsked (S.contents seq.old) number name.now question.now result }
     ensures stops { IfErr result IsStop }
     ensures unchanged { S.unchanged seq.old seq.new }
     ensures counts { Counts (result ≡ Err Status.DiskFault) (S.count seq.old) (S.count seq.new) }

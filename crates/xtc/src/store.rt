@@ -1,22 +1,17 @@
 // A store's sessions over its two disks, as a machine that does the lines of a script.
 ghost use Rattle.std.specs.Prelude.{◌≡◌, ◌++◌, ◌∷◌, [], Err, IsTrue, OnOk};
-ghost use Rattle.call_contract.specs.States.{State};
 ghost use Rattle.command_lines.specs.Replies.{reply_text};
-ghost use Rattle.command_lines.specs.declared.command.StoreCall.{StoreCall};
 ghost use Rattle.command_lines.specs.declared.line_reply.LineReply.TheVariants as line_reply;
-ghost use Rattle.durable_sessions.specs.Asked.{asked_from, counts_of, GrowsByOne, LeadsTo, LeavesEither, TakesNext};
-ghost use Rattle.durable_sessions.specs.Standing.{Stands};
+ghost use Rattle.durable_sessions.specs.Asked.{counts_of, GrowsByOne, LeavesEither, TakesNext};
 ghost use Rattle.script_runs.specs.Counts.{DisksCountedWhere};
-ghost use Rattle.store_calls.specs.StoreCalls.{store_meaning};
 ghost use Rattle.xtc.specs.Book.{done_by, replies_text};
 ghost use Rattle.xtc.specs.ReadLines.{line_in};
 ghost use Rattle.node_records.specs.declared.open_error.Place.{Place};
-ghost use Rattle.call_contract.specs.Sessions.{commits_in};
 ghost use Rattle.script_runs.specs.declared.halt.Halt.TheVariants as halt;
 ghost use Rattle.xtc.specs.Checkpoints.{is_positive};
-ghost use Rattle.xtc.specs.StoreMachine as machine;
 ghost use Rattle.xtc.specs.StoreMachine.{HasAnswered, HasPages, HasRested, faults_of, file_in};
-ghost use Rattle.xtc.specs.inside.Renewing.{LeftAsBefore, LeftStanding, StandFor, counts_in, files_of, is_due, kept};
+ghost use Rattle.xtc.specs.inside.Asking.{EachState, LeadsEach, done_for};
+ghost use Rattle.xtc.specs.inside.Renewing.{KeepsStanding, LeftAsBefore, StoreCounts, is_due_behind, kept};
 
 use crate::checkpoints::{Checkpoints, MakesCheckpoints};
 use crate::line::{ReadLine, read_line};
@@ -127,16 +122,18 @@ fn do_line<B: SessionBase, J: Disk>(
     out: &mut Vec<u8>,
 ) -> Result<(), Halt>
     requires takes { TakesNext core.old journal.old }
-    ensures state { OnOk result ((s : State StoreCall) → Stands store_meaning B.contents core.old s
-        → LeadsTo store_meaning B.contents J.is_known journal.old.history core.new journal.new.history s (done_by s 0 (line_in line)).state) }
-    ensures text { OnOk result ((s : State StoreCall) → Stands store_meaning B.contents core.old s
-        → out.new.items ≡ out.old.items ++ replies_text (done_by s number (line_in line)).lines) }
+    ensures state { OnOk result (LeadsEach B.contents J.Disk
+        core.old core.new journal.old journal.new (λ s. (done_by s 0 (line_in line)).state)) }
+    ensures text { OnOk result (EachState B.contents core.old
+        (λ s. out.new.items
+        ≡ out.old.items ++ replies_text (done_by s number (line_in line)).lines)) }
     ensures takes { OnOk result (TakesNext core.new journal.new) }
-    ensures any_moment { (s : State StoreCall) → Stands store_meaning B.contents core.old s
-        → LeavesEither J.is_known journal.old.history journal.new.history s (done_by s 0 (line_in line)).state }
+    ensures any_moment { EachState B.contents core.old
+        (λ s. LeavesEither J.is_known journal.old.history journal.new.history
+        s (done_by s 0 (line_in line)).state) }
     ensures grown { OnOk result (GrowsByOne core.old core.new) }
-    ensures book { OnOk result ((s : State StoreCall) → Stands store_meaning B.contents core.old s
-        → core.new.book ≡ core.old.book ++ (done_by s 0 (line_in line)).book) }
+    ensures book { OnOk result (EachState B.contents core.old
+        (λ s. core.new.book ≡ core.old.book ++ (done_by s 0 (line_in line)).book)) }
     ensures base { B.stays core.old.base core.new.base }
     ensures counts { DisksCountedWhere (result ≡ Err Halt.DiskFault) (counts_of B.count core.old journal.old) (counts_of B.count core.new journal.new) }
 {
@@ -160,16 +157,17 @@ fn ask<B: SessionBase, J: Disk>(
     out: &mut Vec<u8>,
 ) -> Result<(), Halt>
     requires takes { TakesNext core.old journal.old }
-    ensures state { OnOk result ((s : State StoreCall) → Stands store_meaning B.contents core.old s
-        → LeadsTo store_meaning B.contents J.is_known journal.old.history core.new journal.new.history s (asked_from store_meaning s session doing).state) }
-    ensures text { OnOk result ((s : State StoreCall) → Stands store_meaning B.contents core.old s
-        → out.new.items ≡ out.old.items ++ replies_text (asked_from store_meaning s session doing).lines) }
+    ensures state { OnOk result (LeadsEach B.contents J.Disk
+        core.old core.new journal.old journal.new (λ s. (done_for s session doing).state)) }
+    ensures text { OnOk result (EachState B.contents core.old
+        (λ s. out.new.items ≡ out.old.items ++ replies_text (done_for s session doing).lines)) }
     ensures takes { OnOk result (TakesNext core.new journal.new) }
-    ensures any_moment { (s : State StoreCall) → Stands store_meaning B.contents core.old s
-        → LeavesEither J.is_known journal.old.history journal.new.history s (asked_from store_meaning s session doing).state }
+    ensures any_moment { EachState B.contents core.old
+        (λ s. LeavesEither J.is_known journal.old.history journal.new.history
+        s (done_for s session doing).state) }
     ensures grown { OnOk result (GrowsByOne core.old core.new) }
-    ensures book { OnOk result ((s : State StoreCall) → Stands store_meaning B.contents core.old s
-        → core.new.book ≡ core.old.book ++ (asked_from store_meaning s session doing).book) }
+    ensures book { OnOk result (EachState B.contents core.old
+        (λ s. core.new.book ≡ core.old.book ++ (done_for s session doing).book)) }
     ensures base { B.stays core.old.base core.new.base }
     ensures counts { DisksCountedWhere (result ≡ Err Halt.DiskFault) (counts_of B.count core.old journal.old) (counts_of B.count core.new journal.new) }
 {
@@ -216,15 +214,13 @@ fn rest<J: Disk, P: Disk + Drop>(
     requires answered { HasAnswered P.is_known P.history (kept core.old journal.old checkpoints.old) }
     ensures rested { OnOk result (HasRested P.is_known P.history (kept core.new journal.new checkpoints.new)) }
     ensures every { checkpoints.new.every ≡ checkpoints.old.every }
-    ensures left { LeftAsBefore (is_due checkpoints.old (commits_in core.old.book))
+    ensures left { LeftAsBefore (is_due_behind checkpoints.old core.old)
         core.old core.new journal.old journal.new checkpoints.old.pages checkpoints.new.pages }
     ensures damaged { (place : Place) → result ≡ Err (halt.Damaged place) → IsTrue (is_positive checkpoints.old.every) × (IsTrue P.is_known → ⊥) }
-    ensures files { IsTrue J.is_known → IsTrue P.is_known → (s : State StoreCall) → machine.Stands P.is_known P.history core.old s
-        → StandFor s (files_of P.history (kept core.old journal.old checkpoints.old))
-        → LeftStanding s (files_of P.history (kept core.old journal.old checkpoints.old))
-        (files_of P.history (kept core.new journal.new checkpoints.new)) result }
-    ensures counts { DisksCountedWhere (result ≡ Err halt.DiskFault)
-        (counts_in P.faults (kept core.old journal.old checkpoints.old)) (counts_in P.faults (kept core.new journal.new checkpoints.new)) }
+    ensures files { KeepsStanding J.Disk P.Disk (kept core.old journal.old checkpoints.old)
+        (kept core.new journal.new checkpoints.new) result }
+    ensures counts { StoreCounts P.faults (result ≡ Err halt.DiskFault)
+        (kept core.old journal.old checkpoints.old) (kept core.new journal.new checkpoints.new) }
 {
     match checkpoints.make_if_due(alloc, core, journal) {
         Ok(()) => Ok(()),

@@ -1,18 +1,15 @@
 // The program's one call: it tests the words, opens the store, and runs the script of the source over it.
-ghost use Rattle.std.specs.Prelude.{◌≡◌, ◌⊎◌, ◌+◌, ℕ, List, ◌-◌, length, IsTrue, None};
-ghost use Rattle.outside_traits.specs.Bytes.{Gave};
-ghost use Rattle.outside_traits.specs.CrashImages.{IsImage};
-ghost use Rattle.outside_traits.specs.DiskPairs.{pair_of};
+ghost use Rattle.std.specs.Prelude.{◌≡◌, IsTrue, None};
 ghost use Rattle.outside_traits.specs.Moments.{IsAllSynced};
 ghost use Rattle.node_records.specs.declared.open_error.Place.{Place};
-ghost use Rattle.paged_recovery.specs.Openings.{RefusesPages, TakesBehind};
-ghost use Rattle.script_runs.specs.Counts.{CountedWhere, DisksCountedWhere, ReadCountedWhere};
-ghost use Rattle.outside_kinds.specs.Bounds.{input_limit};
-ghost use Rattle.command_words.specs.Commands.{IsInRange, checkpoint_of, command_of, meant, run};
-ghost use Rattle.xtc.specs.Checkpoints.{every_of, is_positive, may_lose};
+ghost use Rattle.paged_recovery.specs.Openings.{TakesBehind};
+ghost use Rattle.script_runs.specs.Counts.{CountedWhere, DisksCountedWhere};
+ghost use Rattle.command_words.specs.Commands.{IsInRange, command_of, meant, run};
+ghost use Rattle.xtc.specs.Checkpoints.{is_positive, may_lose_by};
+ghost use Rattle.xtc.specs.Outside.{InputCountedWhere, disks_left, disks_of, read_from, written_to};
 ghost use Rattle.xtc.specs.StoreMachine.{pages_of, told};
-ghost use Rattle.xtc.specs.TopCall.{Leaves, IsSilent, TookInput, tx_limit};
-ghost use Rattle.xtc.specs.inside.CommandRuns.{HasTree, RunsCommand, disks_of, input_of, output_of};
+ghost use Rattle.xtc.specs.TopCall.{IsSilent, IsUnstarted, LeavesDamaged, XtcLeaves, RunTookInput};
+ghost use Rattle.xtc.specs.inside.CommandRuns.{HasTree, ReadAsImages, RunsOver};
 ghost use Rattle.xtc.specs.inside.Renewing.{ReadsGroups};
 
 use crate::checkpoints::{Checkpoints, MakesCheckpoints, NoCheckpoints, SomeCheckpoints};
@@ -76,38 +73,26 @@ pub fn xtc<
     gate: &G,
 ) -> Finish<J, P>
     // What is read and written, and what a crash leaves now and at any moment before, by the status.
-    ensures leaves { (read : List ℕ) × Gave (S.left source.old) (S.left source.new) read × (S.given source.new ≡ S.given source.old + length read)
-        × (IsTrue J.is_known → IsTrue P.is_known
-        → Leaves tx_limit (command_of words.now.items) (every_of (checkpoint_of words.now.items)) result.status (record {
-          read = read;
-          asked = S.asked source.new - S.given source.old;
-          left = S.left source.new;
-          before = K.held sink.old;
-          now = K.held sink.new;
-          old = pair_of (J.history journal) (P.history pages);
-          new = pair_of (J.history result.journal) (P.history result.pages);
-        })) }
+    ensures leaves { XtcLeaves J.Disk P.Disk words.now.items journal pages result
+        (read_from S.Source source.old source.new) (written_to K.Sink sink.old sink.new) }
     // The most that is read of the input, by the status, and when nothing is written.
-    ensures input { TookInput (command_of words.now.items)
-        (may_lose (command_of words.now.items) (every_of (checkpoint_of words.now.items)) P.is_known) result.status
-        (S.left source.old) (S.left source.new) (S.given source.old) (S.given source.new) }
-    ensures silent { IsSilent (command_of words.now.items) (may_lose (command_of words.now.items) (every_of (checkpoint_of words.now.items)) P.is_known)
+    ensures input { RunTookInput words.now.items P.is_known result.status
+        (read_from S.Source source.old source.new) }
+    ensures silent { IsSilent (command_of words.now.items) (may_lose_by words.now.items P.is_known)
         result.status (K.held sink.new ≡ K.held sink.old) }
 
     // Damaged files are synced, and as they were.
-    ensures damaged { (place : Place) → result.status ≡ Status.Damaged place → IsTrue J.is_known → IsTrue P.is_known
-        → RefusesPages (pair_of (J.history journal) (P.history pages)) (pair_of (J.history result.journal) (P.history result.pages)) place }
+    ensures damaged { (place : Place) → result.status ≡ Status.Damaged place
+        → LeavesDamaged J.Disk P.Disk journal pages result place }
 
     // The cause of each status, and no fault that was counted at any other.
     ensures usage { (result.status ≡ Status.Usage → command_of words.now.items ≡ None)
-        × (command_of words.now.items ≡ None
-        → ((result.status ≡ Status.Usage) ⊎ (result.status ≡ Status.NoMemory)) × (result.journal ≡ journal) × (result.pages ≡ pages)) }
-    ensures read { ReadCountedWhere (result.status ≡ Status.ReadFault) input_limit
-        (S.faults source.old) (S.faults source.new) (S.given source.old) (S.given source.new) }
+        × (command_of words.now.items ≡ None → IsUnstarted journal pages result) }
+    ensures read { InputCountedWhere (result.status ≡ Status.ReadFault)
+        (read_from S.Source source.old source.new) }
     ensures write { CountedWhere (result.status ≡ Status.WriteFault) (K.faults sink.old) (K.faults sink.new) }
     ensures disk { DisksCountedWhere (result.status ≡ Status.DiskFault)
-        (record { journal = J.faults journal; pages = P.faults pages })
-        (record { journal = J.faults result.journal; pages = P.faults result.pages }) }
+        (disks_of J.Disk P.Disk journal pages).faults (disks_left J.Disk P.Disk result).faults }
 {
     let Words {
         command,
@@ -176,12 +161,8 @@ fn run_command<
     requires next { TakesBehind store.journal store.number }
     requires synced { IsTrue P.is_known → IsAllSynced (pages_of P.history store.base) }
     requires tree { IsTrue P.is_known → HasTree (told P.is_known P.history store.base) }
-    ensures { RunsCommand J.is_known P.is_known (told P.is_known P.history store.base) store.number (meant command.entry) every result.status
-        (input_of S.left S.given S.asked S.faults source.old)
-        (input_of S.left S.given S.asked S.faults source.new)
-        (output_of K.held K.faults sink.old) (output_of K.held K.faults sink.new)
-        (disks_of (pair_of store.journal.history (pages_of P.history store.base)) store.journal.faults (P.faults store.base.base.disk))
-        (disks_of (pair_of (J.history result.journal) (P.history result.pages)) (J.faults result.journal) (P.faults result.pages)) }
+    ensures { RunsOver J.Disk P.Disk store (meant command.entry) every result
+        (read_from S.Source source.old source.new) (written_to K.Sink sink.old sink.new) }
 {
     match command {
         Command::Run => run_store(alloc, every, source, sink, store),
@@ -204,12 +185,8 @@ fn run_store<S: Source, K: Sink, J: Disk, P: Disk + Drop>(
     requires next { TakesBehind store.journal store.number }
     requires synced { IsTrue P.is_known → IsAllSynced (pages_of P.history store.base) }
     requires tree { IsTrue P.is_known → HasTree (told P.is_known P.history store.base) }
-    ensures { RunsCommand J.is_known P.is_known (told P.is_known P.history store.base) store.number run every result.status
-        (input_of S.left S.given S.asked S.faults source.old)
-        (input_of S.left S.given S.asked S.faults source.new)
-        (output_of K.held K.faults sink.old) (output_of K.held K.faults sink.new)
-        (disks_of (pair_of store.journal.history (pages_of P.history store.base)) store.journal.faults (P.faults store.base.base.disk))
-        (disks_of (pair_of (J.history result.journal) (P.history result.pages)) (J.faults result.journal) (P.faults result.pages)) }
+    ensures { RunsOver J.Disk P.Disk store run every result
+        (read_from S.Source source.old source.new) (written_to K.Sink sink.old sink.new) }
 {
     if every == 0 {
         return run_lines(alloc, every, NoCheckpoints, source, sink, store);
@@ -230,12 +207,8 @@ fn run_lines<S: Source, K: Sink, J: Disk, P: Disk + Drop, C: MakesCheckpoints>(
     requires next { TakesBehind store.journal store.number }
     requires synced { IsTrue P.is_known → IsAllSynced (pages_of P.history store.base) }
     requires tree { IsTrue P.is_known → HasTree (told P.is_known P.history store.base) }
-    ensures { RunsCommand J.is_known P.is_known (told P.is_known P.history store.base) store.number run every result.status
-        (input_of S.left S.given S.asked S.faults source.old)
-        (input_of S.left S.given S.asked S.faults source.new)
-        (output_of K.held K.faults sink.old) (output_of K.held K.faults sink.new)
-        (disks_of (pair_of store.journal.history (pages_of P.history store.base)) store.journal.faults (P.faults store.base.base.disk))
-        (disks_of (pair_of (J.history result.journal) (P.history result.pages)) (J.faults result.journal) (P.faults result.pages)) }
+    ensures { RunsOver J.Disk P.Disk store run every result
+        (read_from S.Source source.old source.new) (written_to K.Sink sink.old sink.new) }
 {
     let OpenStore {
         base,
@@ -266,8 +239,7 @@ pub fn with_files<J: Disk, P: Disk + Drop>(
     ensures status { result.status ≡ status }
     ensures journal { (J.history result.journal ≡ journal.history) × (J.faults result.journal ≡ journal.faults) }
     ensures pages { result.pages ≡ pages }
-    ensures images { (IsTrue J.is_known → IsImage (J.history result.journal).now (J.history result.journal).now.reads)
-        × (IsTrue P.is_known → IsImage (P.history result.pages).now (P.history result.pages).now.reads) }
+    ensures images { ReadAsImages J.Disk P.Disk result }
     ensures groups { ReadsGroups J.is_known journal }
 {
     // The journal says how its bytes are read.
@@ -291,8 +263,7 @@ pub fn with_disks<J: Disk, P: Disk + Drop>(
     ensures status { result.status ≡ status }
     ensures journal { (J.history result.journal ≡ journal.history) × (J.faults result.journal ≡ journal.faults) }
     ensures pages { result.pages ≡ base.base.disk }
-    ensures images { (IsTrue J.is_known → IsImage (J.history result.journal).now (J.history result.journal).now.reads)
-        × (IsTrue P.is_known → IsImage (P.history result.pages).now (P.history result.pages).now.reads) }
+    ensures images { ReadAsImages J.Disk P.Disk result }
 {
     with_files(status, journal, disk_of(base))
 }

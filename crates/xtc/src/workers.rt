@@ -1,24 +1,18 @@
 // The command that runs a whole script by workers, over a store that was opened.
-ghost use Rattle.std.specs.Prelude.{◌≡◌, ◌+◌, ◌≤◌, ℕ, List, [], length, Err, IfErr, IfOk, IfSome, IsTrue, OnOk, Some};
-ghost use Rattle.outside_traits.specs.Bytes.{Gave};
-ghost use Rattle.outside_traits.specs.DiskPairs.{pair_of};
+ghost use Rattle.std.specs.Prelude.{◌≡◌, [], Err, IfErr, IfOk, IfSome, IsTrue, Some};
 ghost use Rattle.outside_traits.specs.Moments.{IsAllSynced};
-ghost use Rattle.tree_model.specs.Tree.{Tree};
-ghost use Rattle.node_seq.specs.Trees.{StandsFor};
 ghost use Rattle.paged_recovery.specs.Openings.{TakesBehind};
-ghost use Rattle.script_runs.specs.Counts.{CountedWhere, DisksCountedWhere};
-ghost use Rattle.script_runs.specs.Whole.{piece};
-ghost use Rattle.call_contract.specs.Books.{IsBookFrom};
+ghost use Rattle.script_runs.specs.Counts.{CountedWhere};
 ghost use Rattle.checkpoint.specs.Bases.{contents_of};
 ghost use Rattle.command_words.specs.Commands.{workers as workers_command};
-ghost use Rattle.store_calls.specs.StoreCalls.{IsValidStoreCall, store_meaning};
 ghost use Rattle.workers_replies.specs.Shown.{lines_in};
 ghost use Rattle.xtc.specs.Checkpoints.{may_lose};
+ghost use Rattle.xtc.specs.Outside.{read_from, written_to};
 ghost use Rattle.xtc.specs.StoreMachine.{HasPages, pages_of, told};
-ghost use Rattle.xtc.specs.TopCall.{whole_limit};
-ghost use Rattle.xtc.specs.inside.CommandRuns.{HasTree, RunsCommand, StandSettled, disks_of, input_of, output_of};
+ghost use Rattle.xtc.specs.inside.Asking.{CountsDiskFault};
+ghost use Rattle.xtc.specs.inside.CommandRuns.{HasTree, RunsOver};
 ghost use Rattle.xtc.specs.inside.Renewing.{ReadsGroups};
-ghost use Rattle.xtc.specs.inside.Working.{HasCommits, IfWorked, InputWorked, IsBegun, IsNew, IsWorkersFault, IsWorkersStop, LeavesCommits, MayEnd, ScriptDone, counts_beside, files_beside};
+ghost use Rattle.xtc.specs.inside.Working.{IfWorked, IsBegun, IsNew, IsWorkersFault, IsWorkersStop, LeavesBook, MayEnd, WorksInput, WorksOver, counts_beside, counts_left};
 
 use crate::checkpoints::Checkpoints;
 use crate::document::written;
@@ -67,12 +61,8 @@ pub fn run_workers<
     requires next { TakesBehind store.journal store.number }
     requires synced { IsTrue P.is_known → IsAllSynced (pages_of P.history store.base) }
     requires tree { IsTrue P.is_known → HasTree (told P.is_known P.history store.base) }
-    ensures { RunsCommand J.is_known P.is_known (told P.is_known P.history store.base) store.number workers_command every result.status
-        (input_of S.left S.given S.asked S.faults source.old)
-        (input_of S.left S.given S.asked S.faults source.new)
-        (output_of K.held K.faults sink.old) (output_of K.held K.faults sink.new)
-        (disks_of (pair_of store.journal.history (pages_of P.history store.base)) store.journal.faults (P.faults store.base.base.disk))
-        (disks_of (pair_of (J.history result.journal) (P.history result.pages)) (J.faults result.journal) (P.faults result.pages)) }
+    ensures { RunsOver J.Disk P.Disk store workers_command every result
+        (read_from S.Source source.old source.new) (written_to K.Sink sink.old sink.new) }
 {
     let OpenStore {
         base,
@@ -109,17 +99,14 @@ fn work_input<
 ) -> WorkedOver<J, P>
     requires begun { IsBegun P.is_known P.history base number journal checkpoints }
     requires tree { IsTrue P.is_known → HasTree (contents_of P.is_known P.history base) }
-    ensures done { (read : List ℕ) × Gave (S.left source.old) (S.left source.new) read × (S.given source.new ≡ S.given source.old + length read)
-        × (length read ≤ whole_limit + piece) × (IsTrue J.is_known → IsTrue P.is_known → (t : Tree) → StandsFor (contents_of P.is_known P.history base) t
-        → StandSettled (files_beside P.history journal base checkpoints) t number
-        → InputWorked t number checkpoints.every read (IfSome (S.left source.new) (λ rest. rest ≡ [])) (files_beside P.history journal base checkpoints)
-        (files_beside P.history result.journal result.base result.checkpoints) (λ text. text.items) result.text) }
+    ensures done { WorksInput J.Disk P.Disk (read_from S.Source source.old source.new)
+        journal base checkpoints number result }
     ensures whole { IfWorked result.text (IfSome (S.left source.new) (λ rest. rest ≡ [])) }
     ensures fault { IfErr result.text (IsWorkersFault (may_lose (Some workers_command) checkpoints.every P.is_known)) }
     ensures pages { HasPages result.base result.checkpoints.pages }
     ensures read { CountedWhere (result.text ≡ Err Status.ReadFault) (S.faults source.old) (S.faults source.new) }
-    ensures counts { DisksCountedWhere (result.text ≡ Err Status.DiskFault)
-        (counts_beside P.faults journal base checkpoints) (counts_beside P.faults result.journal result.base result.checkpoints) }
+    ensures counts { CountsDiskFault result.text (counts_beside P.faults journal base checkpoints)
+        (counts_left P.faults result) }
 {
     match read_script(alloc, source) {
         Ok(script) => work_over(rt, alloc, &script, base, checkpoints, number, journal, gate),
@@ -145,14 +132,12 @@ fn work_over<R: Threads + Wait + Sync, J: Disk + Send, P: Disk + Drop + Send, G:
 ) -> WorkedOver<J, P>
     requires begun { IsBegun P.is_known P.history base number journal checkpoints }
     requires tree { IsTrue P.is_known → HasTree (contents_of P.is_known P.history base) }
-    ensures done { IsTrue J.is_known → IsTrue P.is_known → (t : Tree) → StandsFor (contents_of P.is_known P.history base) t
-        → StandSettled (files_beside P.history journal base checkpoints) t number
-        → ScriptDone t number checkpoints.every (lines_in script.now.entries) (files_beside P.history journal base checkpoints)
-        (files_beside P.history result.journal result.base result.checkpoints) (λ text. text.items) result.text }
+    ensures done { WorksOver J.Disk P.Disk (lines_in script.now.entries)
+        journal base checkpoints number result }
     ensures stops { IfErr result.text (IsWorkersStop (may_lose (Some workers_command) checkpoints.every P.is_known)) }
     ensures pages { HasPages result.base result.checkpoints.pages }
-    ensures counts { DisksCountedWhere (result.text ≡ Err Status.DiskFault)
-        (counts_beside P.faults journal base checkpoints) (counts_beside P.faults result.journal result.base result.checkpoints) }
+    ensures counts { CountsDiskFault result.text (counts_beside P.faults journal base checkpoints)
+        (counts_left P.faults result) }
 {
     match Core::new(alloc, base, number, TX_LIMIT) {
         Ok(core) => work(rt, alloc, script, core, checkpoints, journal, gate),
@@ -179,14 +164,12 @@ fn work<R: Threads + Wait + Sync, J: Disk + Send, P: Disk + Drop + Send, G: Gate
     requires opened { IsNew (contents_of P.is_known P.history) core }
     requires begun { IsBegun P.is_known P.history core.base core.number journal checkpoints }
     requires tree { IsTrue P.is_known → HasTree (contents_of P.is_known P.history core.base) }
-    ensures done { IsTrue J.is_known → IsTrue P.is_known → (t : Tree) → StandsFor (contents_of P.is_known P.history core.base) t
-        → StandSettled (files_beside P.history journal core.base checkpoints) t core.number
-        → ScriptDone t core.number checkpoints.every (lines_in script.now.entries) (files_beside P.history journal core.base checkpoints)
-        (files_beside P.history result.journal result.base result.checkpoints) (λ text. text.items) result.text }
+    ensures done { WorksOver J.Disk P.Disk (lines_in script.now.entries)
+        journal core.base checkpoints core.number result }
     ensures stops { IfErr result.text (IsWorkersStop (may_lose (Some workers_command) checkpoints.every P.is_known)) }
     ensures pages { HasPages result.base result.checkpoints.pages }
-    ensures counts { DisksCountedWhere (result.text ≡ Err Status.DiskFault)
-        (counts_beside P.faults journal core.base checkpoints) (counts_beside P.faults result.journal result.base result.checkpoints) }
+    ensures counts { CountsDiskFault result.text
+        (counts_beside P.faults journal core.base checkpoints) (counts_left P.faults result) }
 {
     let pages_before = core.faults();
     let journal_before = journal.faults();
@@ -244,17 +227,12 @@ fn end_all<J: Disk, P: Disk + Drop>(
 ) -> WorkedOver<J, P>
     requires may { MayEnd J.is_known P.is_known P.history first.value core journal checkpoints }
     requires reads { ReadsGroups J.is_known first.value }
-    ensures leaves { IsTrue J.is_known → IsTrue P.is_known → (t : Tree) → StandsFor (contents_of P.is_known P.history core.opening) t
-        → IsBookFrom IsValidStoreCall store_meaning t core.number core.limit core.book
-        → StandSettled (files_beside P.history first.value core.base checkpoints) t core.number
-        → LeavesCommits t core.number checkpoints.every core.book
-        (files_beside P.history first.value core.base checkpoints) (files_beside P.history result.journal result.base result.checkpoints)
-        × OnOk result.text (HasCommits t core.number checkpoints.every core.book (files_beside P.history result.journal result.base result.checkpoints)) }
+    ensures leaves { LeavesBook J.Disk P.Disk first.value core checkpoints result }
     ensures text { IfOk result.text (λ bytes. bytes ≡ text) }
     ensures stops { IfErr result.text (IsWorkersStop (may_lose (Some workers_command) checkpoints.every P.is_known)) }
     ensures pages { HasPages result.base result.checkpoints.pages }
-    ensures counts { DisksCountedWhere (result.text ≡ Err Status.DiskFault)
-        (counts_beside P.faults journal core.base checkpoints) (counts_beside P.faults result.journal result.base result.checkpoints) }
+    ensures counts { CountsDiskFault result.text
+        (counts_beside P.faults journal core.base checkpoints) (counts_left P.faults result) }
 {
     let (mut core, mut journal, mut checkpoints) = (core, journal, checkpoints);
     // Called for its contract: all is synced.

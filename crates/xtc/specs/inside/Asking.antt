@@ -1,23 +1,57 @@
 -- What the commands that ask in turn leave of the journal of a store, by their statuses, and what they write.
 use Rattle.std.specs.Prelude.{◌≡◌, ◌≤◌, ◌+◌, ℕ, Bool, false, List, ◌++◌, length, Option, Some, Result, Ok, Err}
+use Rattle.std.specs.declared.alloc.Global.{Global}
+use Rattle.std.specs.declared.vec.Vec.{Vec}
+use Rattle.outside_traits.specs.Bytes.{Gave}
 use Rattle.outside_traits.specs.Moments.{History}
+use Rattle.outside_traits.specs.declared.disk.Disk.{Ghosts as DiskOf}
+use Rattle.tree_model.specs.Entries.{Entries}
+use Rattle.tree_model.specs.Names.{Name}
+use Rattle.tree_model.specs.Tree.{Tree}
 use Rattle.tree_model.specs.declared.fragment.Fragment.{Fragment}
-use Rattle.call_contract.specs.States.{State}
+use Rattle.node_seq.specs.Trees.{StandsFor}
+use Rattle.journal.specs.Views.{JournalView}
+use Rattle.call_contract.specs.States.{State, start}
 use Rattle.command_lines.specs.declared.command.StoreCall.{StoreCall}
 use Rattle.command_lines.specs.declared.line_reply.LineReply.{LineReply}
 use Rattle.session_driver.specs.Lines.{Asked, AreValid}
+use Rattle.session_driver.specs.Progress.{Progress}
 use Rattle.session_driver.specs.declared.doing.Doing.{Doing}
+use Rattle.script_runs.specs.Counts.{Counts, DisksCountedWhere}
 use Rattle.script_runs.specs.Whole.{IsPast, piece}
+use Rattle.tx_core.specs.Cores.{CoreView}
 use Rattle.store_calls.specs.StoreCalls.{IsValidStoreCall, store_meaning}
+use Rattle.durable_sessions.specs.Asked.{LeadsTo, asked_from}
 use Rattle.durable_sessions.specs.InTurn as turn
+use Rattle.durable_sessions.specs.Standing as standing
 use Rattle.durable_sessions.specs.declared.in_turn.Stop.{Stop}
 use Rattle.durable_sessions.specs.declared.reasons.Reason.{Reason}
-use Rattle.command_words.specs.Commands.{Command}
+use Rattle.command_words.specs.Commands.{Command, put}
 use Rattle.xtc.specs.Commands.{may_commit}
 use Rattle.xtc.specs.Documents.{asks_of, element_in, stops_at, text_of}
-use Rattle.xtc.specs.TopCall.{AreFirst, IsDocumentEnd, IsWithin, NeedsWhole, StopsAtRefusal, slack, whole_limit}
+use Rattle.xtc.specs.Outside.{Input, Through}
+use Rattle.xtc.specs.TopCall.{AreFirst, IsDocumentEnd, IsWhole, IsWithin, NeedsWhole, StopsAtRefusal, slack, tx_limit, whole_limit}
 use Rattle.xtc.specs.declared.status.Status.{Status}
 use Rattle.xtc.specs.declared.status.Status.TheVariants.{Done, Usage, LineTooLong, Damaged, ReadFault, WriteFault, DiskFault, NoMemory, NotJsonMl, DocumentRefused}
+
+-- ---- the states of the store's sessions
+
+-- a fact of each state that a core stands in
+abbrev pub EachState : {B : Type 0} → (B → Option Entries) → CoreView StoreCall B → (State StoreCall → Type 0) → Type 0
+EachState contents core Q = standing.FromEach store_meaning contents core Q
+
+-- a fact of each state that a store may be opened in, over this map and with this number
+abbrev pub FromOpening : Option Entries → ℕ → (State StoreCall → Type 0) → Type 0
+FromOpening map number Q = (t : Tree) → StandsFor map t → Q (start t number tx_limit)
+
+-- what a session that is asked this does from a state
+abbrev pub done_for : State StoreCall → ℕ → Doing StoreCall → Progress StoreCall
+done_for s session doing = asked_from store_meaning s session doing
+
+-- each state that the core stood in has led to this one
+abbrev pub LeadsEach : {B J : Type 0} → (B → Option Entries) → DiskOf J → (core core_now : CoreView StoreCall B) (journal journal_now : JournalView) → (State StoreCall → State StoreCall) → Type 0
+LeadsEach contents j core core_now journal journal_now next =
+    EachState contents core (λ s. LeadsTo store_meaning contents j.is_known journal.history core_now journal_now.history s (next s))
 
 -- ---- asking in turn, of the store's calls
 
@@ -59,6 +93,10 @@ IsStop status = ⊥
 
 -- ---- what was written
 
+-- the text that is to be written, or the status without one
+abbrev pub ToWrite : Type 0
+ToWrite = Result (Vec ℕ Global) Status
+
 -- a status at which there was nothing to write
 abbrev pub IsUnwritten : Status → Type 0
 IsUnwritten Done = ⊥
@@ -79,6 +117,14 @@ abbrev pub IsWriteEnd : Status → Type 0
 IsWriteEnd Done = Unit {0}
 IsWriteEnd WriteFault = Unit {0}
 IsWriteEnd status = ⊥
+
+-- the faults that a journal's disk has counted, with so many of the pages'
+abbrev pub counts_with : JournalView → ℕ → Counts
+counts_with journal pages = record { journal = journal.faults; pages = pages }
+
+-- a disk's fault is counted where that is the status, and none where it isn't
+abbrev pub CountsDiskFault : {T : Type 0} → Result T Status → Counts → Counts → Type 0
+CountsDiskFault result before now = DisksCountedWhere (result ≡ Err DiskFault) before now
 
 -- ---- a command of one document, from a state on and with this input
 
@@ -114,6 +160,15 @@ abbrev pub InputDone : {T : Type 0} → Bool → State StoreCall → Command →
 InputDone is_known s c read whole old new bytes (Ok text) = HasText is_known s c read old new (bytes text) × whole
 InputDone is_known s c read whole old new bytes (Err status) = WentAndJudged is_known s c read whole old new status
 
+-- some bytes were read of an input that is read as a whole, a piece more than it may have at most, and of these this holds
+abbrev pub HasReadWhole : Through Input → (List ℕ → Type 0) → Type 0
+HasReadWhole input Q = (read : List ℕ) × Gave input.before.left input.now.left read × (input.now.given ≡ input.before.given + length read) × (length read ≤ whole_limit + piece) × Q read
+
+-- the input was read as a whole and put as a document, from each state of the store that `From` speaks of
+abbrev pub PutsInput : {J : Type 0} → ((State StoreCall → Type 0) → Type 0) → DiskOf J → Name → Through Input → (journal journal_now : JournalView) → ToWrite → Type 0
+PutsInput From j name input journal journal_now result =
+    HasReadWhole input (λ read. From (λ s. InputDone j.is_known s (put name) read (IsWhole input.now.left read) journal.history journal_now.history (λ text. text.items) result))
+
 -- so it is where an input was judged
 abbrev pub IfJudged : {T : Type 0} → Result T Status → Type 0 → Type 0
 IfJudged (Ok element) P = P
@@ -128,3 +183,8 @@ IsReadElement read (Err (LineTooLong line)) = (line ≡ 0) × IsPast whole_limit
 IsReadElement read (Err ReadFault) = length read ≤ whole_limit
 IsReadElement read (Err NoMemory) = length read ≤ whole_limit + piece
 IsReadElement read (Err status) = ⊥
+
+-- an element that was read so was put as a document, from each state that the core stood in
+abbrev pub PutsElement : {B J : Type 0} → (B → Option Entries) → DiskOf J → Name → Fragment → CoreView StoreCall B → (journal journal_now : JournalView) → ToWrite → Type 0
+PutsElement contents j name element core journal journal_now result = EachState contents core (λ s. (read : List ℕ) → element_in read ≡ Ok element → length read ≤ whole_limit
+    → DocumentDone j.is_known s (put name) read journal.history journal_now.history (λ text. text.items) result)

@@ -1,20 +1,22 @@
 -- What running lines of the generator's script leaves of the core, the files and the summary of a store.
-use Rattle.std.specs.Prelude.{◌≡◌, ◌≤◌, ℕ, Bool, false, IsTrue, List, ◌++◌, length, Option, None, Result, Ok, Err}
+use Rattle.std.specs.Prelude.{◌≡◌, ◌≤◌, ℕ, Bool, false, IsTrue, List, [], ◌++◌, length, Option, None, Result, Ok, Err}
 use Rattle.outside_traits.specs.DiskPairs.{Pair, PairsHave, PairsLeave}
 use Rattle.outside_traits.specs.Moments.{History}
+use Rattle.outside_traits.specs.declared.disk.Disk.{Ghosts as DiskOf}
 use Rattle.tree_model.specs.Entries.{Entries}
+use Rattle.journal.specs.Views.{JournalView}
 use Rattle.call_contract.specs.States.{State}
 use Rattle.command_lines.specs.declared.command.StoreCall.{StoreCall}
 use Rattle.command_lines.specs.declared.line_reply.LineReply.{LineReply}
 use Rattle.session_driver.specs.Lines.{Asked}
 use Rattle.tx_core.specs.Cores.{CoreView}
 use Rattle.checkpoint.specs.declared.base.Base.{Base}
-use Rattle.store_calls.specs.StoreCalls.{store_meaning}
+use Rattle.store_calls.specs.StoreCalls.{IsValidStoreCall, store_meaning}
 use Rattle.workload_gen.specs.declared.line.Line.{Line}
 use Rattle.workload_gen.specs.declared.summary.Summary.{Summary}
 use Rattle.durable_sessions.specs.Asked.{LeadsTo}
 use Rattle.durable_sessions.specs.Durable.{HoldsEither}
-use Rattle.durable_sessions.specs.InTurn.{AskNoCommit, StopsBy, stop_of}
+use Rattle.durable_sessions.specs.InTurn.{AskNoCommit, AskedInTurn, StopsBy, stop_of}
 use Rattle.durable_sessions.specs.Reasons.{first_reason, limit_of}
 use Rattle.durable_sessions.specs.declared.halt.Halt.{Halt}
 use Rattle.durable_sessions.specs.declared.in_turn.Stop.{Stop}
@@ -22,12 +24,13 @@ use Rattle.xtc.specs.Book.{after_asked}
 use Rattle.xtc.specs.Checkpoints.{is_positive}
 use Rattle.xtc.specs.Generated.{counted, generated}
 use Rattle.xtc.specs.Statuses.{status_of_stop}
-use Rattle.xtc.specs.StoreMachine.{HasPages, HasRested, KeptStore, Stands, file_of}
+use Rattle.xtc.specs.StoreMachine.{HasPages, HasRested, KeptStore, Stands, file_in, file_of}
 use Rattle.xtc.specs.TopCall.{StopsAtRefusal}
+use Rattle.xtc.specs.declared.checkpoints.Checkpoints.{Checkpoints}
 use Rattle.xtc.specs.declared.status.Status.{Status}
 use Rattle.xtc.specs.declared.status.Status.TheVariants.{DocumentRefused, DiskFault, NoMemory, Damaged}
-use Rattle.xtc.specs.inside.Asking.{AreValidAsks, HoldsFirst, LeavesFirst, Stopped, after, said}
-use Rattle.xtc.specs.inside.Renewing.{StandFor, files_of}
+use Rattle.xtc.specs.inside.Asking.{AreValidAsks, EachState, HoldsFirst, LeavesFirst, Stopped, after, said}
+use Rattle.xtc.specs.inside.Renewing.{FromState, StandFor, files_of, kept}
 
 -- ---- one line
 
@@ -44,6 +47,16 @@ pub record Made {B : Type 0} (contents : B → Option Entries) (is_known : Bool)
 abbrev pub AskedLine : {B T : Type 0} → (B → Option Entries) → Bool → State StoreCall → List (Asked StoreCall) → History → CoreView StoreCall B → History → List LineReply → Result T Halt → Type 0
 AskedLine contents is_known s asked old core new said_now (Ok done) = Made contents is_known s asked old core new said_now
 AskedLine contents is_known s asked old core new said_now (Err halt) = Stopped limit_of is_known s asked old new (stop_of halt)
+
+-- so it is from each state that the core stood in
+abbrev pub AsksLine : {B J T : Type 0} → (B → Option Entries) → DiskOf J → List (Asked StoreCall) → (core core_now : CoreView StoreCall B) → (journal journal_now : JournalView) → List LineReply → Result T Halt → Type 0
+AsksLine contents j asked core core_now journal journal_now said_now result =
+    EachState contents core (λ s. AskedLine contents j.is_known s asked journal.history core_now journal_now.history said_now result)
+
+-- what a line asks was asked in turn from each state that the core stood in, up to a begin or commit that the numbers refuse, and was said this
+abbrev pub DoesInTurn : {B J T : Type 0} → (B → Option Entries) → DiskOf J → List (Asked StoreCall) → (core core_now : CoreView StoreCall B) → (journal journal_now : JournalView) → List LineReply → Result T Stop → Type 0
+DoesInTurn contents j asked core core_now journal journal_now said_now result =
+    EachState contents core (λ s. AskedInTurn IsValidStoreCall store_meaning contents limit_of j.is_known s asked journal.history core_now journal_now.history [] said_now result)
 
 -- ---- lines, over both files
 
@@ -95,9 +108,11 @@ pub record HasRun {P : Type 0} (is_known : Bool) (history : P → History) (s : 
   pub parts : front ++ rest ≡ lines
   pub done : AllCounted is_known history s front old new before now
 
--- so it is from a state in which the core stands, where both disks are known and their files stand for it
-abbrev pub FromState : {P : Type 0} → Bool → Bool → (P → History) → KeptStore P → (State StoreCall → Type 0) → Type 0
-FromState journal_known pages_known history k Q = IsTrue journal_known → IsTrue pages_known → (s : State StoreCall) → Stands pages_known history k.core s → StandFor s (files_of history k) → Q s
+-- these lines were run by a core, a journal and checkpoints, from a state that the core stood in
+abbrev pub RunsLines : {J P T : Type 0} → DiskOf J → DiskOf P → List Line → (core core_now : CoreView StoreCall (Base P)) → (journal journal_now : JournalView)
+    → (k k_now : Checkpoints P) → (before now : Summary) → Result T Status → Type 0
+RunsLines j p lines core core_now journal journal_now k k_now before now result = FromState j.is_known p.is_known p.history (kept core journal k)
+    (λ s. RanLines p.is_known p.history s lines (kept core journal k) (kept core_now journal_now k_now) before now result)
 
 -- ---- what stays
 
@@ -112,6 +127,10 @@ pub record GoesOn {P : Type 0} (is_known : Bool) (history : P → History) (old 
 pub record LeftPages {P : Type 0} (is_known : Bool) (history : P → History) (every : ℕ) (old : History) (base : Base P) (pages : Option P) : Type 0 where
   pub has : HasPages base pages
   pub still : IsTrue is_known → is_positive every ≡ false → file_of history base pages ≡ old
+
+-- so it is of the pages of a store, by what it was and what it is now
+abbrev pub HasLeftPages : {P : Type 0} → DiskOf P → KeptStore P → KeptStore P → Type 0
+HasLeftPages p old new = LeftPages p.is_known p.history old.checkpoints.every (file_in p.history old) new.core.base new.checkpoints.pages
 
 -- a status with which lines stop; `lost`: it may be damage
 abbrev pub IsStopIf : Bool → Status → Type 0

@@ -2,27 +2,36 @@
 use Rattle.std.specs.Prelude.{◌≡◌, ◌&&◌, ◌%◌, ◌==◌, ℕ, Bool, true, false, IsTrue, nat_le, nat_lt, Option, None, Result, Ok, Err, OnOk}
 use Rattle.outside_traits.specs.DiskPairs.{Pair, PairsLeave, pair_of}
 use Rattle.outside_traits.specs.Moments.{History, IsAllSynced}
+use Rattle.outside_traits.specs.declared.disk.Disk.{Ghosts as DiskOf}
 use Rattle.tree_model.specs.Tree.{map_of}
 use Rattle.node_pages.specs.PageFiles.{contents_of_file}
 use Rattle.node_records.specs.declared.open_error.OpenError.{OpenError}
 use Rattle.node_records.specs.declared.open_error.OpenError.TheVariants.{Damaged}
 use Rattle.node_records.specs.declared.open_error.Place.{Place}
+use Rattle.checkpoint.specs.Bases.{contents_of}
+use Rattle.checkpoint.specs.Renewals.{pages_of as base_pages}
 use Rattle.checkpoint.specs.declared.base.Base.{Base}
 use Rattle.journal.specs.Appends.{groups_in}
 use Rattle.journal.specs.Journals.{read}
 use Rattle.journal.specs.Views.{JournalView}
-use Rattle.script_runs.specs.Counts.{Counts}
+use Rattle.script_runs.specs.Counts.{Counts, DisksCountedWhere}
+use Rattle.call_contract.specs.Sessions.{commits_in}
 use Rattle.call_contract.specs.States.{State}
 use Rattle.command_lines.specs.declared.command.StoreCall.{StoreCall}
 use Rattle.durable_sessions.specs.Durable.{HoldState}
 use Rattle.tx_core.specs.Cores.{CoreView, over, with_committed}
 use Rattle.xtc.specs.Checkpoints.{fits, is_positive}
-use Rattle.xtc.specs.StoreMachine.{HasPages, KeptStore, faults_of, file_in}
+use Rattle.xtc.specs.StoreMachine.{HasPages, KeptStore, Stands, faults_of, file_in}
 use Rattle.xtc.specs.declared.checkpoints.Checkpoints.{Checkpoints}
+use Rattle.xtc.specs.inside.Asking.{EachState}
 
 -- one is due behind so many commits
 abbrev pub is_due : {P : Type 0} → Checkpoints P → ℕ → Bool
 is_due k commits = is_positive k.every && (nat_lt k.seen commits && (commits % k.every == 0))
+
+-- behind the commits of this core
+abbrev pub is_due_behind : {P : Type 0} → Checkpoints P → CoreView StoreCall (Base P) → Bool
+is_due_behind k core = is_due k (commits_in core.book)
 
 -- and at the end of a command, which tries one alone
 abbrev pub is_due_at_end : {P : Type 0} → Checkpoints P → ℕ → Bool
@@ -38,6 +47,10 @@ files_of history k = pair_of k.journal.history (file_in history k)
 abbrev pub counts_in : {P : Type 0} → (P → ℕ) → KeptStore P → Counts
 counts_in faults k = record { journal = k.journal.faults; pages = faults_of faults k.core.base k.checkpoints.pages }
 
+-- a disk of such a store has counted a fault where this is so, and none where it isn't
+abbrev pub StoreCounts : {P : Type 0} → (P → ℕ) → Type 0 → KeptStore P → KeptStore P → Type 0
+StoreCounts faults this old new = DisksCountedWhere this (counts_in faults old) (counts_in faults new)
+
 -- two files of which a crash leaves what a read gives stand for what is committed in this state
 pub record StandFor (s : State StoreCall) (files : Pair) : Type 0 where
   pub journal : IsAllSynced files.journal
@@ -49,6 +62,14 @@ pub record LeftStanding {E : Type 0} (s : State StoreCall) (old new : Pair) (res
   pub any_moment : PairsLeave (HoldState s) old new
   pub at_end : OnOk result (StandFor s new)
 
+-- so it is from a state in which the core stands, where both disks are known and their files stand for it
+abbrev pub FromState : {P : Type 0} → Bool → Bool → (P → History) → KeptStore P → (State StoreCall → Type 0) → Type 0
+FromState journal_known pages_known history k Q = IsTrue journal_known → IsTrue pages_known → (s : State StoreCall) → Stands pages_known history k.core s → StandFor s (files_of history k) → Q s
+
+-- such a store's files go on standing for that state
+abbrev pub KeepsStanding : {J P E : Type 0} → DiskOf J → DiskOf P → KeptStore P → KeptStore P → Result (Unit {0}) E → Type 0
+KeepsStanding j p old new result = FromState j.is_known p.is_known p.history old (λ s. LeftStanding s (files_of p.history old) (files_of p.history new) result)
+
 -- the pages alone hold what is committed in this state, where the tree fits into those of a checkpoint; else they are as they were
 abbrev pub IsMadeAs : Bool → State StoreCall → History → History → Type 0
 IsMadeAs true s old new = contents_of_file new.now.reads ≡ Ok (map_of s.tree, s.number)
@@ -57,6 +78,11 @@ IsMadeAs false s old new = new ≡ old
 -- so it is where one was due
 abbrev pub IsMadeWhere : Bool → State StoreCall → History → History → Type 0
 IsMadeWhere due s old new = IsMadeAs (due && fits s.tree s.number) s old new
+
+-- so it is of known pages, from each state that the core stood in
+abbrev pub MadeFromEach : {P : Type 0} → DiskOf P → Bool → (core core_now : CoreView StoreCall (Base P)) → Type 0
+MadeFromEach p due core core_now = IsTrue p.is_known
+    → EachState (contents_of p.is_known p.history) core (λ s. IsMadeWhere due s (base_pages p.history core.base) (base_pages p.history core_now.base))
 
 -- where a journal may be used and holds no images, it is read as commits
 abbrev pub ReadsGroups : Bool → JournalView → Type 0

@@ -1,11 +1,14 @@
 -- What a command that shows something of a document comes to.
-use Rattle.std.specs.Prelude.{◌≡◌, ◌++◌, ◌∷◌, ℕ, List, [], false, Some, Ok, IsTrue}
+use Rattle.std.specs.Prelude.{◌≡◌, ◌++◌, ◌∷◌, ℕ, Bool, List, [], false, Option, Some, Ok, IsTrue}
 use Rattle.outside_traits.specs.DiskPairs.{Pair}
+use Rattle.outside_traits.specs.Moments.{History}
 use Rattle.path_model.specs.Lawful.{is_lawful}
 use Rattle.dewey_labels.specs.Labels.{Label}
+use Rattle.tree_model.specs.Entries.{Entries}
 use Rattle.tree_model.specs.Names.{Name}
 use Rattle.tree_model.specs.Tree.{Tree}
-use Rattle.call_contract.specs.States.{State}
+use Rattle.node_seq.specs.Trees.{StandsFor}
+use Rattle.call_contract.specs.States.{State, start}
 use Rattle.tree_model.specs.declared.reply.Reply.{Reply}
 use Rattle.tree_model.specs.declared.reply.Reply.TheVariants as reply
 use Rattle.command_lines.specs.declared.command.StoreCall.{StoreCall}
@@ -22,11 +25,11 @@ use Rattle.durable_sessions.specs.declared.in_turn.Stop.{Stop}
 use Rattle.durable_sessions.specs.declared.in_turn.Stop.TheVariants.{Refused, DiskFault, NoMemory}
 use Rattle.store_calls.specs.StoreCalls.{IsValidStoreCall, store_meaning}
 use Rattle.xtc.specs.Documents.{answer_line, asks_of, call_of, show_asks, stops_at, text_of}
-use Rattle.xtc.specs.TopCall.{CommandRan, DocumentRan, Outcome}
+use Rattle.xtc.specs.TopCall.{CommandRan, DocumentRan, Outcome, tx_limit}
 use Rattle.xtc.specs.declared.question.Question.{Question}
 use Rattle.xtc.specs.declared.question.Question.TheVariants.{Whole, FoundBy}
 use Rattle.xtc.specs.declared.status.Status.{Status}
-use Rattle.xtc.specs.inside.Asking.{AreValidAsks, said}
+use Rattle.xtc.specs.inside.Asking.{AreValidAsks, DocumentDone, ToWrite, said}
 
 -- a path is lawful, as one that was read is
 abbrev pub IsLawful : Question → Type 0
@@ -65,3 +68,12 @@ pub record IsOfShown (c : Command) : Type 0 where
   pub unread : reads_input (Some c) ≡ false
   pub untried : (every : ℕ) → tries (Some c) every ≡ false
   pub ran : (t : Tree) (n limit : ℕ) (status : Status) (opening : Pair) (o : Outcome) → DocumentRan t n limit c status opening o → CommandRan t n limit (Some c) status opening o
+
+-- such a command was done over this map, with this number: no input is read, and any journal stays
+abbrev pub ShowsBy : Option Entries → ℕ → Command → ToWrite → Type 0
+ShowsBy map number c result = (is_known : Bool) (journal : History) (t : Tree) → StandsFor map t → DocumentDone is_known (start t number tx_limit) c [] journal journal (λ text. text.items) result
+
+-- so was each command that asks this of the document with a name
+abbrev pub ShowsAsked : Option Entries → ℕ → Name → Question → ToWrite → Type 0
+ShowsAsked map number name q result = (is_known : Bool) (journal : History) (c : Command) (t : Tree) → StandsFor map t → Shows c (start t number tx_limit) name q
+    → DocumentDone is_known (start t number tx_limit) c [] journal journal (λ text. text.items) result

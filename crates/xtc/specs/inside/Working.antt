@@ -1,9 +1,11 @@
 -- What a script that is run by workers leaves of a store's files, and what there is to write.
-use Rattle.std.specs.Prelude.{◌≡◌, ◌⊎◌, ℕ, Bool, false, IsTrue, List, length, Option, Some, None, Result, Ok, Err}
+use Rattle.std.specs.Prelude.{◌≡◌, ◌⊎◌, ℕ, Bool, false, IsTrue, List, [], length, Option, Some, None, Result, Ok, Err, IfSome, OnOk}
 use Rattle.outside_traits.specs.DiskPairs.{Pair, PairsHave, PairsLeave, pair_of}
 use Rattle.outside_traits.specs.Moments.{History, IsAllSynced}
+use Rattle.outside_traits.specs.declared.disk.Disk.{Ghosts as DiskOf}
 use Rattle.tree_model.specs.Entries.{Entries}
 use Rattle.tree_model.specs.Tree.{Tree}
+use Rattle.node_seq.specs.Trees.{StandsFor}
 use Rattle.journal.specs.Views.{JournalView}
 use Rattle.paged_recovery.specs.Openings.{TakesBehind}
 use Rattle.script_runs.specs.Counts.{Counts}
@@ -25,13 +27,15 @@ use Rattle.workers_text.specs.Sessions.{DoesSome}
 use Rattle.workers_text.specs.WorkersText.{asked_of, Line}
 use Rattle.xtc.specs.Book.{replies_text}
 use Rattle.xtc.specs.Checkpoints.{AreMade, is_positive}
+use Rattle.xtc.specs.Outside.{Input, Through}
 use Rattle.xtc.specs.StoreMachine.{faults_of, file_of}
 use Rattle.xtc.specs.TopCall.{OpenAfterCommits, tx_limit}
 use Rattle.xtc.specs.declared.checkpoints.Checkpoints.{Checkpoints}
 use Rattle.xtc.specs.declared.status.Status.{Status}
 use Rattle.xtc.specs.declared.status.Status.TheVariants.{LineTooLong, Damaged, ReadFault, DiskFault, NoMemory}
-use Rattle.xtc.specs.inside.Asking.{IsUnwritten}
-use Rattle.xtc.specs.inside.CommandRuns.{HasTree}
+use Rattle.xtc.specs.declared.workers.WorkedOver.{WorkedOver}
+use Rattle.xtc.specs.inside.Asking.{HasReadWhole, IsUnwritten}
+use Rattle.xtc.specs.inside.CommandRuns.{HasTree, StandSettled}
 
 -- ---- the store
 
@@ -46,6 +50,14 @@ files_beside history journal base checkpoints = pair_of journal.history (file_of
 -- and the counts of their disks' faults
 abbrev pub counts_beside : {P : Type 0} → (P → ℕ) → JournalView → Base P → Checkpoints P → Counts
 counts_beside faults journal base checkpoints = record { journal = journal.faults; pages = faults_of faults base checkpoints.pages }
+
+-- the files of what workers have handed out
+abbrev pub files_left : {J P : Type 0} → (P → History) → WorkedOver J P → Pair
+files_left history worked = files_beside history worked.journal worked.base worked.checkpoints
+
+-- and the counts of their disks' faults
+abbrev pub counts_left : {J P : Type 0} → (P → ℕ) → WorkedOver J P → Counts
+counts_left faults worked = counts_beside faults worked.journal worked.base worked.checkpoints
 
 -- a base was opened at this number, and nothing was written since: all of known pages is synced, the journal takes the first commit, and no checkpoint was tried
 pub record IsBegun {P : Type 0} (is_known : Bool) (history : P → History) (base : Base P) (number : ℕ) (journal : JournalView) (checkpoints : Checkpoints P) : Type 0 where
@@ -62,6 +74,10 @@ pub record MayEnd {P : Type 0} (journal_known is_known : Bool) (history : P → 
   pub tree : IsTrue is_known → HasTree (contents_of is_known history core.opening)
   pub wrote : WroteAll store_meaning (contents_of is_known history) journal_known first core journal
 
+-- so it is from the tree of this map, where both disks are known, and a crash leaves of their files what a read gives, and these stand for it and the number
+abbrev pub FromSettled : {J P : Type 0} → DiskOf J → DiskOf P → Option Entries → ℕ → Pair → (Tree → Type 0) → Type 0
+FromSettled j p map n files Q = IsTrue j.is_known → IsTrue p.is_known → (t : Tree) → StandsFor map t → StandSettled files t n → Q t
+
 -- ---- the commits
 
 -- a crash on the way leaves the first of a book's commits, and without checkpoints the pages stay
@@ -73,6 +89,13 @@ pub record LeavesCommits (t : Tree) (n every : ℕ) (book : Book StoreCall) (old
 pub record HasCommits (t : Tree) (n every : ℕ) (book : Book StoreCall) (files : Pair) : Type 0 where
   pub durable : PairsHave (OpenAfterCommits t n (length (commits book)) book) files
   pub made : IsTrue (is_positive every) → AreMade (Some workers) every t n book files.journal.now.reads files.pages.now.reads
+
+-- so it is of the book of a core that was opened over the map of a tree, with this journal first; and where there is a text a crash leaves all
+abbrev pub LeavesBook : {J P : Type 0} → DiskOf J → DiskOf P → JournalView → CoreView StoreCall (Base P) → Checkpoints P → WorkedOver J P → Type 0
+LeavesBook j p first core k worked = IsTrue j.is_known → IsTrue p.is_known → (t : Tree) → StandsFor (contents_of p.is_known p.history core.opening) t
+    → IsBookFrom IsValidStoreCall store_meaning t core.number core.limit core.book → StandSettled (files_beside p.history first core.base k) t core.number
+    → LeavesCommits t core.number k.every core.book (files_beside p.history first core.base k) (files_left p.history worked)
+    × OnOk worked.text (HasCommits t core.number k.every core.book (files_left p.history worked))
 
 -- ---- the lines
 
@@ -112,6 +135,16 @@ InputFailed t n every read whole old new status = ⊥
 abbrev pub InputWorked : {T : Type 0} → Tree → ℕ → ℕ → List ℕ → Type 0 → Pair → Pair → (T → List ℕ) → Result T Status → Type 0
 InputWorked t n every read whole old new bytes (Ok text) = (too_long read ≡ None) × WorkedAll t n every (lines_in (entries_of read)) old new (bytes text)
 InputWorked t n every read whole old new bytes (Err status) = InputFailed t n every read whole old new status
+
+-- workers did these lines over a base, from its tree
+abbrev pub WorksOver : {J P : Type 0} → DiskOf J → DiskOf P → List (Line StoreCall) → JournalView → Base P → Checkpoints P → ℕ → WorkedOver J P → Type 0
+WorksOver j p lines journal base k n worked = FromSettled j p (contents_of p.is_known p.history base) n (files_beside p.history journal base k)
+    (λ t. ScriptDone t n k.every lines (files_beside p.history journal base k) (files_left p.history worked) (λ text. text.items) worked.text)
+
+-- they did the lines of the whole input
+abbrev pub WorksInput : {J P : Type 0} → DiskOf J → DiskOf P → Through Input → JournalView → Base P → Checkpoints P → ℕ → WorkedOver J P → Type 0
+WorksInput j p input journal base k n worked = HasReadWhole input (λ read. FromSettled j p (contents_of p.is_known p.history base) n (files_beside p.history journal base k)
+    (λ t. InputWorked t n k.every read (IfSome input.now.left (λ rest. rest ≡ [])) (files_beside p.history journal base k) (files_left p.history worked) (λ text. text.items) worked.text))
 
 -- so it is where lines were done
 abbrev pub IfWorked : {T : Type 0} → Result T Status → Type 0 → Type 0

@@ -8,7 +8,8 @@ use Rattle.xtc.specs.StoreMachine.{pages_of, told}
 use Rattle.xtc.specs.TopCall.{IsWhole, WroteWhole, tx_limit}
 use Rattle.xtc.specs.declared.status.Status.{Status}
 use Rattle.xtc.specs.declared.status.Status.TheVariants.{DiskFault}
-use Rattle.xtc.specs.inside.CommandRuns.{Input, Output, Disks, RunsCommand}
+use Rattle.xtc.specs.Outside.{Input, Output, Disks}
+use Rattle.xtc.specs.inside.CommandRuns.{RunsCommand}
 use Rattle.xtc.proofs.CommandRunLaws.{by_count, document_runs, ends_by, ends_undamaged, not_lost, put_within, quiets, without_checkpoints}
 use Rattle.xtc.proofs.DocumentLaws.{document_finished, document_written}
 use Rattle.xtc.proofs.OpeningLaws.{opening_holds}

@@ -10,7 +10,8 @@ use Rattle.xtc.specs.TopCall.{tx_limit}
 use Rattle.xtc.specs.declared.checkpoints.Checkpoints.{Checkpoints}
 use Rattle.xtc.specs.declared.status.Status.{Status}
 use Rattle.xtc.specs.declared.status.Status.TheVariants.{DiskFault}
-use Rattle.xtc.specs.inside.CommandRuns.{Output, RunsCommand}
+use Rattle.xtc.specs.Outside.{Output}
+use Rattle.xtc.specs.inside.CommandRuns.{RunsCommand}
 use Rattle.xtc.specs.inside.Counting.{IsStopIf, LeftPages}
 use Rattle.xtc.specs.inside.Generating.{DoneOverFiles, FromTree, opened_with}
 use Rattle.xtc.proofs.GeneratedLaws.{gen_runs, stops_quiet}

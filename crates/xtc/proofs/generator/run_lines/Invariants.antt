@@ -1,8 +1,8 @@
 use Rattle.std.proofs.Common.{◌≡◌, IsTrue, false, length}
 use Rattle.xtc.specs.Checkpoints.{is_positive}
 use Rattle.xtc.specs.StoreMachine.{file_in}
-use Rattle.xtc.specs.inside.Counting.{FromState, GoesOn, HasRun}
-use Rattle.xtc.specs.inside.Renewing.{counts_in, kept}
+use Rattle.xtc.specs.inside.Counting.{GoesOn, HasRun}
+use Rattle.xtc.specs.inside.Renewing.{FromState, counts_in, kept}
 use Rattle.xtc.proofs.generator.run_lines.Given as goal
 
 -- the first lines are done and counted, the next one may be asked, and no disk has failed

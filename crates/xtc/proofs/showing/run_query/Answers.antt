@@ -6,7 +6,8 @@ use Rattle.command_words.specs.Commands.{query}
 use Rattle.xtc.specs.StoreMachine.{pages_of, told}
 use Rattle.xtc.specs.declared.status.Status.{Status}
 use Rattle.xtc.specs.declared.status.Status.TheVariants.{DiskFault}
-use Rattle.xtc.specs.inside.CommandRuns.{Output, Disks, RunsCommand}
+use Rattle.xtc.specs.Outside.{Output, Disks}
+use Rattle.xtc.specs.inside.CommandRuns.{RunsCommand}
 use Rattle.xtc.proofs.ShownLaws.{pages_counted, shown_runs}
 use Rattle.xtc.proofs.showing.run_query.Goals as goal
 

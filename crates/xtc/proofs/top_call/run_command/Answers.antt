@@ -2,7 +2,8 @@ use Rattle.std.proofs.Common.{ap, subst, sym}
 use Rattle.outside_traits.specs.DiskPairs.{pair_of}
 use Rattle.command_words.specs.Commands.{Command, meant}
 use Rattle.xtc.specs.StoreMachine.{pages_of, told}
-use Rattle.xtc.specs.inside.CommandRuns.{Input, Output, Disks, RunsCommand}
+use Rattle.xtc.specs.Outside.{Input, Output, Disks}
+use Rattle.xtc.specs.inside.CommandRuns.{RunsCommand}
 use Rattle.xtc.proofs.top_call.run_command.Goals as goal
 
 pub returns-in-Run : goal.returns-in-Run

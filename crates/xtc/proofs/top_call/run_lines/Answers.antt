@@ -6,7 +6,8 @@ use Rattle.command_words.specs.Commands.{run}
 use Rattle.xtc.specs.StoreMachine.{HasRested, KeptStore, MakesAs, faults_of, file_in, file_of, pages_of, told}
 use Rattle.xtc.specs.TopCall.{tx_limit}
 use Rattle.xtc.specs.declared.status.Status.{Status}
-use Rattle.xtc.specs.inside.CommandRuns.{Input, Output, Disks, RunsCommand}
+use Rattle.xtc.specs.Outside.{Input, Output, Disks}
+use Rattle.xtc.specs.inside.CommandRuns.{RunsCommand}
 use Rattle.xtc.specs.inside.Renewing.{ReadsGroups}
 use Rattle.xtc.proofs.CommandRunLaws.{disks_moved, nothing_runs, script_runs}
 use Rattle.xtc.proofs.OpeningLaws.{first, first_rested}

@@ -10,7 +10,8 @@ use Rattle.xtc.specs.TopCall.{WroteWhole}
 use Rattle.xtc.specs.declared.checkpoints.Checkpoints.{Checkpoints}
 use Rattle.xtc.specs.declared.status.Status.{Status}
 use Rattle.xtc.specs.declared.status.Status.TheVariants.{DiskFault}
-use Rattle.xtc.specs.inside.CommandRuns.{Input, Output, Disks, RunsCommand, StandSettled}
+use Rattle.xtc.specs.Outside.{Input, Output, Disks}
+use Rattle.xtc.specs.inside.CommandRuns.{RunsCommand, StandSettled}
 use Rattle.xtc.specs.inside.Working.{InputWorked, IsWorkersFault, counts_beside, files_beside}
 use Rattle.xtc.proofs.CommandRunLaws.{by_count, document_runs, ends_by, put_within}
 use Rattle.xtc.proofs.WorkersLaws.{faults_lose, faults_quiet, whole_at_end, workers_ran}
