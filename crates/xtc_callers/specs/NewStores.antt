@@ -1,5 +1,6 @@
 -- What a whole script over a new store is answered, and what it leaves (docs/MANUAL.md, "Transactions"; "Statuses").
 use Rattle.std.specs.Prelude.{◌≡◌, ◌≤◌, ℕ, ◌+◌, List, [], ◌++◌, length, take}
+use Rattle.outside_kinds.specs.MemoryDisks.{DiskInMemory, history_of}
 use Rattle.outside_traits.specs.DiskPairs.{PairsHave, pair_of}
 use Rattle.outside_traits.specs.Moments.{History}
 use Rattle.tree_model.specs.Tree.{empty_tree}
@@ -15,6 +16,7 @@ use Rattle.xtc.specs.Book.{script_of, replies_text}
 use Rattle.xtc.specs.TopCall.{IsSound, OpenAfterLines, slack, tx_limit}
 use Rattle.xtc.specs.declared.status.Status.{Status}
 use Rattle.xtc.specs.declared.status.Status.TheVariants.{Done, LineTooLong, ReadFault}
+use Rattle.xtc_callers.specs.declared.new_store.MemRun.{MemRun}
 
 -- the sessions of a new store, at the empty tree
 abbrev pub new_store : State StoreCall
@@ -23,6 +25,18 @@ new_store = start empty_tree 0 tx_limit
 -- two files stand for the tree after a book's commits, run one after the other by one thread from the empty tree on, and for their number
 abbrev pub StandForCommits : Book StoreCall → List ℕ → List ℕ → Type 0
 StandForCommits book journal pages = StandFor journal pages (serial store_meaning (commits book) empty_tree).tree (length (commits book))
+
+-- ---- what a run in memory leaves
+
+-- so it is of the text that it wrote, and of the files of its store
+abbrev pub OfRun : MemRun → (List ℕ → History → History → Type 0) → Type 0
+OfRun run Q = Q run.sink.held (history_of run.journal) (history_of run.pages)
+
+-- the bytes that a read of such a file gives
+abbrev pub file_reads : DiskInMemory → List ℕ
+file_reads disk = (history_of disk).now.reads
+
+-- ---- by the lines of its script
 
 -- A script was done over a new store: this text is what it was answered, and these are the files now.
 -- All of it is said by what the script's lines do to the sessions: the book that they make, and their replies.

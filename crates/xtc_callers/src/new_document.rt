@@ -1,17 +1,8 @@
 // Callers of `xtc` over memory: a document that is put into a new store, and then got.
-ghost use Rattle.std.specs.Prelude.{◌≡◌, ◌≤◌, length, Option, Some, Ok, Err};
-ghost use Rattle.tree_model.specs.DomCalls.{dom};
-ghost use Rattle.tree_model.specs.Names.{Name};
-ghost use Rattle.tree_model.specs.declared.dom_call.DomCall.TheVariants.{Doc, Dump};
-ghost use Rattle.tree_model.specs.declared.fragment.Fragment.{Fragment};
-ghost use Rattle.tree_model.specs.declared.reply.Reply.TheVariants as reply;
-ghost use Rattle.jsonml_io.specs.declared.fragment_error.FragmentError.{FragmentError};
-ghost use Rattle.outside_kinds.specs.MemoryDisks.{history_of};
-ghost use Rattle.dewey_labels.specs.Labels.{Label};
-ghost use Rattle.command_words.specs.Commands.{command_of, get, put};
+ghost use Rattle.std.specs.Prelude.{◌≡◌, Err};
 ghost use Rattle.xtc.specs.Documents.{element_in, tree_line};
-ghost use Rattle.xtc.specs.TopCall.{whole_limit};
-ghost use Rattle.xtc_callers.specs.NewDocuments.{PutBegun, PutDone, UnlessFailed, tree_of_document};
+ghost use Rattle.xtc_callers.specs.NewDocuments.{PutBegun, PutDone, TellsNoElement, WherePut, WherePutAndGot, WherePutOfError};
+ghost use Rattle.xtc_callers.specs.NewStores.{OfRun, file_reads};
 
 use crate::new_store::MemRun;
 use dewey_labels::List;
@@ -31,14 +22,13 @@ pub fn put_into_new_store<R: Threads + Wait + Sync>(
     words: &Vec<String>,
     input: List<u8>,
 ) -> MemRun
-    ensures not_json { (name : Name) (why : FragmentError) → command_of words.now.items ≡ Some (put name) → result.status ≡ Status.NotJsonMl why
-        → element_in input ≡ Err why }
-    ensures no_element { (name : Name) (why : FragmentError) → command_of words.now.items ≡ Some (put name) → element_in input ≡ Err why
-        → length input ≤ whole_limit → UnlessFailed result.status (result.status ≡ Status.NotJsonMl why) }
-    ensures done { (name : Name) → command_of words.now.items ≡ Some (put name) → result.status ≡ Status.Done
-        → PutDone name input result.sink.held (history_of result.journal) (history_of result.pages) }
-    ensures once { (name : Name) → command_of words.now.items ≡ Some (put name) → result.status ≡ Status.NoMemory
-        → PutBegun name input (history_of result.journal).now.reads (history_of result.pages).now.reads }
+    ensures not_json { WherePutOfError words.now.items
+        (λ why. result.status ≡ Status.NotJsonMl why → element_in input ≡ Err why) }
+    ensures no_element { WherePutOfError words.now.items (TellsNoElement input result.status) }
+    ensures done { WherePut words.now.items (λ name. result.status ≡ Status.Done
+        → OfRun result (PutDone name input)) }
+    ensures once { WherePut words.now.items (λ name. result.status ≡ Status.NoMemory
+        → PutBegun name input (file_reads result.journal) (file_reads result.pages)) }
 {
     let mut source = MemSource::new(input, List::new(alloc));
     let mut sink = MemSink::new(alloc, List::new(alloc));
@@ -89,11 +79,8 @@ pub fn put_and_get<R: Threads + Wait + Sync>(
     get_words: &Vec<String>,
     input: List<u8>,
 ) -> PutAndGot
-    ensures kept { (name : Name) (element : Fragment) (at : Label) (document : Option Fragment)
-        → command_of put_words.now.items ≡ Some (put name) → command_of get_words.now.items ≡ Some (get name) → element_in input ≡ Ok element
-        → result.put ≡ Status.Done → result.got ≡ Status.Done
-        → (dom (Doc name) (tree_of_document name element)).0 ≡ reply.Place (Some at) → (dom (Dump at) (tree_of_document name element)).0 ≡ reply.Tree document
-        → result.sink.held ≡ tree_line document }
+    ensures kept { WherePutAndGot put_words.now.items get_words.now.items input result
+        (λ document. result.sink.held ≡ tree_line document) }
 {
     let MemRun {
         status: put,

@@ -3,7 +3,7 @@ ghost use Rattle.std.specs.Prelude.{◌≡◌, ◌≢◌, ◌⊎◌, [], None, S
 ghost use Rattle.node_records.specs.declared.open_error.Place.{Place};
 ghost use Rattle.outside_kinds.specs.MemoryDisks.{history_of, start};
 ghost use Rattle.command_words.specs.Commands.{command_of, run};
-ghost use Rattle.xtc_callers.specs.NewStores.{ScriptDone, ScriptBegun};
+ghost use Rattle.xtc_callers.specs.NewStores.{OfRun, ScriptDone, ScriptBegun};
 
 use dewey_labels::List;
 use outside_kinds::{MemDisk, MemSink, MemSource, NoGate};
@@ -33,9 +33,9 @@ pub fn run_new_store<R: Threads + Wait + Sync>(
     script: List<u8>,
 ) -> MemRun
     ensures done { command_of words.now.items ≡ Some run → result.status ≡ Status.Done
-        → ScriptDone script result.sink.held (history_of result.journal) (history_of result.pages) }
+        → OfRun result (ScriptDone script) }
     ensures begun { command_of words.now.items ≡ Some run → result.status ≢ Status.Usage
-        → ScriptBegun result.status script result.sink.held (history_of result.journal) (history_of result.pages) }
+        → OfRun result (ScriptBegun result.status script) }
     ensures not_damaged { (place : Place) → result.status ≢ Status.Damaged place }
     ensures usage { result.status ≡ Status.Usage → command_of words.now.items ≡ None }
     ensures other_words { command_of words.now.items ≡ None → (result.status ≡ Status.Usage) ⊎ (result.status ≡ Status.NoMemory) }
