@@ -5,9 +5,8 @@ use Rattle.std.specs.BTreeMap.{BTreeMap}
 use Rattle.std.specs.BTreeMap as tree
 use Rattle.lock_modes.specs.declared.ask.Ask.{Ask}
 use Rattle.lock_resources.specs.declared.resource.Resource.{Resource}
-use Rattle.lock_resources.proofs.Same.{equal_tied}
 use Rattle.lock_resources.proofs.Same as same
-use Rattle.lock_table.specs.inside.Rows.{RowMap, resource_eq, row_at, in_row, held_in}
+use Rattle.lock_table.specs.inside.Rows.{RowMap, row_at, in_row, held_in}
 use Rattle.lock_table.specs.Resources.{same_resource}
 
 and_true : (b : Bool) → (b && true) ≡ b
@@ -20,16 +19,6 @@ and_false false = refl
 
 pub exact_resources : (r q : Resource) → same_resource r q ≡ true → r ≡ q
 exact_resources r q e = same.exact_resources r q e
-
--- what `==` finds equal is the same resource
-pub equal_same : (r q : Resource) → resource_eq r q ≡ same_resource r q
-equal_same r q = equal_tied r q
-
--- one row is another one, or none
-pub by_same : (rows new : RowMap) (k : Resource) (w : Option (BTreeMap ℕ Ask))
-    → ((q : Resource) → row_at new q ≡ cond (resource_eq k q) w (row_at rows q))
-    → (q : Resource) → row_at new q ≡ cond (same_resource k q) w (row_at rows q)
-by_same rows new k w is q = is q ∙ ap (λ b. cond b w (row_at rows q)) (equal_same k q)
 
 -- what is written at one owner of one row
 pub changed : (rows new : RowMap) (k : Resource) (o : ℕ) (row : BTreeMap ℕ Ask) (w : Option Ask)

@@ -7,10 +7,10 @@ use Rattle.std.specs.Ordering.{nat_cmp}
 use Rattle.std.specs.Cmp.{unsigned_ties}
 use Rattle.lock_modes.specs.declared.ask.Ask.{Ask}
 use Rattle.lock_resources.specs.declared.resource.Resource.{Resource}
-use Rattle.lock_table.specs.inside.Rows.{RowMap, resource_eq, in_row, held_in, table_of}
-use Rattle.lock_table.specs.Resources.{same_resource}
+use Rattle.lock_table.specs.inside.Rows.{RowMap, in_row, held_in, table_of}
+use Rattle.lock_table.specs.Resources.{resource_cmp, same_resource}
 use Rattle.lock_table.specs.Tables.{Table, for_owner, held}
-use Rattle.lock_table.proofs.Maps.{equal_same, same_turned}
+use Rattle.lock_table.proofs.Maps.{same_turned}
 
 at_key : (q k : ℕ) → (k == q) ≡ is_at (nat_cmp q) k
 at_key q k = grind (arith, nat_tests, unsigned_ties q k)
@@ -20,12 +20,12 @@ in_list o [] = refl
 in_list o (e ∷ es) = ap (λ b. cond b (Some e.1) (lookup (λ k. k == o) es)) (at_key o e.0) ∙ ap (cond (is_at (nat_cmp o) e.0) (Some e.1)) (in_list o es)
 
 in_rows : (o : ℕ) (r : Resource) (es : List (Resource × BTreeMap ℕ Ask))
-    → for_owner (lookup (λ q. same_resource q r) (map (λ e. (e.0, e.1.entries)) es)) o ≡ in_row (lookup (resource_eq r) es) o
+    → for_owner (lookup (λ q. same_resource q r) (map (λ e. (e.0, e.1.entries)) es)) o ≡ in_row (lookup (is_at (resource_cmp r)) es) o
 in_rows o r [] = refl
-in_rows o r (e ∷ es) = step (same_resource e.0 r) (resource_eq r e.0) (same_turned e.0 r ∙ sym (equal_same r e.0)) (in_rows o r es)
+in_rows o r (e ∷ es) = step (same_resource e.0 r) (same_resource r e.0) (same_turned e.0 r) (in_rows o r es)
   where
-    step : (a b : Bool) → a ≡ b → for_owner (lookup (λ q. same_resource q r) (map (λ e. (e.0, e.1.entries)) es)) o ≡ in_row (lookup (resource_eq r) es) o
-        → for_owner (cond a (Some e.1.entries) (lookup (λ q. same_resource q r) (map (λ e. (e.0, e.1.entries)) es))) o ≡ in_row (cond b (Some e.1) (lookup (resource_eq r) es)) o
+    step : (a b : Bool) → a ≡ b → for_owner (lookup (λ q. same_resource q r) (map (λ e. (e.0, e.1.entries)) es)) o ≡ in_row (lookup (is_at (resource_cmp r)) es) o
+        → for_owner (cond a (Some e.1.entries) (lookup (λ q. same_resource q r) (map (λ e. (e.0, e.1.entries)) es))) o ≡ in_row (cond b (Some e.1) (lookup (is_at (resource_cmp r)) es)) o
     step true true same rest = in_list o e.1.entries
     step false false same rest = rest
     step true false same rest = grind (arith, same)

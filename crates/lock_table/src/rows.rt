@@ -13,13 +13,13 @@ use dewey_labels::{List, NoMemory};
 use lock_modes::Ask;
 use lock_resources::Resource;
 use std::alloc::Global;
-use std::collections::{BTreeMap, HashMap};
+use std::collections::BTreeMap;
 
 /// The owners at a resource with the modes that they hold.
 pub type Row = BTreeMap<u32, Ask>;
 
-/// For each resource its row. It is found by a hash of the resource, whose seed is fixed.
-pub type Rows = HashMap<Resource, Row>;
+/// For each resource its row. A look-up compares it with as many others as a logarithm of their number, whoever chose their labels and names.
+pub type Rows = BTreeMap<Resource, Row>;
 
 /// What the owner holds at the resource.
 pub fn held(rows: &Rows, owner: u32, resource: &Resource) -> Option<Ask>

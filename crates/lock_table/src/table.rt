@@ -16,7 +16,7 @@ use dewey_labels::{List, NoMemory};
 use lock_modes::Ask;
 use lock_resources::{Request, Resource};
 use std::alloc::Global;
-use std::collections::{BTreeMap, HashMap};
+use std::collections::BTreeMap;
 use std::marker::Model;
 
 /// What is answered to a request.
@@ -54,7 +54,7 @@ impl LockTable {
         ensures { IfOk result (λ table. (o : ℕ) (r : Resource) → held_by table o r ≡ None) }
     {
         Ok(LockTable {
-            rows: HashMap::new(alloc),
+            rows: BTreeMap::new(alloc),
             owned: BTreeMap::new(alloc),
             groups: BTreeMap::new(alloc),
         })

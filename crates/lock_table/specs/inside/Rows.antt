@@ -1,30 +1,21 @@
--- A map of maps, read at a resource and an owner, and the list of the resources of each owner. The outer one finds a resource by its hash.
+-- A map of maps, read at a resource and an owner, and the list of the resources of each owner.
 use Rattle.std.specs.Prelude.{◌≡◌, ℕ, Bool, false, ◌||◌, ◌&&◌, ◌==◌, cond, List, [], ◌∷◌, map, Option, Some, None, IsSome, IsTrue}
 use Rattle.std.specs.Ordering.{nat_cmp}
 use Rattle.std.specs.BTreeMap.{BTreeMap}
 use Rattle.std.specs.BTreeMap as tree
-use Rattle.std.specs.HashMap.{HashMap}
-use Rattle.std.specs.HashMap as hashed
-use Rattle.std.specs.declared.hash.FoldHasher.{FoldHasher}
-use Rattle.std.specs.declared.hash.BuildHasherDefault.{BuildHasherDefault}
 use Rattle.lock_modes.specs.declared.ask.Ask.{Ask}
 use Rattle.lock_resources.specs.declared.resource.Resource.{Resource}
-use Rattle.lock_resources.specs.contracts.resource.ResourcePartialEq.TheImpl as resource_equal
 use Rattle.lock_table.specs.Asks.{is_barred}
-use Rattle.lock_table.specs.Resources.{same_resource}
+use Rattle.lock_table.specs.Resources.{resource_cmp, same_resource}
 use Rattle.lock_table.specs.Tables.{Table}
 
 -- for each resource the owners there with their modes
 abbrev pub RowMap : Type 0
-RowMap = HashMap Resource (BTreeMap ℕ Ask) (BuildHasherDefault FoldHasher)
-
--- whether `==` finds two resources equal
-abbrev pub resource_eq : Resource → Resource → Bool
-resource_eq = (resource_equal.ghosts).eq
+RowMap = BTreeMap Resource (BTreeMap ℕ Ask)
 
 -- the row of a resource, if it has one
 abbrev pub row_at : RowMap → Resource → Option (BTreeMap ℕ Ask)
-row_at rows r = hashed.get resource_eq rows r
+row_at rows r = tree.get resource_cmp rows r
 
 -- what a row has for an owner
 abbrev pub in_row : Option (BTreeMap ℕ Ask) → ℕ → Option Ask
