@@ -25,6 +25,9 @@ use Rattle.call_contract.proofs.SerialRun.{run_serial}
 use Rattle.call_contract.proofs.NoCycles.{last_none, start_none}
 use Rattle.call_contract.proofs.Rising.{last_rises}
 use Rattle.call_contract.proofs.Deadlock.{deadlock, deadlock_closes, abort_leaves}
+use Rattle.call_contract.specs.Waiters.{WaitersStand}
+use Rattle.call_contract.proofs.Fronts.{last_behind, start_behind}
+use Rattle.call_contract.proofs.Waiters.{waiters_stand}
 
 module _ {C : Type 0} (is_valid : C → Type 0) (m : CallMeaning C) (laws : CallLaws C is_valid m) where
   pub sound : (t : Tree) (n limit : ℕ) (b : Book C) → IsBookFrom is_valid m t n limit b → AllSound is_valid m (last m (start t n limit) b).tree (last m (start t n limit) b).live
@@ -104,3 +107,8 @@ module _ {C : Type 0} (is_valid : C → Type 0) (m : CallMeaning C) (laws : Call
 
   pub reached_apart : NoCellIsShared st
   reached_apart = subst NoCellIsShared is.state (none_shared is_valid m laws is.tree is.number is.limit is.book is.legal)
+
+  pub reached_waiters : WaitersStand m st
+  reached_waiters = subst (WaitersStand m) is.state (waiters_stand is_valid m (last m (start is.tree is.number is.limit) is.book) (sound is_valid m laws is.tree is.number is.limit is.book is.legal)
+      (last_behind is_valid m laws (start is.tree is.number is.limit) is.book is.legal.valid_calls (start_sound is_valid m laws is.tree is.number is.limit is.legal.valid_tree) (start_behind is_valid m laws is.tree is.number is.limit))
+      (no_cycle m is.tree is.number is.limit is.book) (sessions_rise m is.tree is.number is.limit is.book))

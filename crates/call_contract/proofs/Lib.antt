@@ -2,6 +2,7 @@ pub mod Appends
 pub mod BookLaws
 pub mod CallChanges
 pub mod Deadlock
+pub mod Fronts
 pub mod Held
 pub mod HeldCalls
 pub mod Lists
@@ -12,3 +13,4 @@ pub mod SerialRun
 pub mod SessionBooks
 pub mod Sound
 pub mod Steps
+pub mod Waiters

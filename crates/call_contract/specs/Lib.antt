@@ -8,9 +8,10 @@ pub mod SerialRuns
 pub mod Books
 pub mod CallChanges
 pub mod Sessions
--- Words of laws about a run: what one transaction's commit leaves of another's calls, and what an abort or a deadlock leaves, and what a deadlock shows.
+-- Words of laws about a run: what one transaction's commit leaves of another's calls, what becomes of a call that waits, what an abort or a deadlock leaves, and what a deadlock shows.
 pub mod Replays
 pub mod Lives
+pub mod Waiters
 pub mod Ends
 pub mod Deadlocks
 -- Words that only the proofs use.

@@ -24,6 +24,7 @@ ghost use Rattle.call_contract.specs.Books.{Book, entry, next, last, IsAnswer, I
 ghost use Rattle.call_contract.specs.Sessions.{live_after, without_grants, queue_after, begins, begins_of, commits_in};
 ghost use Rattle.call_contract.specs.Replays.{IsAskedTheSame};
 ghost use Rattle.call_contract.specs.Lives.{RepliesStand, WritesAreCovered, CommitsReplay, NoCellIsShared, BarSomewhere};
+ghost use Rattle.call_contract.specs.Waiters.{WaitersStand};
 ghost use Rattle.call_contract.specs.Ends.{LeavesAllElse};
 ghost use Rattle.call_contract.specs.Deadlocks.{DeadlockIsTrue};
 
@@ -77,6 +78,11 @@ pub fn changes_lead_to_what_is_seen<C: TreeCall>()
 /// When a transaction commits, every other live one's changes are on the new tree what they were.
 pub fn commit_leaves_changes<C: TreeCall>()
     ensures { (st : State C) → IsReached C.is_valid C.meaning st → ChangesStay C.meaning st }
+{}
+
+/// Where the request with which a call waits is still barred, a further attempt of it waits with this request again and is granted nothing new: only the request has to be looked at.
+pub fn waiting_calls_stand<C: TreeCall>()
+    ensures { (st : State C) → IsReached C.is_valid C.meaning st → WaitersStand C.meaning st }
 {}
 
 /// A deadlock shows the first cycle that its caller would close, there was none before, and it ends its caller's transaction alone. No state of a run has a cycle.
