@@ -1,1 +1,2 @@
+pub mod LookRows
 pub mod PathRows

@@ -10,13 +10,16 @@ use Rattle.path_model.specs.Paths.{Steps}
 use Rattle.path_model.specs.Positions.{Position, a_node, positions, is_same}
 use Rattle.path_model.specs.Programs.{answer}
 
-abbrev d : Label
+-- the document
+abbrev pub d : Label
 d = 1 ∷ 1001 ∷ []
 
-abbrev a : Label
+-- its element
+abbrev pub a : Label
 a = 1 ∷ 1001 ∷ 1001 ∷ []
 
-abbrev under : Label → ℕ → Label
+-- a label with one division more
+abbrev pub under : Label → ℕ → Label
 under [] n = n ∷ []
 under (x ∷ l) n = x ∷ under l n
 
@@ -24,10 +27,12 @@ under (x ∷ l) n = x ∷ under l n
 abbrev k : List ℕ → Attributes
 k v = (codes "k", v) ∷ []
 
-abbrev c : Label
+-- the c below a
+abbrev pub c : Label
 c = under a 1003
 
-abbrev last_b : Label
+-- the last b below that
+abbrev pub last_b : Label
 last_b = under c 1007
 
 -- ["a",{"k":"1"},["b",{"k":"1","m":"x"},"t"],["c",["b",{"k":"2"},"12"],["d"],"u",["b",{"k":"10"},["e","7"],"z"]],"v",["b",{"k":"3"}],["f",{"k":"b"}," 5 "]]
