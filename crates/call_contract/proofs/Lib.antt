@@ -1,11 +1,13 @@
 pub mod Appends
 pub mod BookLaws
 pub mod CallChanges
+pub mod CallsOfCalls
 pub mod Deadlock
 pub mod Fronts
 pub mod Held
 pub mod HeldCalls
 pub mod Lists
+pub mod NextRequests
 pub mod NoCycles
 pub mod Replay
 pub mod Rising

@@ -1,5 +1,6 @@
 -- What contracts say: a call and its laws, then the lock machine from its states to its books, in the order in which one builds on the other.
 pub mod Calls
+pub mod CallsOfCalls
 pub mod States
 pub mod Attempts
 pub mod Waits

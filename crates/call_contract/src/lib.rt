@@ -3,6 +3,7 @@
 //! Tables of locks, overlays and the running of calls are left to the crates above.
 #![tactic(auto)]
 
+pub mod call_laws;
 mod events;
 pub mod serial_laws;
 mod tree_call;
