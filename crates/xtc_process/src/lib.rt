@@ -14,7 +14,7 @@ use std::process::ExitCode;
 use std::sync::Wait;
 use std::thread::Threads;
 use std::{env, io};
-use store_files::{JournalKind, PagesKind, StoreFile, StoreFiles};
+use store_files::{JournalKind, PagesKind, StoreFile, StoreFiles, Streams};
 use xtc::{Finish, Status, xtc};
 
 /// What the program ends with where it doesn't get the store's files.
@@ -22,7 +22,11 @@ const NOT_AVAILABLE: u8 = 11;
 
 /// Runs the program's words on the store of the working folder. `threads` serves workers alone; it is `main` that has it.
 pub fn run_process<T: Threads + Wait + Sync>(rt: &HostRuntime, threads: &T) -> ExitCode {
-    let Ok(StoreFiles { journal, pages }) = StoreFiles::open(rt) else {
+    // It has the descriptors of streams that are closed up to the end, so that no file of the store gets one.
+    let Ok(streams) = Streams::take(rt) else {
+        return not_available(rt);
+    };
+    let Ok(StoreFiles { journal, pages }) = StoreFiles::open(rt, &streams) else {
         return not_available(rt);
     };
     let words = match words(rt) {
@@ -31,7 +35,7 @@ pub fn run_process<T: Threads + Wait + Sync>(rt: &HostRuntime, threads: &T) -> E
     };
     let mut source = StdSource::new(rt.stdin());
     let mut sink = StdSink::new(rt.stdout());
-    // It has the journal, and with it the lock, up to the end.
+    // It has the files, and with them their locks, up to the end.
     let finish: Finish<StoreFile<FileDisk, JournalKind>, StoreFile<FileDisk, PagesKind>> = xtc(
         threads,
         rt.alloc(),

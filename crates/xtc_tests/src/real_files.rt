@@ -6,7 +6,7 @@ use std::alloc::{AllocError, Global};
 use std::sync::Wait;
 use std::test::Fail;
 use std::thread::Threads;
-use store_files::StoreFiles;
+use store_files::{StoreFiles, Streams};
 use xtc::xtc;
 use xtc_cases::{SIXTY, listed, told, words_of};
 
@@ -24,7 +24,7 @@ fn run<T: Threads + Wait + Sync>(
     let words = words_of(rt.alloc(), words)?;
     let mut source = source_of(rt.alloc(), input)?;
     let mut sink = MemSink::new(rt.alloc(), List::new(rt.alloc()));
-    let StoreFiles { journal, pages } = StoreFiles::open(rt)?;
+    let StoreFiles { journal, pages } = StoreFiles::open(rt, &Streams::take(rt)?)?;
     let finish = xtc(
         threads,
         rt.alloc(),
@@ -40,7 +40,7 @@ fn run<T: Threads + Wait + Sync>(
 
 /// What the journal begins with, and its length.
 fn journal(rt: &HostRuntime) -> Result<([u8; 60], Option<u64>), Fail> {
-    let mut files = StoreFiles::open(rt)?;
+    let mut files = StoreFiles::open(rt, &Streams::take(rt)?)?;
     let mut bytes = [0; 60];
     let _read = files.journal.read_at(0, &mut bytes);
     Ok((bytes, files.journal.len().ok()))
