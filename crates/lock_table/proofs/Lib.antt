@@ -2,6 +2,7 @@ mod Again
 pub mod Granted
 pub mod GroupModes
 mod Holders
+pub mod Lifted
 pub mod Listing
 pub mod Maps
 mod Shown

@@ -1,4 +1,4 @@
--- Maps of maps, and the order of resources.
+-- Buckets, and the order of resources.
 use Rattle.std.proofs.Common.{◌≡◌, ℕ, Bool, true, false, cond, ◌&&◌, Option, Some, None, ◌==◌, refl, sym, ap, subst, ◌∙◌}
 use Rattle.std.specs.Ordering.{nat_cmp}
 use Rattle.std.specs.BTreeMap.{BTreeMap}
@@ -6,7 +6,7 @@ use Rattle.std.specs.BTreeMap as tree
 use Rattle.lock_modes.specs.declared.ask.Ask.{Ask}
 use Rattle.lock_resources.specs.declared.resource.Resource.{Resource}
 use Rattle.lock_resources.proofs.Same as same
-use Rattle.lock_table.specs.inside.Rows.{RowMap, row_at, in_row, held_in}
+use Rattle.lock_table.specs.inside.Buckets.{Bucket, row_there, in_row, held_there}
 use Rattle.lock_table.specs.Resources.{same_resource}
 
 and_true : (b : Bool) → (b && true) ≡ b
@@ -21,54 +21,54 @@ pub exact_resources : (r q : Resource) → same_resource r q ≡ true → r ≡ 
 exact_resources r q e = same.exact_resources r q e
 
 -- what is written at one owner of one row
-pub changed : (rows new : RowMap) (k : Resource) (o : ℕ) (row : BTreeMap ℕ Ask) (w : Option Ask)
-    → ((q : Resource) → row_at new q ≡ cond (same_resource k q) (Some row) (row_at rows q))
-    → ((p : ℕ) → tree.get nat_cmp row p ≡ cond (o == p) w (held_in rows p k))
-    → (p : ℕ) (q : Resource) → held_in new p q ≡ cond ((o == p) && same_resource k q) w (held_in rows p q)
-changed rows new k o row w outer inner p q = go (same_resource k q) refl
+pub changed : (bucket new : Bucket) (k : Resource) (o : ℕ) (row : BTreeMap ℕ Ask) (w : Option Ask)
+    → ((q : Resource) → row_there new q ≡ cond (same_resource k q) (Some row) (row_there bucket q))
+    → ((p : ℕ) → tree.get nat_cmp row p ≡ cond (o == p) w (held_there bucket p k))
+    → (p : ℕ) (q : Resource) → held_there new p q ≡ cond ((o == p) && same_resource k q) w (held_there bucket p q)
+changed bucket new k o row w outer inner p q = go (same_resource k q) refl
   where
-    here : same_resource k k ≡ true → held_in new p k ≡ cond ((o == p) && same_resource k k) w (held_in rows p k)
-    here e = ap (λ r. in_row r p) (outer k ∙ ap (λ b. cond b (Some row) (row_at rows k)) e) ∙ inner p ∙ sym (ap (λ b. cond ((o == p) && b) w (held_in rows p k)) e ∙ ap (λ b. cond b w (held_in rows p k)) (and_true (o == p)))
+    here : same_resource k k ≡ true → held_there new p k ≡ cond ((o == p) && same_resource k k) w (held_there bucket p k)
+    here e = ap (λ r. in_row r p) (outer k ∙ ap (λ b. cond b (Some row) (row_there bucket k)) e) ∙ inner p ∙ sym (ap (λ b. cond ((o == p) && b) w (held_there bucket p k)) e ∙ ap (λ b. cond b w (held_there bucket p k)) (and_true (o == p)))
 
-    go : (b : Bool) → same_resource k q ≡ b → held_in new p q ≡ cond ((o == p) && same_resource k q) w (held_in rows p q)
-    go true e = subst (λ x. held_in new p x ≡ cond ((o == p) && same_resource k x) w (held_in rows p x)) (exact_resources k q e) (here (subst (λ x. same_resource k x ≡ true) (sym (exact_resources k q e)) e))
-    go false e = ap (λ r. in_row r p) (outer q ∙ ap (λ b. cond b (Some row) (row_at rows q)) e) ∙ sym (ap (λ b. cond ((o == p) && b) w (held_in rows p q)) e ∙ ap (λ b. cond b w (held_in rows p q)) (and_false (o == p)))
+    go : (b : Bool) → same_resource k q ≡ b → held_there new p q ≡ cond ((o == p) && same_resource k q) w (held_there bucket p q)
+    go true e = subst (λ x. held_there new p x ≡ cond ((o == p) && same_resource k x) w (held_there bucket p x)) (exact_resources k q e) (here (subst (λ x. same_resource k x ≡ true) (sym (exact_resources k q e)) e))
+    go false e = ap (λ r. in_row r p) (outer q ∙ ap (λ b. cond b (Some row) (row_there bucket q)) e) ∙ sym (ap (λ b. cond ((o == p) && b) w (held_there bucket p q)) e ∙ ap (λ b. cond b w (held_there bucket p q)) (and_false (o == p)))
 
 -- a row that has what was there is written back
-pub unchanged : (rows new : RowMap) (k : Resource) (row : BTreeMap ℕ Ask)
-    → ((q : Resource) → row_at new q ≡ cond (same_resource k q) (Some row) (row_at rows q))
-    → ((p : ℕ) → tree.get nat_cmp row p ≡ held_in rows p k)
-    → (p : ℕ) (q : Resource) → held_in new p q ≡ held_in rows p q
-unchanged rows new k row outer inner p q = go (same_resource k q) refl
+pub unchanged : (bucket new : Bucket) (k : Resource) (row : BTreeMap ℕ Ask)
+    → ((q : Resource) → row_there new q ≡ cond (same_resource k q) (Some row) (row_there bucket q))
+    → ((p : ℕ) → tree.get nat_cmp row p ≡ held_there bucket p k)
+    → (p : ℕ) (q : Resource) → held_there new p q ≡ held_there bucket p q
+unchanged bucket new k row outer inner p q = go (same_resource k q) refl
   where
-    go : (b : Bool) → same_resource k q ≡ b → held_in new p q ≡ held_in rows p q
-    go true e = ap (λ r. in_row r p) (outer q ∙ ap (λ b. cond b (Some row) (row_at rows q)) e) ∙ inner p ∙ ap (held_in rows p) (exact_resources k q e)
-    go false e = ap (λ r. in_row r p) (outer q ∙ ap (λ b. cond b (Some row) (row_at rows q)) e)
+    go : (b : Bool) → same_resource k q ≡ b → held_there new p q ≡ held_there bucket p q
+    go true e = ap (λ r. in_row r p) (outer q ∙ ap (λ b. cond b (Some row) (row_there bucket q)) e) ∙ inner p ∙ ap (held_there bucket p) (exact_resources k q e)
+    go false e = ap (λ r. in_row r p) (outer q ∙ ap (λ b. cond b (Some row) (row_there bucket q)) e)
 
 -- a row without owners is taken out
-pub dropped : (rows new : RowMap) (k : Resource)
-    → ((q : Resource) → row_at new q ≡ cond (same_resource k q) None (row_at rows q))
-    → ((p : ℕ) → held_in rows p k ≡ None)
-    → (p : ℕ) (q : Resource) → held_in new p q ≡ held_in rows p q
-dropped rows new k outer inner p q = go (same_resource k q) refl
+pub dropped : (bucket new : Bucket) (k : Resource)
+    → ((q : Resource) → row_there new q ≡ cond (same_resource k q) None (row_there bucket q))
+    → ((p : ℕ) → held_there bucket p k ≡ None)
+    → (p : ℕ) (q : Resource) → held_there new p q ≡ held_there bucket p q
+dropped bucket new k outer inner p q = go (same_resource k q) refl
   where
-    go : (b : Bool) → same_resource k q ≡ b → held_in new p q ≡ held_in rows p q
-    go true e = ap (λ r. in_row r p) (outer q ∙ ap (λ b. cond b None (row_at rows q)) e) ∙ sym (inner p) ∙ ap (held_in rows p) (exact_resources k q e)
-    go false e = ap (λ r. in_row r p) (outer q ∙ ap (λ b. cond b None (row_at rows q)) e)
+    go : (b : Bool) → same_resource k q ≡ b → held_there new p q ≡ held_there bucket p q
+    go true e = ap (λ r. in_row r p) (outer q ∙ ap (λ b. cond b None (row_there bucket q)) e) ∙ sym (inner p) ∙ ap (held_there bucket p) (exact_resources k q e)
+    go false e = ap (λ r. in_row r p) (outer q ∙ ap (λ b. cond b None (row_there bucket q)) e)
 
 -- nothing is taken out of a row that isn't there
-pub write_none : (rows new : RowMap) (k : Resource) (o : ℕ)
-    → new ≡ rows → row_at rows k ≡ None
-    → (p : ℕ) (q : Resource) → held_in new p q ≡ cond ((o == p) && same_resource k q) None (held_in rows p q)
-write_none rows new k o same none p q = go (same_resource k q) refl
+pub write_none : (bucket new : Bucket) (k : Resource) (o : ℕ)
+    → new ≡ bucket → row_there bucket k ≡ None
+    → (p : ℕ) (q : Resource) → held_there new p q ≡ cond ((o == p) && same_resource k q) None (held_there bucket p q)
+write_none bucket new k o same none p q = go (same_resource k q) refl
   where
-    step : (b : Bool) → held_in rows p q ≡ None → held_in new p q ≡ cond b None (held_in rows p q)
-    step true e = ap (λ x. held_in x p q) same ∙ e
-    step false e = ap (λ x. held_in x p q) same
+    step : (b : Bool) → held_there bucket p q ≡ None → held_there new p q ≡ cond b None (held_there bucket p q)
+    step true e = ap (λ x. held_there x p q) same ∙ e
+    step false e = ap (λ x. held_there x p q) same
 
-    go : (b : Bool) → same_resource k q ≡ b → held_in new p q ≡ cond ((o == p) && same_resource k q) None (held_in rows p q)
-    go true e = step ((o == p) && same_resource k q) (ap (held_in rows p) (sym (exact_resources k q e)) ∙ ap (λ r. in_row r p) none)
-    go false e = ap (λ x. held_in x p q) same ∙ sym (ap (λ b. cond ((o == p) && b) None (held_in rows p q)) e ∙ ap (λ b. cond b None (held_in rows p q)) (and_false (o == p)))
+    go : (b : Bool) → same_resource k q ≡ b → held_there new p q ≡ cond ((o == p) && same_resource k q) None (held_there bucket p q)
+    go true e = step ((o == p) && same_resource k q) (ap (held_there bucket p) (sym (exact_resources k q e)) ∙ ap (λ r. in_row r p) none)
+    go false e = ap (λ x. held_there x p q) same ∙ sym (ap (λ b. cond ((o == p) && b) None (held_there bucket p q)) e ∙ ap (λ b. cond b None (held_there bucket p q)) (and_false (o == p)))
 
 pub same_turned : (r q : Resource) → same_resource r q ≡ same_resource q r
 same_turned r q = go (same_resource r q) (same_resource q r) refl refl

@@ -7,11 +7,13 @@ ghost use Rattle.std.specs.BTreeMap.{get};
 ghost use Rattle.lock_resources.specs.declared.resource.Resource.{Resource};
 ghost use Rattle.lock_table.specs.Resources.{same_resource};
 ghost use Rattle.lock_table.specs.inside.Barring.{AreBarring};
-ghost use Rattle.lock_table.specs.inside.Rows.{HoldsInstead, RowMap, row_at, held_in, in_row};
+ghost use Rattle.lock_table.specs.inside.Buckets.{in_row};
+ghost use Rattle.lock_table.specs.inside.Rows.{HoldsInstead, RowMap, row_at, held_in};
 ghost use Rattle.lock_table.specs.inside.GroupModes.{group_at, AreGroupModes, IsAbove, IsUnder, LetsIn, owners_in, owners_at};
 
 use crate::asks::{covers, is_barred, join};
-use crate::rows::{Row, Rows, barring_there, drop_row, leave_at};
+use crate::buckets::Row;
+use crate::rows::{Rows, barring_there, drop_row, find, leave_at};
 use dewey_labels::{List, NoMemory};
 use lock_modes::Ask;
 use lock_resources::{Request, Resource};
@@ -126,7 +128,7 @@ pub fn admitted(
     if lets_in(groups, &request.resource, request.ask) {
         return Ok(List::new(alloc));
     }
-    let row = rows.get(&request.resource);
+    let row = find(rows, &request.resource);
     let holders = barring_there(alloc, row, owner, request.ask)?;
     if !holders.is_empty() {
         return Ok(holders);

@@ -4,6 +4,7 @@
 #![tactic(auto)]
 
 mod asks;
+mod buckets;
 mod group_modes;
 mod laws;
 mod owned;

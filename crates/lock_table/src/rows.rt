@@ -1,50 +1,77 @@
-//! The rows: for each resource the owners that hold a mode there.
+//! The rows: for each resource the owners that hold a mode there, found by a number of its label and then in the order of resources.
 
-ghost use Rattle.std.specs.Prelude.{◌≡◌, ℕ, ◌==◌, cond, None, Some, option_copied, IfOk, OnOk, OnErr, IsTrue};
+ghost use Rattle.std.specs.Prelude.{◌≡◌, ◌<◌, ℕ, length, None, Some, option_copied, IfOk, OnOk, OnErr, IsTrue};
 ghost use Rattle.std.specs.List.Sorted.{IsStrictlySortedBy};
 ghost use Rattle.std.specs.Ordering.{nat_cmp};
 ghost use Rattle.std.specs.BTreeMap.{get};
 ghost use Rattle.lock_resources.specs.declared.resource.Resource.{Resource};
 ghost use Rattle.lock_table.specs.inside.Barring.{AreBarring};
-ghost use Rattle.lock_table.specs.inside.Rows.{HoldsInstead, held_in, in_row};
+ghost use Rattle.lock_table.specs.inside.Rows.{HoldsInstead, bucket_of, held_in, mixed_from, row_at};
+ghost use Rattle.lock_table.specs.inside.Buckets.{in_row};
 
 use crate::asks::is_barred;
+use crate::buckets::{Bucket, Row, drop_there, leave_there, put_there};
 use dewey_labels::{List, NoMemory};
 use lock_modes::Ask;
 use lock_resources::Resource;
 use std::alloc::Global;
 use std::collections::BTreeMap;
 
-/// The owners at a resource with the modes that they hold.
-pub type Row = BTreeMap<u32, Ask>;
+/// For each resource its row, in the bucket of its label and there in the order of resources. Most buckets have few rows;
+/// where labels were chosen so that one has them all, a look-up still compares with no more than a logarithm of their number.
+pub type Rows = Vec<Bucket>;
 
-/// For each resource its row. A look-up compares it with as many others as a logarithm of their number, whoever chose their labels and names.
-pub type Rows = BTreeMap<Resource, Row>;
+/// How many buckets there are at most, a prime number. Each is made when it is first needed.
+const BUCKETS: u64 = 4093;
+
+/// What divisions come to, one after the other: a number that labels side by side don't share.
+fn mixed(divisions: &[u32]) -> u64
+    ensures mixed { result ≡ mixed_from 0 divisions.now }
+    ensures small { result < 4093 }
+{
+    let mut number = 0;
+    for division in divisions {
+        number = (number * 37 + u64::from(*division)) % BUCKETS;
+    }
+    number
+}
+
+/// The number of a resource's bucket.
+fn bucket_number(resource: &Resource) -> usize
+    ensures { result ≡ bucket_of resource.now }
+{
+    mixed(resource.label().divisions()) as usize
+}
+
+/// The row of a resource, if it has one.
+pub fn find<'a>(rows: &'a Rows, resource: &Resource) -> Option<&'a Row>
+    ensures { option_copied result ≡ row_at rows.now resource.now }
+{
+    match rows.get(bucket_number(resource)) {
+        Some(bucket) => bucket.get(resource),
+        None => None,
+    }
+}
 
 /// What the owner holds at the resource.
 pub fn held(rows: &Rows, owner: u32, resource: &Resource) -> Option<Ask>
     ensures { result ≡ held_in rows.now owner resource.now }
 {
-    match rows.get(resource) {
+    match find(rows, resource) {
         Some(row) => row.get(&owner).copied(),
         None => None,
     }
 }
 
-fn put_in(row: &mut Row, owner: u32, ask: Ask) -> Result<(), NoMemory>
-    ensures ok { OnOk result ((o : ℕ) → get nat_cmp row.new o ≡ cond (owner == o) (Some ask) (get nat_cmp row.old o)) }
-    ensures err { OnErr result ((o : ℕ) → get nat_cmp row.new o ≡ get nat_cmp row.old o) }
+/// Sees to it that there is a bucket of this number. What is held stays as it is.
+fn make_buckets(alloc: Global, rows: &mut Rows, number: usize) -> Result<(), NoMemory>
+    ensures same { (r : Resource) → row_at rows.new r ≡ row_at rows.old r }
+    ensures there { OnOk result (number < length rows.new.items) }
 {
-    row.insert(owner, ask)?;
+    while rows.len() <= number {
+        rows.push(BTreeMap::new(alloc))?;
+    }
     Ok(())
-}
-
-fn row_of(alloc: Global, owner: u32, ask: Ask) -> Result<Row, NoMemory>
-    ensures { IfOk result (λ row. (o : ℕ) → get nat_cmp row o ≡ cond (owner == o) (Some ask) None) }
-{
-    let mut row = BTreeMap::new(alloc);
-    put_in(&mut row, owner, ask)?;
-    Ok(row)
 }
 
 /// Notes that the owner holds the mode at the resource.
@@ -58,36 +85,9 @@ pub fn put(
     ensures ok { OnOk result (HoldsInstead rows.old owner resource.now (Some ask) rows.new) }
     ensures err { OnErr result ((o : ℕ) (r : Resource) → held_in rows.new o r ≡ held_in rows.old o r) }
 {
-    match rows.get_mut(resource) {
-        Some(row) => put_in(row, owner, ask),
-        None => put_new(alloc, rows, owner, resource, ask),
-    }
-}
-
-/// Makes a row for a resource that has none.
-fn put_new(
-    alloc: Global,
-    rows: &mut Rows,
-    owner: u32,
-    resource: &Resource,
-    ask: Ask,
-) -> Result<(), NoMemory>
-    requires { (o : ℕ) → held_in rows.old o resource.now ≡ None }
-    ensures ok { OnOk result (HoldsInstead rows.old owner resource.now (Some ask) rows.new) }
-    ensures err { OnErr result ((o : ℕ) (r : Resource) → held_in rows.new o r ≡ held_in rows.old o r) }
-{
-    let row = row_of(alloc, owner, ask)?;
-    rows.insert(resource.copy(alloc)?, row)?;
-    Ok(())
-}
-
-/// Takes the owner out of a row and answers whether nobody is left.
-fn leave(row: &mut Row, owner: u32) -> bool
-    ensures row { (o : ℕ) → get nat_cmp row.new o ≡ cond (owner == o) None (get nat_cmp row.old o) }
-    ensures empty { IsTrue result → (o : ℕ) → get nat_cmp row.new o ≡ None }
-{
-    row.remove(&owner);
-    row.is_empty()
+    let number = bucket_number(resource);
+    make_buckets(alloc, rows, number)?;
+    put_there(alloc, &mut rows[number], owner, resource, ask)
 }
 
 /// Takes the owner out of the resource's row and answers whether nobody is left there.
@@ -95,10 +95,11 @@ pub fn leave_at(rows: &mut Rows, owner: u32, resource: &Resource) -> bool
     ensures rows { HoldsInstead rows.old owner resource.now None rows.new }
     ensures empty { IsTrue result → (o : ℕ) → held_in rows.new o resource.now ≡ None }
 {
-    match rows.get_mut(resource) {
-        Some(row) => leave(row, owner),
-        None => false,
+    let number = bucket_number(resource);
+    if number >= rows.len() {
+        return false;
     }
+    leave_there(&mut rows[number], owner, resource)
 }
 
 /// Takes a row out at which nobody holds anything.
@@ -106,7 +107,10 @@ pub fn drop_row(rows: &mut Rows, resource: &Resource)
     requires { (o : ℕ) → held_in rows.old o resource.now ≡ None }
     ensures { (o : ℕ) (r : Resource) → held_in rows.new o r ≡ held_in rows.old o r }
 {
-    rows.remove(resource);
+    let number = bucket_number(resource);
+    if number < rows.len() {
+        drop_there(&mut rows[number], resource);
+    }
 }
 
 /// The owners other than this one that hold a mode at the resource which bars this one, ascending.
@@ -120,7 +124,7 @@ pub fn barring_at(
     ensures rising { IfOk result (λ holders. IsStrictlySortedBy nat_cmp holders) }
     ensures each { IfOk result (λ holders. AreBarring owner ask (λ o. held_in rows.now o resource.now) holders) }
 {
-    barring_there(alloc, rows.get(resource), owner, ask)
+    barring_there(alloc, find(rows, resource), owner, ask)
 }
 
 /// The same in a row that may be missing.

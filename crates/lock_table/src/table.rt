@@ -28,7 +28,7 @@ pub enum Asked {
     Conflict { holders: List<u32> },
 }
 
-/// Who holds which mode at which resource.
+/// Who holds which mode at which resource. A look-up of a resource compares it with as many others as a logarithm of their number at most, whoever chose labels and names.
 #[derive(Drop)]
 pub struct LockTable {
     rows: Rows,
@@ -54,7 +54,7 @@ impl LockTable {
         ensures { IfOk result (λ table. (o : ℕ) (r : Resource) → held_by table o r ≡ None) }
     {
         Ok(LockTable {
-            rows: BTreeMap::new(alloc),
+            rows: Vec::new(alloc),
             owned: BTreeMap::new(alloc),
             groups: BTreeMap::new(alloc),
         })

@@ -1,26 +1,39 @@
--- A map of maps, read at a resource and an owner, and the list of the resources of each owner.
-use Rattle.std.specs.Prelude.{◌≡◌, ℕ, Bool, false, ◌||◌, ◌&&◌, ◌==◌, cond, List, [], ◌∷◌, map, Option, Some, None, IsSome, IsTrue}
+-- The rows in their buckets, read at a resource and an owner, and the list of the resources of each owner.
+use Rattle.std.specs.Prelude.{◌≡◌, ℕ, suc, Bool, false, ◌||◌, ◌&&◌, ◌==◌, ◌*◌, ◌+◌, ◌%◌, cond, List, [], ◌∷◌, ◌++◌, Option, Some, None, IsSome, IsTrue}
+use Rattle.std.specs.Global.{Vec}
+use Rattle.std.specs.List.{slice_get}
 use Rattle.std.specs.Ordering.{nat_cmp}
 use Rattle.std.specs.BTreeMap.{BTreeMap}
 use Rattle.std.specs.BTreeMap as tree
 use Rattle.lock_modes.specs.declared.ask.Ask.{Ask}
 use Rattle.lock_resources.specs.declared.resource.Resource.{Resource}
+use Rattle.lock_resources.specs.Resources.{label_of}
 use Rattle.lock_table.specs.Asks.{is_barred}
-use Rattle.lock_table.specs.Resources.{resource_cmp, same_resource}
+use Rattle.lock_table.specs.Resources.{same_resource}
 use Rattle.lock_table.specs.Tables.{Table}
+use Rattle.lock_table.specs.inside.Buckets.{Bucket, row_there, in_row}
 
--- for each resource the owners there with their modes
+-- the buckets, in the order of their numbers
 abbrev pub RowMap : Type 0
-RowMap = BTreeMap Resource (BTreeMap ℕ Ask)
+RowMap = Vec Bucket
+
+-- what the divisions of a label come to, one after the other, behind such a number
+abbrev pub mixed_from : ℕ → List ℕ → ℕ
+mixed_from n [] = n
+mixed_from n (d ∷ ds) = mixed_from ((n * 37 + d) % 4093) ds
+
+-- the number of a resource's bucket
+abbrev pub bucket_of : Resource → ℕ
+bucket_of r = mixed_from 0 (label_of r)
+
+-- the row of a resource in a bucket that may be missing
+abbrev pub row_in : Option Bucket → Resource → Option (BTreeMap ℕ Ask)
+row_in None r = None
+row_in (Some bucket) r = row_there bucket r
 
 -- the row of a resource, if it has one
 abbrev pub row_at : RowMap → Resource → Option (BTreeMap ℕ Ask)
-row_at rows r = tree.get resource_cmp rows r
-
--- what a row has for an owner
-abbrev pub in_row : Option (BTreeMap ℕ Ask) → ℕ → Option Ask
-in_row None o = None
-in_row (Some row) o = tree.get nat_cmp row o
+row_at rows r = row_in (slice_get rows.items (bucket_of r)) r
 
 -- what the owner holds at the resource
 abbrev pub held_in : RowMap → ℕ → Resource → Option Ask
@@ -58,6 +71,16 @@ pub record IsKept (rows : RowMap) (owned : BTreeMap ℕ (List Resource)) : Type 
   pub listed : AreListed rows owned
   pub together : AreTogether rows
 
--- the table that maps stand for
+-- those rows of a bucket that belong into the bucket of this number
+abbrev pub rows_in : ℕ → List (Resource × BTreeMap ℕ Ask) → Table
+rows_in i [] = []
+rows_in i (e ∷ es) = cond (bucket_of e.0 == i) ((e.0, e.1.entries) ∷ rows_in i es) (rows_in i es)
+
+-- the rows of buckets, the first of which has this number
+abbrev pub table_from : ℕ → List Bucket → Table
+table_from i [] = []
+table_from i (b ∷ bs) = rows_in i b.entries ++ table_from (suc i) bs
+
+-- the table that the buckets stand for
 abbrev pub table_of : RowMap → Table
-table_of rows = map (λ e. (e.0, e.1.entries)) rows.entries
+table_of rows = table_from 0 rows.items

@@ -25,7 +25,7 @@ pub returns-then-lets_in-clause-noted : goal.returns-then-lets_in-clause-noted
 returns-then-lets_in-clause-noted c = λ _ _. lets_noted (group_at c.args.groups.now c.args.request.now.resource) c.args.request.now.ask (c.if-lets_in.ensures.0 refl)
 
 pub returns-in_err-note_group_mode-clause-groups : goal.returns-in_err-note_group_mode-clause-groups
-returns-in_err-note_group_mode-clause-groups c = c.note_group_mode.ensures.groups c.args.rows.now c.get-row.ensures.value c.requires
+returns-in_err-note_group_mode-clause-groups c = c.note_group_mode.ensures.groups c.args.rows.now c.find-row.ensures c.requires
 
 pub returns-clause-groups : goal.returns-clause-groups
-returns-clause-groups c = c.note_group_mode.ensures.groups c.args.rows.now c.get-row.ensures.value c.requires
+returns-clause-groups c = c.note_group_mode.ensures.groups c.args.rows.now c.find-row.ensures c.requires

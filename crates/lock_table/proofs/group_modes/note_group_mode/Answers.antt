@@ -1,7 +1,7 @@
 use Rattle.std.proofs.Common.{cond, IsSome, Some, None, refl, sym, ap, subst, ◌∙◌}
 use Rattle.std.proofs.lemmas.Result.{on_ok_weaker}
 use Rattle.lock_table.specs.inside.GroupModes.{group_at, IsAbove, IsUnder}
-use Rattle.lock_table.specs.inside.Rows.{in_row}
+use Rattle.lock_table.specs.inside.Buckets.{in_row}
 use Rattle.lock_table.proofs.Listing.{either, same_itself}
 use Rattle.lock_table.proofs.GroupModes.{groups_put, groups_same, groups_dropped}
 use Rattle.lock_table.proofs.group_modes.note_group_mode.Goals as goal
