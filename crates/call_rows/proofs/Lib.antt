@@ -1,7 +1,9 @@
 pub mod BookRows
 pub mod ClearLaws
 pub mod LookLaws
+pub mod MadeToyLaws
 pub mod RightCalls
 pub mod SameRequests
+pub mod WiderLaws
 pub mod WrongBooks
 pub mod WrongCalls

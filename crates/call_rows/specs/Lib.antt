@@ -1,4 +1,5 @@
 -- The toys, worked books, and definitions that are wrong.
 pub mod Toys
+pub mod MadeToys
 pub mod Rows
 pub mod Wrong

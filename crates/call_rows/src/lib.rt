@@ -11,6 +11,7 @@ ghost use Rattle.tree_cells.specs.Cells.{edge_cell};
 ghost use Rattle.call_contract.specs.Calls.{CallLaws};
 ghost use Rattle.call_contract.specs.Books.{IsSerial};
 ghost use Rattle.call_rows.specs.Toys.{look, clear, never};
+ghost use Rattle.call_rows.specs.MadeToys.{look_wide, look_and_hold, AreLabels, look_then_clear, clear_both};
 ghost use Rattle.call_rows.specs.Rows.{IsBookOf, edge_book, list_book, deadlock_book, comes_back_book};
 ghost use Rattle.call_rows.specs.Rows.{AsksAlike, row_meaning, node_of, first, children, remove, e, child, missing};
 ghost use Rattle.call_rows.specs.Rows.{empty_store, store_of_one, store_of_two};
@@ -22,6 +23,15 @@ pub fn toys_keep_the_laws()
     ensures reads { CallLaws Label IsLabel look }
     ensures writes { CallLaws Label IsLabel clear }
     ensures refused { CallLaws Label IsLabel never }
+{}
+
+/// So do calls made of them, by the laws on calls of calls alone: one under wider requests, one that asks for more by its reply, and two in a row.
+#[tactic(auto, using(crate::proofs::MadeToyLaws::look_wide_laws, crate::proofs::MadeToyLaws::look_and_hold_laws, crate::proofs::MadeToyLaws::look_then_clear_laws, crate::proofs::MadeToyLaws::clear_both_laws))]
+pub fn toys_made_of_toys_keep_the_laws()
+    ensures replaced { CallLaws Label IsLabel look_wide }
+    ensures followed { CallLaws Label IsLabel look_and_hold }
+    ensures in_a_row { CallLaws (Label × Label) AreLabels look_then_clear }
+    ensures both_change { CallLaws (Label × Label) AreLabels clear_both }
 {}
 
 /// The worked books are legal: an append that waits for a reader of the edge, one that waits for a reader of the list, the deadlock of two appends, and a node that comes back.
