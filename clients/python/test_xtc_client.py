@@ -3,6 +3,7 @@
 The program is bin/xtc, which ./demo --build makes, or the one that the variable XTC names. Calls, answers and statuses are the manual's.
 """
 
+import asyncio
 import concurrent.futures
 import contextlib
 import io
@@ -167,6 +168,46 @@ class Waits(WithStore):
             second.append("1.1001.1001", ["d"])
         self.assertEqual(caught.exception.cycle, [2, 1])
         self.assertEqual(call.result(10), "1.1001.1001.1001")
+
+
+    def test_a_call_that_nobody_waits_for_any_more_stops_no_other(self):
+        first, second = self.shared(["a"])
+        first.children("1.1001.1001")
+        call = second.futures.append("1.1001.1001", ["c"])
+
+        async def give_up():
+            with self.assertRaises(asyncio.TimeoutError):
+                await asyncio.wait_for(asyncio.wrap_future(call), 0.1)
+
+        asyncio.run(give_up())
+        self.assertEqual((call.cancel(), call.cancelled()), (False, False))
+        self.assertEqual(first.commit(), 2)
+        self.assertEqual((call.result(10), first.futures.begin().result(10)), ("1.1001.1001.1001", 3))
+
+
+class LongLines(WithStore):
+    """The pipes hold 65,536 bytes each way, so replies and a line of more cross."""
+
+    def test_a_long_line_crosses_long_replies_of_the_same_session(self):
+        first, _second = self.shared(["a", "x" * 800000])
+        replies = [first.futures.dump("1.1001") for _ in range(4)]
+        with concurrent.futures.ThreadPoolExecutor() as pool:
+            sent = pool.submit(first.futures.append, "1.1001.1001", ["b", "y" * 900000])
+            self.assertEqual(sent.result(60).result(60), "1.1001.1001.1003")
+        self.assertEqual({len(reply.result(60)[1]) for reply in replies}, {800000})
+
+    def test_a_long_line_crosses_long_replies_of_other_threads(self):
+        first, second = self.shared(["a", "x" * 300000], ["a"])
+        with self.store_of(first).session(3).transaction(), concurrent.futures.ThreadPoolExecutor() as pool:
+            third = self.store_of(first).session(3)
+            readers = [pool.submit(lambda it: [len(it.dump("1.1001")[1]) for _ in range(6)], session) for session in (first, second)]
+            writer = pool.submit(lambda: [third.append("1.1003.1001", "y" * 300000) for _ in range(6)])
+            self.assertEqual([reader.result(60) for reader in readers], [[300000] * 6] * 2)
+            self.assertEqual(len(writer.result(60)), 6)
+
+    @staticmethod
+    def store_of(session):
+        return session.futures._store
 
 
 class Transactions(WithStore):

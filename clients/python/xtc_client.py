@@ -200,7 +200,7 @@ def found(program):
 
 
 class Call(concurrent.futures.Future):
-    """What a call is answered. While it waits, `wait` says for whom (`by`), at what (`on`) and what for (`asks`)."""
+    """What a call is answered. While it waits, `wait` says for whom (`by`), at what (`on`) and what for (`asks`). Its line is written, so `cancel` answers False."""
 
     def __init__(self, session, name):
         super().__init__()
@@ -426,6 +426,8 @@ class Store:
     def __init__(self, folder=".", program="xtc"):
         pipes = {it: subprocess.PIPE for it in ("stdin", "stdout", "stderr")}
         self._process = subprocess.Popen([found(program), "run"], cwd=folder, **pipes)
+        # Whoever writes has `_writing`, and never `_lock`: the program may read on only when its replies are read, and the reader needs `_lock` for that.
+        self._writing = threading.Lock()
         self._lock = threading.Lock()
         self._sent = collections.deque()  # calls whose own reply hasn't come, in the order of their lines
         self._waiting = {}  # the call with which a session waits
@@ -439,11 +441,13 @@ class Store:
     def send(self, session, name, keys):
         """Writes the line of a call, and answers its future."""
         call = Call(session, name)
+        call.set_running_or_notify_cancel()  # from here on it can't be cancelled: its line is written, and only an abort gives it up
         line = json.dumps({"s": session, "call": name, **keys}, ensure_ascii=False).encode() + b"\n"
-        with self._lock:
-            if self._end is not None:
-                raise self._end
-            self._sent.append(call)
+        with self._writing:
+            with self._lock:
+                if self._end is not None:
+                    raise self._end
+                self._sent.append(call)
             try:
                 self._process.stdin.write(line)
                 self._process.stdin.flush()
@@ -453,7 +457,7 @@ class Store:
 
     def close(self):
         """Ends the input and waits for the program; transactions that are live leave nothing. A status other than 0 is an exception."""
-        with self._lock:
+        with self._writing:
             if not self._process.stdin.closed:
                 try:
                     self._process.stdin.close()
