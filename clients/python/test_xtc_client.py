@@ -10,6 +10,7 @@ import io
 import json
 import os
 import re
+import shutil
 import subprocess
 import sys
 import tempfile
@@ -73,10 +74,11 @@ class Calls(WithStore):
             tried = set()
             for line, answer in lines_of_calls():
                 keys = {key: value for key, value in line.items() if key not in ("s", "call")}
-                self.assertEqual(getattr(session, line["call"])(**keys), answer, line)
+                self.assertEqual(json.loads(json.dumps(getattr(session, line["call"])(**keys))), answer, line)
                 tried.add(line["call"])
-            methods = {name for name in vars(client.Calls) if not name.startswith("_")}
-            self.assertEqual(tried | {"begin", "commit", "abort"}, methods)
+            self.assertEqual(tried | {"begin", "commit", "abort"}, set(client.CALLS))
+            for has_calls in (client.Session, client.Futures):
+                self.assertEqual(set(client.CALLS) - set(vars(has_calls)), set())
 
     def test_each_refusal_is_an_exception_of_its_own(self):
         long = "x" * 1048576
@@ -98,9 +100,16 @@ class Calls(WithStore):
             self.assertIs(client.REFUSALS[caught.exception.name], wanted)
 
     def test_a_bad_line_is_an_exception_with_its_reason(self):
-        with self.store() as store, self.assertRaises(client.BadLine) as caught:
-            store.session(65).begin()
-        self.assertEqual((caught.exception.why, caught.exception.line), ("s", 1))
+        with self.store() as store:
+            session = store.session()
+            for call, kind, why, line in [
+                (lambda: store.session(65).begin(), client.BadLine, "s", 1),
+                (lambda: session.find("1.1001", "a["), client.BadPath, "path Syntax 2", 2),
+                (lambda: session.create("x", ["a", ["1"]]), client.BadTree, "tree BadName /1/0", 3),
+            ]:
+                with self.subTest(why), self.assertRaises(kind) as caught:
+                    call()
+                self.assertEqual((caught.exception.why, caught.exception.line), (why, line))
 
     def test_texts_come_back_as_they_were(self):
         with self.store() as store:
@@ -119,7 +128,7 @@ class Waits(WithStore):
         call = second.futures.append("1.1001.1001", ["c"])
         with self.assertRaises(client.IsWaiting):
             second.node("1.1001.1001")
-        self.assertEqual((call.done(), call.wait), (False, {"asks": "CX", "by": [1], "on": "node 1.1001.1001"}))
+        self.assertEqual((call.done(), call.wait), (False, client.Wait("CX", [1], "node 1.1001.1001")))
         self.assertEqual(first.commit(), 2)
         self.assertEqual(call.result(10), "1.1001.1001.1003")
 
@@ -155,7 +164,7 @@ class Waits(WithStore):
         second.patience = 0.2
         with self.assertRaises(client.WaitedTooLong) as caught:
             second.append("1.1001.1001", ["c"])
-        self.assertEqual(caught.exception.wait["by"], [1])
+        self.assertEqual(caught.exception.wait.by, [1])
         with self.assertRaises(client.NoTransaction):
             second.commit()
 
@@ -207,7 +216,7 @@ class LongLines(WithStore):
 
     @staticmethod
     def store_of(session):
-        return session.futures._store
+        return session.store
 
 
 class Transactions(WithStore):
@@ -224,7 +233,7 @@ class Transactions(WithStore):
             with self.assertRaises(client.DocumentExists), session.transaction():
                 session.create("y", ["a"])
                 session.create("x", ["a"])
-            self.assertEqual(session.transact(lambda it: it.docs()), [["x", "1.1001"]])
+            self.assertEqual(session.transact(lambda it: it.docs()), [("x", "1.1001")])
 
     def test_a_block_is_done_again_after_a_deadlock(self):
         first, second = self.shared(["a"])
@@ -310,32 +319,37 @@ class Statuses(WithStore):
             (client.DocumentRefused, lambda: client.get("y", self.folder, PROGRAM)),
             (client.NotJsonMl, lambda: client.put("y", ["a", 1.5], self.folder, PROGRAM)),
             (client.LineTooLong, lambda: client.put("y", ["a", "x" * 17000000], self.folder, PROGRAM)),
-            (client.Usage, lambda: client.get("-x", self.folder, PROGRAM)),
+            (client.DocumentRefused, lambda: client.get("-x", self.folder, PROGRAM)),
+            (client.DocumentRefused, lambda: client.query("x", "a[", self.folder, PROGRAM)),
+            (client.Usage, lambda: client.Store(self.folder, PROGRAM, frames=0)),
         ]:
             with self.subTest(wanted.__name__), self.assertRaises(wanted) as caught:
                 call()
             self.assertEqual(caught.exception.status, wanted.status)
 
-    def test_a_store_that_is_in_use_isnt_available(self):
-        with self.store() as store:
-            store.session(1).begin()
-            with self.assertRaises(client.NotAvailable):
-                with self.store() as second:
-                    second.session(1).begin()
+    def test_an_opening_says_why_the_store_isnt_available(self):
+        def without(text):
+            return os.path.join(self.folder, text)
 
-    def test_a_program_that_ends_is_told_to_every_call(self):
+        os.mkdir(without("held"))
+        os.makedirs(without("odd/store.pages"))
+        with client.Store(without("held"), PROGRAM) as store:
+            for folder, reason in [("held", "another process has the store, with the number %d" % store._process.pid), ("none", "there is no folder"), ("odd", "is a folder")]:
+                with self.subTest(folder), self.assertRaisesRegex(client.NotAvailable, reason):
+                    client.Store(without(folder), PROGRAM)
+
+    def test_an_opening_raises_the_status(self):
         for wanted, name, made in [
             (client.Damaged, "store.journal", write_no_journal),
             (client.DiskFault, "store.journal", lambda path: os.symlink("/dev/full", path)),
         ]:
-            with self.subTest(wanted.__name__), tempfile.TemporaryDirectory() as folder:
+            with self.subTest(wanted.__name__), tempfile.TemporaryDirectory() as folder, self.assertRaises(wanted):
                 made(os.path.join(folder, name))
-                store = client.Store(folder, PROGRAM)
-                for _ in range(2):
-                    with self.assertRaises(wanted):
-                        store.session(1).begin()
-                with self.assertRaises(wanted):
-                    store.close()
+                client.Store(folder, PROGRAM)
+
+    def test_a_program_that_isnt_xtc_is_an_end(self):
+        with self.assertRaisesRegex(client.Ended, "no reply of xtc"):
+            client.Store(self.folder, shutil.which("yes"))
 
     def test_a_program_that_is_killed_is_told_to_every_call(self):
         store = self.store()
@@ -352,16 +366,106 @@ class Statuses(WithStore):
                 told()
             self.assertEqual(caught.exception.status, -9)
 
-    def test_a_line_that_is_too_long_ends_the_program(self):
+    def test_a_line_that_is_too_long_isnt_sent(self):
+        with self.store() as store, store.session() as session:
+            with session.transaction() as transaction:
+                with self.assertRaises(client.LineLimit):
+                    session.create("x", ["a", "x" * 1048576])
+                session.create("y")
+            self.assertEqual(transaction.number, 1)
+
+    def test_nothing_is_done_behind_close(self):
         store = self.store()
-        session = store.session(1)
+        session = store.session()
         session.begin()
-        waiting = session.futures.create("x", ["a", "x" * 1048576])
-        with self.assertRaises(client.LineTooLong) as caught:
-            waiting.result(10)
-        self.assertEqual(str(caught.exception), "xtc: line 2 is too long")
-        with self.assertRaises(client.LineTooLong):
-            store.close()
+        store.close()
+        store.close()
+        for call in (session.docs, session.futures.docs):
+            with self.assertRaises(client.Closed):
+                call()
+        session.close()
+
+
+class Sessions(WithStore):
+    def test_a_free_number_is_taken_and_given_back(self):
+        with self.store() as store:
+            with store.session() as first, store.session() as second:
+                self.assertEqual((first.number, second.number, store.session(3).number, store.session().number), (1, 2, 3, 4))
+            self.assertEqual(store.session().number, 1)
+            rest = [store.session() for _ in range(61)]
+            self.assertEqual((rest[0].number, rest[-1].number), (2, 64))
+            with self.assertRaises(client.NoSession):
+                store.session()
+
+    def test_what_is_given_back_holds_nothing(self):
+        first, second = self.shared(["a"])
+        first.set_attr("1.1001.1001", "k", "v")
+        with second.store.session() as third, concurrent.futures.ThreadPoolExecutor() as pool:
+            third.begin()
+            value = pool.submit(third.attr, "1.1001.1001", "k")
+            first.close()
+            self.assertEqual(value.result(10), "")
+        first.begin()
+        self.assertEqual(first.attr("1.1001.1001", "k"), "")
+
+
+class Options(WithStore):
+    def test_a_checkpoint_is_made_and_frames_change_nothing(self):
+        with client.Store(self.folder, PROGRAM, checkpoint=1, frames=1) as store, store.session() as session:
+            with session.transaction():
+                session.create("x", ["a"])
+        self.assertEqual(os.path.getsize(os.path.join(self.folder, "store.pages")), 24576)
+        self.assertEqual(client.get("x", self.folder, PROGRAM), ["a"])
+
+    def test_a_trace_is_drawn_by_timeline(self):
+        trace = os.path.join(self.folder, "trace")
+        with client.Store(self.folder, PROGRAM, trace=trace) as store:
+            first, second = store.session(), store.session()
+            with first.transaction():
+                first.create("x", ["a"])
+            first.begin()
+            second.begin()
+            first.children("1.1001.1001")
+            call = second.futures.append("1.1001.1001", ["c"])
+            first.commit()
+            call.result(10)
+        with tempfile.TemporaryDirectory() as beside, open(trace + ".script", "rb") as script, open(trace + ".replies", "rb") as replies:
+            self.assertEqual(subprocess.run([PROGRAM, "run"], cwd=beside, stdin=script, stdout=subprocess.PIPE).stdout, replies.read())
+        drawn = subprocess.run([os.path.join(ROOT, "tools", "timeline"), trace + ".script", trace + ".replies"], stdout=subprocess.PIPE, check=True).stdout
+        self.assertIn(b"waits for 1", drawn)
+
+
+class Values(unittest.TestCase):
+    def test_labels_say_what_they_name(self):
+        for text, node, attribute, parent in [
+            ("1.1001", "1.1001", None, None),
+            ("1.1001.1002.1001", "1.1001.1002.1001", None, "1.1001"),
+            ("1.1001.1001.1002.2.999", "1.1001.1001.1002.2.999", None, "1.1001.1001"),
+            ("1.1001.1001/@x:k", "1.1001.1001", "x:k", "1.1001.1001"),
+        ]:
+            label = client.Label(text)
+            self.assertEqual((label, label.node, label.attribute, label.parent), (text, node, attribute, parent))
+        in_order = ["1.1001", "1.1001.1001", "1.1001.1001.1003", "1.1001.1002.1001", "1.1001.1003", "1.1003"]
+        self.assertEqual(sorted(map(client.Label, reversed(in_order)), key=lambda it: it.divisions), in_order)
+
+    def test_elements_are_taken_apart_and_put_together(self):
+        for tree, parts in [(["a"], ("a", {}, [])), (["a", {"k": "v"}, "t", ["b"]], ("a", {"k": "v"}, ["t", ["b"]])), (["a", "t"], ("a", {}, ["t"]))]:
+            element = client.Element.of(tree)
+            self.assertEqual((element.name, element.attributes, element.children, element.tree), (*parts, tree))
+        for no_element in ("a", [], [["a"]], None):
+            with self.assertRaises(TypeError):
+                client.Element.of(no_element)
+
+    def test_bad_paths_and_trees_say_where(self):
+        self.assertEqual([(it.word, it.place) for it in (client.BadPath("path Syntax 6", 1), client.BadPath("path", 1))], [("Syntax", 6), (None, None)])
+        self.assertEqual([(it.rule, it.place) for it in (client.BadTree("tree BadName /1/0", 1), client.BadTree("tree", 1))], [("BadName", "/1/0"), (None, "")])
+
+
+class Typing(unittest.TestCase):
+    @unittest.skipUnless(shutil.which("mypy"), "mypy isn't there")
+    def test_mypy_finds_nothing_by_its_strict_rules(self):
+        ran = subprocess.run(["mypy", "--cache-dir", os.devnull], cwd=HERE, stdout=subprocess.PIPE)
+        self.assertEqual(ran.returncode, 0, ran.stdout.decode())
 
 
 if __name__ == "__main__":

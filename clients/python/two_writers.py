@@ -7,22 +7,24 @@ Both read the count and then change it, so each waits for the other or meets a d
 the count is right.
 """
 
+from __future__ import annotations
+
 import sys
 import tempfile
 import threading
 
-from xtc_client import Store
+from xtc_client import Element, Session, Store
 
 
-def add_book(session, title):
+def add_book(session: Session, title: str) -> None:
     """In one transaction: a book more, and the count of books one higher."""
-    catalogue = session.first(session.doc("catalogue"))
+    catalogue = session.first(session.doc("catalogue")) or ""
     count = int(session.attr(catalogue, "count"))
     session.append(catalogue, ["book", {"by": str(session.number)}, ["title", title]])
     session.set_attr(catalogue, "count", str(count + 1))
 
 
-def write(session, books, tries):
+def write(session: Session, books: int, tries: dict[int, int]) -> None:
     for number in range(books):
         for transaction in session.transactions():
             with transaction:
@@ -30,19 +32,22 @@ def write(session, books, tries):
             tries[session.number] += 1
 
 
-def main(program="xtc", books="10"):
-    tries = {1: 0, 2: 0}
+def main(program: str = "xtc", books: str = "10") -> int:
     with tempfile.TemporaryDirectory() as folder, Store(folder, program) as store:
-        with store.session(3).transaction():
-            store.session(3).create("catalogue", ["catalogue", {"count": "0"}])
-        writers = [threading.Thread(target=write, args=(store.session(it), int(books), tries)) for it in tries]
-        for writer in writers:
-            writer.start()
-        for writer in writers:
-            writer.join()
-        name, attributes, *found = store.session(3).transact(lambda it: it.dump(it.doc("catalogue")))
-    print("%s: count %s, %d books, %d by writer 1; %d transactions tried" % (name, attributes["count"], len(found), sum(book[1]["by"] == "1" for book in found), sum(tries.values())))
-    return 0 if int(attributes["count"]) == len(found) == 2 * int(books) else 1
+        sessions = [store.session(), store.session()]
+        tries = {session.number: 0 for session in sessions}
+        with store.session() as session:
+            session.transact(lambda it: it.create("catalogue", ["catalogue", {"count": "0"}]))
+            writers = [threading.Thread(target=write, args=(it, int(books), tries)) for it in sessions]
+            for writer in writers:
+                writer.start()
+            for writer in writers:
+                writer.join()
+            catalogue = Element.of(session.transact(lambda it: it.dump(it.doc("catalogue"))))
+    count, found = catalogue.attributes["count"], [Element.of(book) for book in catalogue.children]
+    of_one = sum(book.attributes["by"] == "1" for book in found)
+    print("%s: count %s, %d books, %d by writer 1; %d transactions tried" % (catalogue.name, count, len(found), of_one, sum(tries.values())))
+    return 0 if count == str(len(found)) == str(2 * int(books)) else 1
 
 
 if __name__ == "__main__":

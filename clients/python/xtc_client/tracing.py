@@ -1,0 +1,24 @@
+"""Lines and replies in two files, as `tools/timeline` reads them."""
+
+from __future__ import annotations
+
+import os
+from typing import BinaryIO
+
+
+class Trace:
+    """Writes what was asked to PREFIX.script and what was answered to PREFIX.replies, each as it comes; files of that name are begun anew."""
+
+    def __init__(self, prefix: str | os.PathLike[str]) -> None:
+        self._script: BinaryIO = open(os.fspath(prefix) + ".script", "wb")
+        self._replies: BinaryIO = open(os.fspath(prefix) + ".replies", "wb")
+
+    def asked(self, lines: bytes) -> None:
+        self._script.write(lines)
+
+    def answered(self, line: bytes) -> None:
+        self._replies.write(line)
+
+    def close(self) -> None:
+        self._script.close()
+        self._replies.close()
