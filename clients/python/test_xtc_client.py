@@ -278,30 +278,6 @@ class Transactions(WithStore):
         self.assertIn("count 40, 40 books, 20 by writer 1", said.getvalue())
 
 
-class Documents(WithStore):
-    def docs(self, *words, given=b""):
-        """What xtc_docs writes and ends with."""
-        tool = [sys.executable, "-B", os.path.join(HERE, "xtc_docs.py"), "--program", PROGRAM]
-        ran = subprocess.run(tool + list(words), cwd=self.folder, input=given, stdout=subprocess.PIPE, stderr=subprocess.PIPE)
-        return ran.returncode, ran.stdout.decode()
-
-    def test_documents_are_listed_dropped_and_replaced(self):
-        for words, given, wanted in [
-            (("list",), b"", (0, "")),
-            (("replace", "x"), b'["a"]', (0, "")),
-            (("replace", "x"), b'["b"]', (0, "")),
-            (("replace", "y"), b'["a"]', (0, "")),
-            (("drop", "x", "z"), b"", (10, "")),
-            (("list",), b"", (0, "x\ny\n")),
-            (("replace", "y"), b"[1]", (9, "")),
-            (("replace", "y"), b"no", (9, "")),
-            (("drop", "y"), b"", (0, "")),
-            (("list",), b"", (0, "x\n")),
-        ]:
-            self.assertEqual(self.docs(*words, given=given), wanted, words)
-        self.assertEqual(client.get("x", self.folder, PROGRAM), ["b"])
-
-
 class Statuses(WithStore):
     def test_each_status_of_the_manual_has_its_type(self):
         rows = re.findall(r"(?m)^\| (\d+) \| *(\w*) *\|", manual().split("\n## Statuses\n")[1])

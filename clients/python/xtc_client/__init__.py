@@ -54,15 +54,17 @@ from .errors import (
     XtcError,
 )
 from .program import get, put, query
-from .store import Call, Futures, Session, Store, Transaction
+from .placing import append_large, create_large
+from .store import Attempt, Call, Futures, Session, Store, Transaction
 from .values import Document, Element, Label, Node, Replaced, Tree, Wait
 
 __version__ = "1.0.0"
 
 __all__ = [
-    "Aborted", "BadLine", "BadPath", "BadTree", "Call", "CALLS", "Closed", "CommitLimit", "Damaged", "Deadlock", "DiskFault", "Document",
-    "DocumentExists", "DocumentRefused", "Element", "Ended", "Futures", "get", "HierarchyRequestError", "IndexSizeError", "InTransaction",
-    "InvalidCharacterError", "IsWaiting", "Label", "LabelLimit", "LineLimit", "LineTooLong", "Node", "NoMemory", "NoSession", "NotAvailable",
-    "NotFoundError", "NotJsonMl", "NoTransaction", "NotSupportedError", "put", "query", "ReadFault", "REFUSALS", "Refused", "Replaced", "Request",
-    "Session", "STATUSES", "Store", "TextLimit", "TooDeep", "Transaction", "Tree", "TxLimit", "Usage", "Wait", "WaitedTooLong", "WriteFault", "XtcError",
+    "Aborted", "append_large", "Attempt", "BadLine", "BadPath", "BadTree", "Call", "CALLS", "Closed", "CommitLimit", "create_large", "Damaged",
+    "Deadlock", "DiskFault", "Document", "DocumentExists", "DocumentRefused", "Element", "Ended", "Futures", "get", "HierarchyRequestError",
+    "IndexSizeError", "InTransaction", "InvalidCharacterError", "IsWaiting", "Label", "LabelLimit", "LineLimit", "LineTooLong", "Node", "NoMemory",
+    "NoSession", "NotAvailable", "NotFoundError", "NotJsonMl", "NoTransaction", "NotSupportedError", "put", "query", "ReadFault", "REFUSALS", "Refused",
+    "Replaced", "Request", "Session", "STATUSES", "Store", "TextLimit", "TooDeep", "Transaction", "Tree", "TxLimit", "Usage", "Wait", "WaitedTooLong",
+    "WriteFault", "XtcError",
 ]

@@ -141,7 +141,17 @@ class Session:
         """For `with`: begins, commits at the end of the block, and aborts where the block is left by an exception."""
         return Transaction(self)
 
-    def transactions(self, attempts: int = 100) -> Iterator[Transaction]:
+    @contextlib.contextmanager
+    def reading(self) -> Iterator[Session]:
+        """For `with`: a transaction that only reads. It is aborted at the end of the block, so nothing is written."""
+        self.begin()
+        try:
+            yield self
+        finally:
+            with contextlib.suppress(NoTransaction, Ended):
+                self.abort()
+
+    def transactions(self, attempts: int = 100) -> Iterator[Attempt]:
         """For `for` and `with`: the block is done again after each deadlock, until it has committed or been left by another exception.
 
             for transaction in session.transactions():
@@ -152,7 +162,7 @@ class Session:
         be longer after each deadlock, up to a second.
         """
         for attempt in range(1, attempts + 1):
-            transaction = Transaction(self, is_last=attempt == attempts)
+            transaction = Attempt(self, is_last=attempt == attempts)
             yield transaction
             if not transaction.is_deadlock:
                 return
@@ -277,28 +287,23 @@ def pause_after(attempt: int) -> float:
     return random.uniform(0, min(MOST_PAUSE, 0.002 * 2**attempt))
 
 
-class Transaction:
-    """A transaction of a session. `ordinal` is its begin's answer, `number` its commit's, None before."""
+class Bounds:
+    """Where a transaction begins and ends. `ordinal` is its begin's answer, `number` its commit's, None before."""
 
-    def __init__(self, session: Session, is_last: bool = True) -> None:
-        self.session, self._is_last = session, is_last
+    def __init__(self, session: Session) -> None:
+        self.session = session
         self.ordinal: int | None = None
         self.number: int | None = None
-        self.is_deadlock = False
 
-    def __enter__(self) -> Transaction:
+    def begin(self) -> None:
         self.ordinal = self.session.begin()
-        return self
 
-    def __exit__(self, kind: type[BaseException] | None, error: BaseException | None, trace: TracebackType | None) -> bool:
+    def end(self, error: BaseException | None) -> None:
+        """Commits, or aborts what an exception has left, unless it has ended by that."""
         if error is None:
             self._commit()
-        elif isinstance(error, Deadlock):
-            self.is_deadlock = True
-            return not self._is_last
-        elif not isinstance(error, (Ended, WaitedTooLong)):
+        elif not isinstance(error, (Deadlock, Ended, WaitedTooLong)):
             self._abort()
-        return False
 
     def _commit(self) -> None:
         try:
@@ -312,6 +317,35 @@ class Transaction:
             self.session.abort()
         except NoTransaction:
             pass  # the block has ended it by itself
+
+
+class Transaction(Bounds):
+    """A transaction of a session, for `with`."""
+
+    def __enter__(self) -> Transaction:
+        self.begin()
+        return self
+
+    def __exit__(self, kind: type[BaseException] | None, error: BaseException | None, trace: TracebackType | None) -> None:
+        self.end(error)
+
+
+class Attempt(Bounds):
+    """A transaction that is tried again after a deadlock, for `with`: its block is left without an exception then, unless it is the last."""
+
+    def __init__(self, session: Session, is_last: bool) -> None:
+        super().__init__(session)
+        self._is_last = is_last
+        self.is_deadlock = False
+
+    def __enter__(self) -> Attempt:
+        self.begin()
+        return self
+
+    def __exit__(self, kind: type[BaseException] | None, error: BaseException | None, trace: TracebackType | None) -> bool:
+        self.end(error)
+        self.is_deadlock = isinstance(error, Deadlock)
+        return self.is_deadlock and not self._is_last
 
 
 class Store:
