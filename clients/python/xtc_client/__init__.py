@@ -12,6 +12,7 @@ waits for another session; `session.futures` has the same methods, which answer 
 A refusal is an exception of the type that REFUSALS names, a deadlock `Deadlock`, and an end of the program one of the types of STATUSES.
 """
 
+from .asynchronous import AsyncSession, AsyncStore
 from .calls import CALLS, Request
 from .errors import (
     REFUSALS,
@@ -61,10 +62,10 @@ from .values import Document, Element, Label, Node, Replaced, Tree, Wait
 __version__ = "1.0.0"
 
 __all__ = [
-    "Aborted", "append_large", "Attempt", "BadLine", "BadPath", "BadTree", "Call", "CALLS", "Closed", "CommitLimit", "create_large", "Damaged",
-    "Deadlock", "DiskFault", "Document", "DocumentExists", "DocumentRefused", "Element", "Ended", "Futures", "get", "HierarchyRequestError",
-    "IndexSizeError", "InTransaction", "InvalidCharacterError", "IsWaiting", "Label", "LabelLimit", "LineLimit", "LineTooLong", "Node", "NoMemory",
-    "NoSession", "NotAvailable", "NotFoundError", "NotJsonMl", "NoTransaction", "NotSupportedError", "put", "query", "ReadFault", "REFUSALS", "Refused",
-    "Replaced", "Request", "Session", "STATUSES", "Store", "TextLimit", "TooDeep", "Transaction", "Tree", "TxLimit", "Usage", "Wait", "WaitedTooLong",
-    "WriteFault", "XtcError",
+    "Aborted", "append_large", "AsyncSession", "AsyncStore", "Attempt", "BadLine", "BadPath", "BadTree", "Call", "CALLS", "Closed", "CommitLimit",
+    "create_large", "Damaged", "Deadlock", "DiskFault", "Document", "DocumentExists", "DocumentRefused", "Element", "Ended", "Futures", "get",
+    "HierarchyRequestError", "IndexSizeError", "InTransaction", "InvalidCharacterError", "IsWaiting", "Label", "LabelLimit", "LineLimit", "LineTooLong",
+    "Node", "NoMemory", "NoSession", "NotAvailable", "NotFoundError", "NotJsonMl", "NoTransaction", "NotSupportedError", "put", "query", "ReadFault",
+    "REFUSALS", "Refused", "Replaced", "Request", "Session", "STATUSES", "Store", "TextLimit", "TooDeep", "Transaction", "Tree", "TxLimit", "Usage",
+    "Wait", "WaitedTooLong", "WriteFault", "XtcError",
 ]

@@ -3,11 +3,12 @@
 from __future__ import annotations
 
 import json
+import random
 from collections import deque
 from typing import Any, Generic, TypeVar
 
 from .calls import Request
-from .errors import Aborted, LineLimit, XtcError, error_of
+from .errors import Aborted, LineLimit, NoSession, XtcError, error_of
 from .values import Wait
 
 T = TypeVar("T")
@@ -15,8 +16,14 @@ T = TypeVar("T")
 LINE = 1048576
 """The most bytes that a line may have before its end."""
 
+SESSIONS = 64
+"""How many sessions a store has."""
+
 OPENING = b"{}\n"
 """The first line: it is no request, changes nothing and names no session, and its reply says that the store is open."""
+
+MOST_PAUSE = 1.0
+"""Seconds, after many deadlocks."""
 
 _encode = json.JSONEncoder(ensure_ascii=False, separators=(",", ":")).encode
 _decode = json.JSONDecoder().raw_decode
@@ -47,6 +54,11 @@ class Pending(Generic[T]):
             self.succeed(value)
 
 
+def pause_after(attempt: int) -> float:
+    """How many seconds to pause after so many deadlocks: by chance, so that those who met don't meet again."""
+    return random.uniform(0, min(MOST_PAUSE, 0.002 * 2**attempt))
+
+
 def line_of(session: int, request: Request[Any]) -> bytes:
     """The line of a call, or LineLimit."""
     # Key by key: of a text, which most values are, the encoder is quick.
@@ -55,6 +67,26 @@ def line_of(session: int, request: Request[Any]) -> bytes:
     if len(line) > LINE + 1:
         raise LineLimit(len(line) - 1)
     return line
+
+
+class Numbers:
+    """The numbers of sessions, from 1 to 64, and which of them are taken."""
+
+    def __init__(self) -> None:
+        self._taken: set[int] = set()
+
+    def take(self, number: int | None = None) -> int:
+        """Takes this number, also where it is taken already, or the least one that is free; NoSession where none is."""
+        if number is None:
+            number = min(set(range(1, SESSIONS + 1)) - self._taken, default=None)
+            if number is None:
+                raise NoSession("all %d sessions are taken" % SESSIONS)
+        self._taken.add(number)
+        return number
+
+    def give_back(self, number: int) -> None:
+        """Makes a number free again."""
+        self._taken.discard(number)
 
 
 class Conversation:

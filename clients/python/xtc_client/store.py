@@ -8,7 +8,6 @@ import functools
 import inspect
 import os
 import queue
-import random
 import subprocess
 import threading
 import time
@@ -17,16 +16,13 @@ from typing import Any, Callable, Concatenate, Iterator, Literal, ParamSpec, Typ
 
 from . import calls
 from .calls import Request
-from .conversation import OPENING, Conversation, Pending, line_of
-from .errors import BadLine, Closed, CommitLimit, Deadlock, Ended, NoSession, NoTransaction, WaitedTooLong
+from .conversation import OPENING, Conversation, Numbers, Pending, line_of, pause_after
+from .errors import BadLine, Closed, CommitLimit, Deadlock, Ended, NoTransaction, WaitedTooLong
 from .program import command_of_run, need_folder, why_ended
 from .tracing import Trace
 
 T = TypeVar("T")
 P = ParamSpec("P")
-MOST_SESSIONS = 64
-MOST_PAUSE = 1.0
-"""Seconds, after many deadlocks."""
 
 
 def described(method: Callable[..., Any], make: Callable[..., Request[Any]]) -> None:
@@ -58,7 +54,10 @@ def later(make: Callable[P, Request[T]]) -> Callable[Concatenate[Futures, P], Ca
 
 
 class Call(Pending[T], concurrent.futures.Future):  # type: ignore[type-arg]  # a Future of T, which the type of `result` says
-    """What a call is answered, as a future. It is sent, so `cancel` answers False: only an abort of its session gives up one that waits."""
+    """What a call is answered, as a future. It is sent, so `cancel` answers False: only an abort of its session gives up one that waits.
+
+    Its callbacks run in the thread that reads replies, so they make no blocking call.
+    """
 
     def __init__(self, session: int, request: Request[T]) -> None:
         Pending.__init__(self, session, request)
@@ -282,11 +281,6 @@ class Futures:
     set_text = later(calls.set_text)
 
 
-def pause_after(attempt: int) -> float:
-    """How many seconds to pause after so many deadlocks: by chance, so that those who met don't meet again."""
-    return random.uniform(0, min(MOST_PAUSE, 0.002 * 2**attempt))
-
-
 class Bounds:
     """Where a transaction begins and ends. `ordinal` is its begin's answer, `number` its commit's, None before."""
 
@@ -377,7 +371,7 @@ class Store:
         self._writing = threading.Lock()
         self._queued: list[bytes] = []
         self._end: Ended | None = None
-        self._taken: set[int] = set()
+        self._numbers = Numbers()
         self._writer: queue.SimpleQueue[bool] | None = None
         self._reader = threading.Thread(target=self._read, name="xtc replies", daemon=True)
         self._reader.start()
@@ -399,17 +393,12 @@ class Store:
     def session(self, number: int | None = None, patience: float | None = None) -> Session:
         """A session with a number that is free, or with this one, from 1 to 64. It is given back by its `close`, or behind `with`. NoSession where all are taken."""
         with self._lock:
-            if number is None:
-                number = min(set(range(1, MOST_SESSIONS + 1)) - self._taken, default=None)
-                if number is None:
-                    raise NoSession("all %d sessions are taken" % MOST_SESSIONS)
-            self._taken.add(number)
-        return Session(self, number, patience)
+            return Session(self, self._numbers.take(number), patience)
 
     def give_back(self, number: int) -> None:
         """Makes a session's number free again; `Session.close` calls it."""
         with self._lock:
-            self._taken.discard(number)
+            self._numbers.give_back(number)
 
     def send(self, call: Pending[Any], at_once: bool = True) -> None:
         """Sends the line of a call, in this thread where it is to go at once; else with others, in a thread that writes."""
