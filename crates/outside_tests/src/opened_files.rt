@@ -51,8 +51,11 @@ fn what_is_written_is_there_when_the_files_are_opened_again(rt: HostRuntime) -> 
 fn opened_as_one(rt: &HostRuntime) -> Result<bool, Fail> {
     let streams = Streams::take(rt)?;
     drop(File::create(rt, "store.journal")?);
+    let _gone = fs::remove_file(rt, "store.pages");
     fs::hard_link(rt, "store.journal", "store.pages")?;
-    Ok(StoreFiles::open(rt, &streams).is_ok())
+    let opened = StoreFiles::open(rt, &streams).is_ok();
+    fs::remove_file(rt, "store.pages")?;
+    Ok(opened)
 }
 
 #[test]
