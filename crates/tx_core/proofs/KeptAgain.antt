@@ -26,7 +26,7 @@ use Rattle.tx_core.proofs.Counted.{IsTold, counts_go, counts_stay}
 use Rattle.tx_core.specs.inside.Goes.{Stays}
 use Rattle.overlays.specs.Views.{contents_after}
 use Rattle.tx_core.specs.Drains.{Undrained}
-use Rattle.tx_core.proofs.Kept.{shown, shown_so}
+use Rattle.tx_core.proofs.Kept.{core_reached, shown, shown_so}
 use Rattle.tx_core.proofs.Reached.{all_append, stands_same}
 use Rattle.tx_core.proofs.ToldAgain.{seat_waits, told_waiting, waits_with}
 
@@ -122,7 +122,7 @@ module _ {C B : Type 0} (is_valid : C → Type 0) (m : CallMeaning C) (told : B 
     noted = is.noted;
     may_be = is.may_be;
     view = go is.noted is.moved;
-    step = λ t opens. is.step (last m (start t number limit) p.book.items) (core.run t opens).stands (waits t opens);
+    step = λ t opens. is.step (last m (start t number limit) p.book.items) (core_reached is_valid m told count opening number limit p core t opens) (core.run t opens).stands (waits t opens);
   }))
     where
       go : (noted : Bool) → HasMoved is_valid m told p s c a noted q → shown told opening number limit u q ≡ over (with_retry (shown told opening number limit u p) s a noted) q.base
@@ -149,7 +149,7 @@ module _ {C B : Type 0} (is_valid : C → Type 0) (m : CallMeaning C) (told : B 
     noted = is.noted;
     may_be = is.may_be;
     moved = go is.noted is.moved;
-    step = λ st stands. is.step st (stays.state st stands);
+    step = λ st reached stands. is.step st reached (stays.state st stands);
   }
     where
       go : (noted : Bool) → HasMoved is_valid m told p1 s c a noted q → HasMoved is_valid m told p s c a noted q

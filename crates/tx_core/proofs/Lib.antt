@@ -24,6 +24,7 @@ pub mod Retried
 pub mod Seats
 pub mod Sent
 pub mod Spared
+pub mod StillBarred
 pub mod Told
 pub mod ToldAgain
 pub mod Truths

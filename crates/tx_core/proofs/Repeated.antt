@@ -208,11 +208,15 @@ none_lacks : (f : Resource → Option Ask) (gs : List Request) → AllByRecursio
 none_lacks f [] all = refl
 none_lacks f (g ∷ gs) all = ap₂ (λ (x y : Bool). not x || y) ((has_mode_decides (f g.resource) g.ask).1 all.0) (none_lacks f gs all.1)
 
+-- no grant is lacking
+pub none_lacking : (gs : List Request) → list_any (λ g. not (has_mode (join_of gs g.resource) g.ask)) gs ≡ false
+none_lacking gs = none_lacks (join_of gs) gs (all_held (λ r. None) gs)
+
 -- a list of grants with more holds more exactly where one of these does
 pub more_lack : (gs more : List Request) → hold_more gs (gs ++ more) ≡ list_any (λ g. not (has_mode (join_of gs g.resource) g.ask)) more
 more_lack gs more =
     list_any-append (λ g. not (has_mode (join_of gs g.resource) g.ask)) gs more
-    ∙ ap (λ b. b || list_any (λ g. not (has_mode (join_of gs g.resource) g.ask)) more) (none_lacks (join_of gs) gs (all_held (λ r. None) gs))
+    ∙ ap (λ b. b || list_any (λ g. not (has_mode (join_of gs g.resource) g.ask)) more) (none_lacking gs)
 
 after_both : (h : Option Ask) (gs more : List Request) (r : Resource) → held_after h (gs ++ more) r ≡ held_after (held_after h gs r) more r
 after_both h [] more r = refl

@@ -109,7 +109,7 @@ module _ {C B : Type 0} (is_valid : C → Type 0) (m : CallMeaning C) (told : B 
         may_be = subst (λ x. IsNotedRetry x true) (sym is.is) refl;
         moved = goes_again p s c (retry_entry s a) q (is.book ∙ ap (λ xs. xs ++ retry_entry s a ∷ []) same) is.prepared
             (λ st stands at. ((step st stands at).outcome, (step st stands at).step, (step st stands at).is, (step st stands at).stands));
-        step = λ st stands at. record { after = (step st stands at).outcome; step = (step st stands at).step; answer = sym (step st stands at).is; changed = (step st stands at).changed };
+        step = λ st reached stands at. record { after = (step st stands at).outcome; step = (step st stands at).step; answer = sym (step st stands at).is; changed = (step st stands at).changed };
       }
 
   -- where a request is barred the transaction ends or waits again
@@ -124,7 +124,7 @@ module _ {C B : Type 0} (is_valid : C → Type 0) (m : CallMeaning C) (told : B 
         may_be = subst (λ x. IsNotedRetry x true) (sym is.is) refl;
         moved = goes_again p s c (retry_entry s a) q (is.book ∙ ap (λ xs. xs ++ retry_entry s a ∷ []) same) is.prepared
             (λ st stands at. (outcome st at.live, step_is st stands at, ap said.Call is.is, state_is st stands at));
-        step = λ st stands at. record {
+        step = λ st reached stands at. record {
           after = outcome st at.live;
           step = step_is st stands at;
           answer = sym (ap said.Call is.is);
@@ -176,7 +176,7 @@ module _ {C B : Type 0} (is_valid : C → Type 0) (m : CallMeaning C) (told : B 
         noted = is.noted;
         may_be = subst (λ x. IsNotedRetry x is.noted) (sym is.is) tt;
         moved = moved is.noted refl is.moved;
-        step = λ st stands at. record { after = outcome st at.live; step = step_is st stands at; answer = sym (answer_is st stands at); changed = changed_is st stands at };
+        step = λ st reached stands at. record { after = outcome st at.live; step = step_is st stands at; answer = sym (answer_is st stands at); changed = changed_is st stands at };
       }
     where
       outcome : State C → Live C → steps.Outcome C

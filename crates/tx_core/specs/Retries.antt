@@ -5,7 +5,8 @@ use Rattle.std.specs.Str.{bytes_eq}
 use Rattle.tree_model.specs.Entries.{Entries}
 use Rattle.call_contract.specs.Books.{entry}
 use Rattle.call_contract.specs.Calls.{CallMeaning}
-use Rattle.call_contract.specs.States.{Live, Waiting, State, of_session}
+use Rattle.call_contract.specs.Attempts.{is_barred}
+use Rattle.call_contract.specs.States.{Live, Waiting, State, of_session, others}
 use Rattle.call_contract.specs.Steps.{Outcome, step}
 use Rattle.call_contract.specs.declared.events.Answer.{Answer}
 use Rattle.call_contract.specs.declared.events.Answer.TheVariants as answer
@@ -43,6 +44,14 @@ wait_alike w v = false
 abbrev pub has_changed : {C : Type 0} → Option (Live C) → Option (Live C) → Bool
 has_changed (Some t) (Some u) = hold_more t.grants u.grants || not (wait_alike t.waits u.waits)
 has_changed t u = true
+
+-- in this state others still bar the request with which the session's transaction waits
+pub record IsStillBarred {C : Type 0} (st : State C) (s : ℕ) : Type 0 where
+  pub transaction : Live C
+  pub live : of_session s st.live ≡ Some transaction
+  pub waiting : Waiting C
+  pub waits : transaction.waits ≡ Some waiting
+  pub barred : is_barred waiting.request (others s st.live) ≡ true
 
 -- the retry of a session in a state is answered so, and the transaction then holds more or waits for something else, or it doesn't
 pub record IsRetried {C : Type 0} (m : CallMeaning C) (st : State C) (s : ℕ) (a : Answer) (noted : Bool) : Type 0 where

@@ -18,7 +18,7 @@ ghost use Rattle.tx_core.specs.Commits.{IsPrepared, HasChangesOf, IsPastLimitIn,
 ghost use Rattle.tx_core.specs.Cores.{opened_over, with_entry, with_committed, drained, over, HasFewMore, InState, BeforeAndAfter, next_number, waits_in, IsLeftBy, IsGivenUpBy, IsUndrained};
 ghost use Rattle.tx_core.specs.Queues.{HasQueue};
 ghost use Rattle.tx_core.specs.Refusals.{begin_refused, call_refused, abort_refused, shown_refusal, shown_prepare_refusal, shown_call_refusal};
-ghost use Rattle.tx_core.specs.Retries.{HasRetried};
+ghost use Rattle.tx_core.specs.Retries.{HasRetried, IsStillBarred};
 ghost use Rattle.tx_core.specs.Truths.{LiveStand, ShowsCycle};
 
 use crate::attempts::attempt;
@@ -153,6 +153,8 @@ impl<C: TreeCall + Drop, B: NodeRead + Drop> Core<C, B> {
     }
 
     /// A further attempt of the call with which a session waits. One that waits again is an entry of the book only where it holds more or waits for something else.
+    /// Where the request that it waits for is still barred, it costs a look at who holds what at that resource: then nothing is read of the base and nothing is changed.
+    /// Else the call is attempted in full.
     pub fn retry(&mut self, alloc: Global, session: u32) -> Result<Answer, CallError>
         requires { IsTrue (waits_in (live_in self.old.book session)) }
         ensures ok { IfOk result (λ a. HasRetried C.meaning B.contents self.old session a self.new) }
@@ -162,6 +164,8 @@ impl<C: TreeCall + Drop, B: NodeRead + Drop> Core<C, B> {
         ensures cause { HasCause CallError.DiskFault (B.count self.old.base) (B.count self.new.base) result }
         ensures deadlock { BeforeAndAfter C.meaning B.contents self.old self.new
             (λ before after. ShowsCycle C.meaning before after session event.Retry result) }
+        ensures barred { InState C.meaning B.contents self.old
+            (λ st. IsStillBarred st session → OnOk result (self.new ≡ self.old)) }
     {
         retry(alloc, &mut self.parts, session)
     }

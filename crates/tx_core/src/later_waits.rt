@@ -6,7 +6,7 @@ ghost use Rattle.tx_core.specs.Retries.{same_request};
 ghost use Rattle.tx_core.specs.inside.Sessions.{HasRoom, IsSeated, IsSeatedAs};
 ghost use Rattle.tx_core.specs.inside.Goes.{Stays, AnyWaitWouldClose};
 ghost use Rattle.tx_core.specs.inside.Passed.{ArePassed};
-ghost use Rattle.tx_core.specs.inside.Retrying.{waiting_call, waits_for_it, WaitsAgain, IsClosedAgain, IsStoppedAgain};
+ghost use Rattle.tx_core.specs.inside.Retrying.{waiting_call, waits_for_it, TellsBarred, WaitsAgain, IsClosedAgain, IsStoppedAgain};
 
 use crate::ends::stop_waiting;
 use crate::parts::Parts;
@@ -17,6 +17,7 @@ use crate::waits::{Copies, answer_of, copies_of, cycle_of};
 use call_contract::{Answer, TreeCall};
 use dewey_labels::{List, NoMemory};
 use lock_resources::Request;
+use lock_table::LockTable;
 use node_seq::NodeRead;
 use std::alloc::Global;
 use wait_graph::WaitGraph;
@@ -36,6 +37,26 @@ fn waits_for(graph: &WaitGraph, session: u32, request: &Request) -> bool
         Some(other) => is_same(other, request),
         None => false,
     }
+}
+
+/// Where others still bar the request with which a session waits, the answer that it waits on. This looks at who holds what at the request's resource, and at nothing else.
+pub fn still_barred(
+    alloc: Global,
+    graph: &WaitGraph,
+    table: &LockTable,
+    session: u32,
+) -> Result<Option<Answer>, NoMemory>
+    ensures { IfOk result (TellsBarred graph.now table.now session) }
+{
+    let Some(request) = graph.request_of(session) else {
+        return Ok(None);
+    };
+    let holders = table.barring(alloc, session, request)?;
+    if holders.is_empty() {
+        return Ok(None);
+    }
+    let shown = request.copy(alloc)?;
+    Ok(Some(answer_of(shown, holders)))
 }
 
 /// Lets a transaction that waits go on waiting, for this request. That is noted where it holds more or waited for another one.

@@ -1,6 +1,6 @@
 //! A further attempt of the call with which a session waits.
 
-ghost use Rattle.std.specs.Prelude.{◌≡◌, ◌+◌, ◌≤◌, ◌<◌, not, [], ◌∷◌, ◌++◌, Some, None, Option, IfOk, IfErr, OnErr, IsSome, length, vec_capacity, option_copied};
+ghost use Rattle.std.specs.Prelude.{◌≡◌, ◌+◌, ◌≤◌, ◌<◌, not, [], ◌∷◌, ◌++◌, Some, None, Option, IfOk, IfErr, OnOk, OnErr, IsSome, length, vec_capacity, option_copied};
 ghost use Rattle.std.specs.Ordering.{nat_cmp};
 ghost use Rattle.std.specs.BTreeMap.{get};
 ghost use Rattle.outside_traits.specs.Faults.{HasCause};
@@ -14,14 +14,14 @@ ghost use Rattle.tx_core.specs.inside.Sessions.{HasRoom, IsSeated, IsSeatedAs};
 ghost use Rattle.tx_core.specs.inside.Standing.{seat_in};
 ghost use Rattle.tx_core.specs.inside.Goes.{Stays, ReachesFrom};
 ghost use Rattle.tx_core.specs.inside.Passed.{ArePassed};
-ghost use Rattle.tx_core.specs.inside.Retrying.{call_at, call_in, waiting_call, OfWaiting, IfRetried, first_at, retry_entry, IsAgain, IsUnansweredAgain, IsAskedAgain, IsMadeAgain, IsAnsweredAgain, IsLeftAgain, IsSettledAgain, AreAsked};
+ghost use Rattle.tx_core.specs.inside.Retrying.{call_at, call_in, waiting_call, OfWaiting, IfRetried, first_at, retry_entry, IsAgain, IsUnansweredAgain, IsAskedAgain, IsMadeAgain, IsAnsweredAgain, IsLeftAgain, IsSettledAgain, AreAsked, WaitsBarred};
 
 use crate::asking::{Got, Outcome, Wanted, ask_all, asked, made};
 use crate::attempts::{MOST_REQUESTS, accept};
 use crate::ends::{make_room, note, stop_waiting};
 use crate::errors::CallError;
 use crate::later_failures::fail_again;
-use crate::later_waits::wait_again;
+use crate::later_waits::{still_barred, wait_again};
 use crate::modes::has;
 use crate::parts::{Parts, Places};
 use crate::passed::{keep_passed, take_passed};
@@ -301,9 +301,8 @@ fn retry_in_room<C: TreeCall + Drop, B: NodeRead>(
     settle_again(alloc, parts, session, requests.as_slice(), got, more)
 }
 
-/// A further attempt of the call with which a session waits.
-/// It is answered, waits again in its place or ends in a deadlock; one that waits again is noted only where it holds more or waits for something else. A failure is always noted.
-pub fn retry<C: TreeCall + Drop, B: NodeRead>(
+/// A further attempt of a waiting call, for all of its requests.
+fn retry_whole<C: TreeCall + Drop, B: NodeRead>(
     alloc: Global,
     parts: &mut Parts<C, B>,
     session: u32,
@@ -323,6 +322,35 @@ pub fn retry<C: TreeCall + Drop, B: NodeRead>(
 {
     match make_room(parts) {
         Ok(()) => retry_in_room(alloc, parts, session),
+        Err(_) => Err(fail_again(parts, session, 0, SeqError::NoMemory)),
+    }
+}
+
+/// A further attempt of the call with which a session waits.
+/// It is answered, waits again in its place or ends in a deadlock; one that waits again is noted only where it holds more or waits for something else. A failure is always noted.
+/// Where the request that it waits for is still barred, nothing else is looked at: it has all that it asks for before that one, so these requests are what they were.
+pub fn retry<C: TreeCall + Drop, B: NodeRead>(
+    alloc: Global,
+    parts: &mut Parts<C, B>,
+    session: u32,
+) -> Result<Answer, CallError>
+    requires seated { IsSeated parts.old }
+    requires waits { IsSome (waiting_call parts.old session) }
+    requires passed { ArePassed B.contents parts.old }
+    ensures ok { IfRetried result parts.old session
+        (λ c a. IsAgain C.is_valid C.meaning B.contents parts.old session c a parts.new) }
+    ensures err { IfErr result (λ e.
+        IsUnansweredAgain C.is_valid C.meaning B.contents B.count parts.old session e parts.new) }
+    ensures refused { shown_call_refusal result ≡ None }
+    ensures seated { IsSeatedAs parts.old parts.new }
+    ensures unchanged { B.unchanged parts.old.base parts.new.base }
+    ensures cause { HasCause CallError.DiskFault (B.count parts.old.base) (B.count parts.new.base) result }
+    ensures passed { ArePassed B.contents parts.new }
+    ensures barred { WaitsBarred parts.old.graph parts.old.table session → OnOk result (parts.new ≡ parts.old) }
+{
+    match still_barred(alloc, &parts.graph, &parts.table, session) {
+        Ok(Some(answer)) => Ok(answer),
+        Ok(None) => retry_whole(alloc, parts, session),
         Err(_) => Err(fail_again(parts, session, 0, SeqError::NoMemory)),
     }
 }

@@ -1,15 +1,17 @@
 -- How a retry moves the core.
-use Rattle.std.specs.Prelude.{◌≡◌, ◌⊎◌, ℕ, zero, suc, Bool, true, false, not, ◌||◌, List, [], ◌∷◌, ◌++◌, take, get_or, Option, Some, None, if◌then◌else◌, Result, IfOk}
+use Rattle.std.specs.Prelude.{◌≡◌, ◌≢◌, ◌⊎◌, ℕ, zero, suc, Bool, true, false, not, ◌||◌, List, [], ◌∷◌, ◌++◌, take, get_or, Option, Some, None, IfSome, if◌then◌else◌, Result, IfOk}
 use Rattle.std.specs.Ordering.{nat_cmp}
 use Rattle.std.specs.BTreeMap.{get}
 use Rattle.tree_model.specs.Entries.{Entries}
 use Rattle.tree_model.specs.declared.reply.Reply.{Reply}
 use Rattle.lock_resources.specs.declared.request.Request.{Request}
+use Rattle.lock_table.specs.Tables.{Table, AreHolders}
+use Rattle.wait_graph.specs.Graphs.{Graph, waits}
 use Rattle.call_contract.specs.Calls.{CallMeaning}
 use Rattle.call_contract.specs.Attempts.{asked}
 use Rattle.call_contract.specs.States.{Waiting, Live, State, view, of_session, put, ended}
 use Rattle.call_contract.specs.Steps.{step}
-use Rattle.call_contract.specs.Books.{Book, next, IsAnswer, entry}
+use Rattle.call_contract.specs.Books.{Book, next, IsAnswer, IsReached, entry}
 use Rattle.call_contract.specs.declared.events.Event.{Event}
 use Rattle.call_contract.specs.declared.events.Event.TheVariants as event
 use Rattle.call_contract.specs.declared.events.EventAnswer.TheVariants as said
@@ -93,6 +95,28 @@ abbrev pub waits_for_it : Option Request → Request → Bool
 waits_for_it None g = false
 waits_for_it (Some h) g = same_request h g
 
+-- ---- whether what is waited for is still barred
+
+-- the session waits with a request that others bar
+pub record WaitsBarred (g : Graph) (t : Table) (s : ℕ) : Type 0 where
+  pub request : Request
+  pub waits : waits g s ≡ Some request
+  pub some : (hs : List ℕ) → AreHolders t s request hs → hs ≢ []
+
+-- and this answer names the request and them
+pub record ShowsBarred (g : Graph) (t : Table) (s : ℕ) (a : Answer) : Type 0 where
+  pub request : Request
+  pub waits : waits g s ≡ Some request
+  pub holders : List ℕ
+  pub are : AreHolders t s request holders
+  pub some : holders ≢ []
+  pub is : a ≡ shown_wait request holders
+
+-- where the session waits with a request that others bar this is an answer that shows it, and else it is none
+pub record TellsBarred (g : Graph) (t : Table) (s : ℕ) (still : Option Answer) : Type 0 where
+  pub shows : IfSome still (ShowsBarred g t s)
+  pub none : still ≡ None → WaitsBarred g t s → ⊥
+
 -- ---- states
 
 -- a transaction that doesn't wait
@@ -120,12 +144,12 @@ module _ {C B : Type 0} (is_valid : C → Type 0) (m : CallMeaning C) (told : B 
   HasMoved p s c a true q = GoesAgain p s c (retry_entry s a) q
   HasMoved p s c a false q = StaysWaiting p s c q
 
-  -- the retry was answered so, and is an entry or none
+  -- the retry was answered so, in each state that a legal book comes to, and is an entry or none
   pub record IsAgain (p : Parts C B) (s : ℕ) (c : C) (a : Answer) (q : Parts C B) : Type 0 where
     pub noted : Bool
     pub may_be : IsNotedRetry a noted
     pub moved : HasMoved p s c a noted q
-    pub step : (st : State C) → Stands is_valid m told p st → IsWaitingWith st s c → IsRetried m st s a noted
+    pub step : (st : State C) → IsReached is_valid m st → Stands is_valid m told p st → IsWaitingWith st s c → IsRetried m st s a noted
 
   -- the retry isn't answered, and that is an entry
   abbrev pub IsUnansweredAgain : (B → ℕ) → Parts C B → ℕ → CallError → Parts C B → Type 0

@@ -1,5 +1,5 @@
 use Rattle.std.proofs.Common.{Err}
-use Rattle.std.proofs.Common.{Option, IsSome, refl, sym, ap, ◌∙◌, subst}
+use Rattle.std.proofs.Common.{◌≡◌, Option, IsSome, OnOk, refl, sym, ap, ◌∙◌, subst}
 use Rattle.std.proofs.lemmas.Result.{IfErr-weaker, IfOk-weaker}
 use Rattle.call_contract.specs.Sessions.{live_in}
 use Rattle.tx_core.specs.Cores.{CoreView, waits_in, count_told}
@@ -13,7 +13,10 @@ use Rattle.tree_model.specs.Tree.{Tree}
 use Rattle.node_seq.specs.Trees.{StandsFor}
 use Rattle.tx_core.specs.Cores.{state_from}
 use Rattle.tx_core.specs.Truths.{ShowsCycle}
-use Rattle.tx_core.proofs.Kept.{same_committed}
+use Rattle.tx_core.proofs.Kept.{same_committed, shown}
+use Rattle.tx_core.proofs.StillBarred.{barred_still, on_ok}
+use Rattle.tx_core.specs.Retries.{IsStillBarred}
+use Rattle.tx_core.specs.declared.parts.Parts.{Parts}
 use Rattle.call_contract.specs.Books.{last}
 use Rattle.call_contract.specs.States.{start}
 use Rattle.tx_core.proofs.Truths.{core_closes_again}
@@ -82,3 +85,13 @@ returns-clause-deadlock g c =
     subst (λ (v : CoreView _ _). (t : Tree) → StandsFor (told v.opening) t → ShowsCycle m (state_from m t v) (last m (start t h.number h.limit) c.retry.new.parts.book.items) c.args.session event.Retry c.retry.result) c.self.view_is
     (core_closes_again g.C.TreeCall.is_valid m told g.B.NodeRead.count h.opening.value h.number h.limit h.parts c.args.session at.0 c.retry.new.parts c.retry.result c.self.invariant.core at.2
     (IfOk-weaker c.retry.result _ _ (λ a is. is at.0 at.1) c.retry.ensures.ok))
+
+pub returns-clause-barred : goal.returns-clause-barred
+returns-clause-barred g c =
+    let h = c.self.inside in
+    let m = g.C.TreeCall.meaning in
+    let told = g.B.NodeRead.contents in
+    let view : Parts g.row.C.Denot g.row.B.Denot → CoreView g.row.C.Denot g.row.B.Denot = shown told h.opening.value h.number h.limit (undrained_of h.bodies) in
+    subst (λ (v : CoreView g.row.C.Denot g.row.B.Denot). (t : Tree) → StandsFor (told v.opening) t → IsStillBarred (state_from m t v) c.args.session → OnOk c.retry.result (view c.retry.new.parts ≡ v)) c.self.view_is
+    (λ t opens is. on_ok c.retry.result (λ same. ap view same)
+    (c.retry.ensures.barred (barred_still g.C.TreeCall.is_valid m told h.parts (last m (start t h.number h.limit) h.parts.book.items) c.args.session (c.self.invariant.core.run t opens).stands is)))
