@@ -33,9 +33,9 @@ fn asks(alloc: Global, entries: &[(&str, Held)], path: &str, wanted: &str) -> Re
     Ok(shown.as_slice() == wanted.as_bytes())
 }
 
-/// The node and the document, all from there down, the children of each node, and the attribute of each `b`, though nothing is found.
+/// The node, which is the document and isn't asked for again as such; all from there down, the children of each node,
+/// and the attribute of each `b`, though nothing is found.
 const OF_NOTHING: &str = "\
-node 1 IR,node 1.1001 NR,\
 node 1 IR,node 1.1001 NR,\
 node 1 IR,node 1.1001 SR,\
 node 1 IR,node 1.1001 LR,\
@@ -48,10 +48,21 @@ node 1 IR,node 1.1001 IR,node 1.1001.1001 IR,node 1.1001.1001.1003 LR,";
 /// A missing child is asked for as one that is there.
 const OF_A_MISSING_CHILD: &str = "node 1 IR,node 1.1001 NR,node 1 IR,node 1.1001 LR,";
 
+/// The rows are looked at again for each predicate and each node: they are asked for once.
+const OF_ALL: &str = "\
+node 1 IR,node 1.1001 NR,\
+node 1 IR,node 1.1001 SR,\
+node 1 IR,node 1.1001 LR,\
+node 1 IR,node 1.1001 IR,node 1.1001.1001 LR,\
+node 1 IR,node 1.1001 IR,node 1.1001.1001 IR,node 1.1001.1001.1001 LR,\
+node 1 IR,node 1.1001 IR,node 1.1001.1001 IR,node 1.1001.1001.1003 LR,\
+1.1001.1001,1.1001.1001.1001,1.1001.1001.1003,";
+
 #[test]
 fn an_empty_node_set_is_asked_for(rt: HostRuntime) -> Result<(), Fail> {
     let alloc = rt.alloc();
     assert!(rt; asks(alloc, &TWO, "//b[@k='1'][2]", OF_NOTHING)?);
     assert!(rt; asks(alloc, &TWO, "z", OF_A_MISSING_CHILD)?);
+    assert!(rt; asks(alloc, &TWO, "//*[//*[//*]]", OF_ALL)?);
     Ok(())
 }

@@ -1,4 +1,5 @@
 -- words of public clauses
+pub mod Kept
 pub mod LookReads
 pub mod Looks
 pub mod Positions

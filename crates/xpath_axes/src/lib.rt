@@ -17,7 +17,7 @@ pub use attributes::{at_attribute, at_attributes};
 pub use axes::{axis, axis_up_to, put_behind};
 pub use labels::document_label;
 pub use look::Look;
-pub use looks::{Looks, NoLooks};
+pub use looks::{Looks, NoLooks, Notes};
 pub use nodes::{at_node, at_row, at_row_behind, at_row_behind_up_to, at_row_up_to, at_tree};
 pub use noted::{see_node, see_row, see_tree};
 pub use position::Position;

@@ -28,7 +28,7 @@ pub fn row_ahead<W: Looks>(
 ) -> Result<List<Position>, NoMemory>
     ensures children { OnWhole node.now ahead.now (λ t.
         IfOk result (λ found. all_plain found ≡ shown_along t Child test.now (plain node.now))) }
-    ensures noted { (t : Tree) → OnOk result (W.saw looks.old (looked t (program.children (plain node.now))) looks.new) }
+    ensures noted { (t : Tree) → OnOk result (W.saw t looks.old [] looks.old → W.saw t looks.old (looked t (program.children (plain node.now))) looks.new) }
 {
     let Position::Node(label, _) = node else {
         return Ok(List::new(alloc));

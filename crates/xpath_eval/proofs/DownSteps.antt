@@ -49,14 +49,16 @@ module _ (t : Tree) (valid : IsValidTree t) where
       (n, ap in_order all ∙ sym (rising_is_ordered whole (whole_rises t valid n)))
 
   -- the children of a node, taken from what was seen
-  pub row_taken : {S W : Type 0} (reads : S → ℕ) (saw : W → List Look → W → Type 0) (z : NodeTest) (n : Position) (found : List Position) (s : S) (w w' : W)
-      → found ≡ filter (passes Child z) (answer t (children n)) → saw w (looked t (children n)) w'
+  pub row_taken : {S W : Type 0} (reads : S → ℕ) (saw : Tree → W → List Look → W → Type 0) (z : NodeTest) (n : Position) (found : List Position) (s : S) (w w' : W)
+      → found ≡ filter (passes Child z) (answer t (children n)) → (saw t w [] w → saw t w (looked t (children n)) w')
       → HasRun reads saw t (and_then (along Child z n) (λ ms. ends (filter (passes Child z) ms))) found s w s w'
   row_taken reads saw z n found s w w' e seen = record {
-    is = e ∙ sym (answer-and_then t (children n) (λ ms. ends (filter (passes Child z) ms)));
-    went = record {
-      noted = subst (λ os. saw w os w') (sym (append-nil (looked t (children n))) ∙ sym (looked-and_then t (children n) (λ ms. ends (filter (passes Child z) ms)))) seen;
-      read = omega arith;
+    run = λ known. record {
+      is = e ∙ sym (answer-and_then t (children n) (λ ms. ends (filter (passes Child z) ms)));
+      went = record {
+        noted = subst (λ os. saw t w os w') (sym (append-nil (looked t (children n))) ∙ sym (looked-and_then t (children n) (λ ms. ends (filter (passes Child z) ms)))) (seen known);
+        read = omega arith;
+      };
     };
   }
 

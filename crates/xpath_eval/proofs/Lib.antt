@@ -7,3 +7,5 @@ mod DownSteps
 mod OneWalk
 mod FreeTests
 mod WalkedPaths
+mod Memos
+mod SamePieces

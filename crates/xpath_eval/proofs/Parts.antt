@@ -58,14 +58,15 @@ part_is vs =
 
 -- ---- runs
 
-module _ {S W : Type 0} (reads : S → ℕ) (saw : W → List Look → W → Type 0) (t : Tree) where
+module _ {S W : Type 0} (reads : S → ℕ) (saw : Tree → W → List Look → W → Type 0) (t : Tree) where
   pub run_is : {A : Type 0} {p q : Program A} {a : A} {s s' : S} {w w' : W} → p ≡ q → HasRun reads saw t p a s w s' w' → HasRun reads saw t q a s w s' w'
   run_is {a = a} {s = s} {s' = s'} {w = w} {w' = w'} e h = subst (λ p. HasRun reads saw t p a s w s' w') e h
 
   pub answer_is : {A : Type 0} {p : Program A} {a b : A} {s s' : S} {w w' : W} → a ≡ b → HasRun reads saw t p a s w s' w' → HasRun reads saw t p b s w s' w'
   answer_is {p = p} {s = s} {s' = s'} {w = w} {w' = w'} e h = subst (λ a. HasRun reads saw t p a s w s' w') e h
 
-  module _ (nothing : (x : W) → saw x [] x) (further : (x y z : W) (os ps : List Look) → saw x os y → saw y ps z → saw x (os ++ ps) z) where
+  module _ (nothing : (t : Tree) (x y : W) (os : List Look) → saw t x os y → saw t y [] y)
+      (further : (t : Tree) (x y z : W) (os ps : List Look) → saw t x os y → saw t y ps z → saw t x (os ++ ps) z) where
     -- a program, and what is made of its answer
     pub made_of : {A B : Type 0} (p : Program A) (g : A → B) {a : A} {s s' : S} {w w' : W} → HasRun reads saw t p a s w s' w' → HasRun reads saw t (and_then p (λ x. ends (g x))) (g a) s w s' w'
     made_of p g {s = s} {w = w} h = ended reads saw t nothing further (goes reads saw t nothing further p (λ x. ends (g x)) (begins reads saw t nothing further (and_then p (λ x. ends (g x))) s w) h)

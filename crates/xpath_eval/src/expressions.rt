@@ -1,5 +1,5 @@
 //! Expressions, predicates and steps (XPath 1.0, sections 2 and 3): nothing recurses along a chain, a list of steps or of operands.
-ghost use Rattle.std.specs.Prelude.{◌≡◌, ◌∷◌, [], ◌++◌, IfOk, IsTrue};
+ghost use Rattle.std.specs.Prelude.{◌≡◌, ◌∷◌, [], ◌++◌, true, IfOk, IsTrue};
 ghost use Rattle.outside_traits.specs.Faults.{HasCause};
 ghost use Rattle.path_model.specs.declared.path.Axis.TheVariants as along;
 ghost use Rattle.path_model.specs.declared.path.Step.{out-Step};
@@ -9,12 +9,13 @@ ghost use Rattle.path_model.specs.PlainPaths.{plain_row, plain_way};
 ghost use Rattle.path_model.specs.PlainPaths as paths;
 ghost use Rattle.path_model.specs.Programs.{gathered};
 ghost use Rattle.path_model.specs.Values.{same_flag};
+ghost use Rattle.xpath_axes.specs.Kept.{holds};
 ghost use Rattle.xpath_axes.specs.Positions.{plain, all_plain};
 ghost use Rattle.xpath_axes.specs.Runs.{Runs};
 ghost use Rattle.xpath_eval.specs.Values.{meant, all_meant};
 ghost use Rattle.xpath_eval.specs.inside.Chains.{both, chain_of, is_decided, linked};
 ghost use Rattle.xpath_eval.specs.inside.Contexts.{RunsIn};
-ghost use Rattle.xpath_eval.specs.inside.Steps.{from_node, kept_where, IsWholeIn, LeadsDown};
+ghost use Rattle.xpath_eval.specs.inside.Steps.{from_node, kept_where, StepsOver, LeadsDown};
 
 use crate::context::Context;
 use crate::operations::applied;
@@ -223,8 +224,7 @@ fn stepped_on<S: NodeRead, W: Looks>(
     seq: &mut S,
     looks: &mut W,
 ) -> Result<List<Position>, SeqError>
-    requires whole { IsTrue is_whole → IsWholeIn (S.contents seq.now) (all_plain from.now) }
-    ensures run { Runs S.reads W.saw S.contents (gathered (from_node step.now) (all_plain from.now)) all_plain seq.old looks.old result seq.new looks.new }
+    ensures run { StepsOver S.reads W.saw S.contents is_whole step.now from.now seq.old looks.old result seq.new looks.new }
     ensures unchanged { S.unchanged seq.old seq.new }
     ensures cause { HasCause SeqError.DiskFault (S.count seq.old) (S.count seq.new) result }
 {
@@ -244,8 +244,7 @@ fn stepped_ahead<S: NodeRead, W: Looks>(
     looks: &mut W,
 ) -> Result<List<Position>, SeqError>
     requires child { (out-Step step.now).axis ≡ along.Child }
-    requires whole { IsWholeIn (S.contents seq.now) (all_plain whole.now) }
-    ensures run { Runs S.reads W.saw S.contents (gathered (from_node step.now) (all_plain whole.now)) all_plain seq.old looks.old result seq.new looks.new }
+    ensures run { StepsOver S.reads W.saw S.contents true step.now whole.now seq.old looks.old result seq.new looks.new }
     ensures unchanged { S.unchanged seq.old seq.new }
     ensures cause { HasCause SeqError.DiskFault (S.count seq.old) (S.count seq.new) result }
 {
@@ -368,10 +367,35 @@ fn kept_one_by_one<S: NodeRead, W: Looks>(
             size: nodes.len(),
             lacking: &lacking,
         };
-        let holds = value(alloc, test, &context, seq, looks)?;
-        keep_if(alloc, &mut kept, node, holds.keeps(index + 1))?;
+        let is_kept = holds(alloc, test, &context, seq, looks)?;
+        keep_if(alloc, &mut kept, node, is_kept)?;
     }
     Ok(kept)
+}
+
+/// Whether a predicate keeps the context node. Where that was kept it isn't evaluated again.
+#[cycle(evaluation)]
+fn holds<S: NodeRead, W: Looks>(
+    alloc: Global,
+    test: &Expr,
+    context: &Context<'_>,
+    seq: &mut S,
+    looks: &mut W,
+) -> Result<bool, SeqError>
+    ensures run { RunsIn S.reads W.saw S.contents context.now
+        (holds (paths.plain test.now)) (λ is. is) seq.old looks.old result seq.new looks.new }
+    ensures unchanged { S.unchanged seq.old seq.new }
+    ensures cause { HasCause SeqError.DiskFault (S.count seq.old) (S.count seq.new) result }
+{
+    let proximity = context.proximity;
+    let size = context.size;
+    if let Some(holds) = looks.recall(alloc, test, context.at, proximity, size)? {
+        return Ok(holds);
+    }
+    let found = value(alloc, test, context, seq, looks)?;
+    let holds = found.keeps(proximity);
+    looks.keep(alloc, test, context.at, proximity, size, holds)?;
+    Ok(holds)
 }
 
 /// An operator on two values, of which the first one doesn't decide.

@@ -14,30 +14,33 @@ ghost use Rattle.xpath_axes.specs.Positions.{plain, all_plain};
 ghost use Rattle.xpath_eval.specs.inside.Steps.{from_path};
 
 use crate::expressions::{begun, taken};
+use crate::memo::Memo;
 use crate::one_walk::in_one_walk;
 use dewey_labels::{Label, List, NoMemory};
 use node_seq::{NodeRead, SeqError};
 use path_model::{XPath, find_answers_a_set_or_not_found};
 use std::alloc::Global;
 use tree_model::{Hit, Refusal, Reply};
-use xpath_axes::{Looks, NoLooks, Position, see_node};
+use xpath_axes::{Looks, NoLooks, Notes, Position, see_node};
 
 /// The node set that a path means from the node with a label, in document order, or `NOT_FOUND_ERR` where there is no such node.
-/// Each look is noted, in the order of the evaluation (docs/PROFILE.md, "Paths").
-pub fn answer_find<S: NodeRead, W: Looks>(
+/// Each look is noted, in the order of the evaluation (docs/PROFILE.md, "Paths"); the notes come back with the answer.
+pub fn answer_find<S: NodeRead, W: Notes + Drop>(
     alloc: Global,
     path: &XPath,
     at: &Label,
     seq: &mut S,
-    looks: &mut W,
-) -> Result<Reply, SeqError>
-    ensures reply { OnTree (S.contents seq.old) result (λ t reply. reply ≡ answer t (find at.now (plain_path path.now))) }
-    ensures looked { OnTree (S.contents seq.old) result (λ t _. W.saw looks.old (looked t (find at.now (plain_path path.now))) looks.new) }
+    looks: W,
+) -> Result<(Reply, W), SeqError>
+    ensures reply { OnTree (S.contents seq.old) result (λ t found. found.0 ≡ answer t (find at.now (plain_path path.now))) }
+    ensures looked { OnTree (S.contents seq.old) result (λ t found. W.saw looks (looked t (find at.now (plain_path path.now))) found.1) }
     ensures reads { OnTree (S.contents seq.old) result (λ t _. S.reads seq.new ≤ S.reads seq.old + reads_of t (looked t (find at.now (plain_path path.now)))) }
     ensures unchanged { S.unchanged seq.old seq.new }
     ensures cause { HasCause SeqError.DiskFault (S.count seq.old) (S.count seq.new) result }
 {
-    find_at(alloc, path, at, seq, looks)
+    let mut memo = Memo::new(alloc, path, looks)?;
+    let reply = find_at(alloc, path, at, seq, &mut memo)?;
+    Ok((reply, memo.into_notes()))
 }
 
 /// The node set that a path means from the node with a label, in document order; refused exactly where there is no such node. It keeps no look.
@@ -56,7 +59,8 @@ pub fn evaluate<S: NodeRead>(
     // It tells that the program answers the set that the path means.
     find_answers_a_set_or_not_found();
     let walk = in_one_walk(alloc, path)?;
-    answer_find(alloc, &walk, at, seq, &mut NoLooks)
+    let found = answer_find(alloc, &walk, at, seq, NoLooks)?;
+    Ok(found.0)
 }
 
 /// The node is looked at first, and the path is evaluated from it where one was seen.

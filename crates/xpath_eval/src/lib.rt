@@ -6,14 +6,18 @@
 mod context;
 mod expressions;
 mod find;
+mod memo;
 mod numbers;
 mod one_walk;
 mod operations;
 mod order;
 mod places;
+mod sameness;
+mod spot;
 mod strings;
+mod tests;
 mod value;
 
 pub use find::{answer_find, evaluate};
 pub use value::XValue;
-pub use xpath_axes::{Look, Looks, NoLooks};
+pub use xpath_axes::{Look, NoLooks, Notes};

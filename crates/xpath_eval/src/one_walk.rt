@@ -84,7 +84,7 @@ fn are_free(tests: &[Expr]) -> bool
 }
 
 /// Whether a predicate is a path, or a comparison of two paths, numbers or texts.
-fn is_free(test: &Expr) -> bool
+pub(crate) fn is_free(test: &Expr) -> bool
     ensures { IsTrue result → IsFree (plain test.now) }
 {
     match test {

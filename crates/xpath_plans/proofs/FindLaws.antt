@@ -33,11 +33,11 @@ pub find_rows : (l : Label) (p : Path) (t : Tree) → IsLabel l → IsValidTree 
 find_rows l p t i w = rows_of Any t w (find l p) (find_at_labels l p i.0)
 
 pub find_reply : (l : Label) (p : Path) (t u : Tree) → IsLabel l → IsValidTree t → IsValidTree u → Agree (find_requests l p t) t u → found_at l p t ≡ found_at l p u
-find_reply l p t u i w v agree = sym (find_answers t l p w) ∙ answer_of Any t u w v [] (find l p) (find_at_labels l p i.0) agree ∙ find_answers u l p v
+find_reply l p t u i w v agree = sym (find_answers t l p w) ∙ answer_of Any t u w v (find l p) (find_at_labels l p i.0) agree ∙ find_answers u l p v
 
 pub find_next : (l : Label) (p : Path) (t u : Tree) (k : ℕ) → IsLabel l → IsValidTree t → IsValidTree u → Agree (take k (find_requests l p t)) t u
     → take (suc k) (find_requests l p t) ≡ take (suc k) (find_requests l p u)
-find_next l p t u k i w v agree = next_of Any t u w v [] (find l p) (find_at_labels l p i.0) k agree
+find_next l p t u k i w v agree = next_of Any t u w v (find l p) (find_at_labels l p i.0) k agree
 
 pub find_laws : CallLaws Find IsValidFind find_meaning
 find_laws = record {

@@ -4,6 +4,8 @@ pub mod PathLabels
 pub mod SeenLabels
 pub mod SeenLaws
 pub mod Covered
+pub mod OnceNoted
+mod NotedLooks
 pub mod ProgramLaws
 pub mod ReadsAlone
 pub mod FindLaws

@@ -1,5 +1,5 @@
 -- Worked rows: what `find` asks for on small trees, in order, by computation.
-use Rattle.std.proofs.Common.{◌≡◌, true, false, List, [], ◌∷◌, ◌++◌, refl}
+use Rattle.std.proofs.Common.{◌≡◌, ◌+◌, ◌*◌, true, false, List, [], ◌∷◌, ◌++◌, length, refl}
 use Rattle.std.specs.Prelude.{codes, pos, ℕ}
 use Rattle.dewey_labels.specs.Labels.{Label, root}
 use Rattle.lock_modes.specs.declared.ask.Ask.TheVariants as ask
@@ -18,6 +18,8 @@ use Rattle.path_model.specs.declared.path.NodeTest.TheVariants as test
 use Rattle.path_model.specs.declared.path.Op.TheVariants.{Eq, Gt}
 use Rattle.path_model.specs.Paths.{Expr, path, literal, Exprs, no_more, then_expr, Path, Steps, no_steps, step, binary}
 use Rattle.path_model.specs.Paths as paths
+use Rattle.path_model.specs.Finds.{find}
+use Rattle.path_model.specs.Programs.{looked}
 use Rattle.xpath_plans.specs.Finds.{find_requests}
 
 -- ---- labels, requests, paths
@@ -77,14 +79,33 @@ two = document (node E (Element (codes "a")) [] (node (under E 1001) (Element (c
 abbrev second_b : Path
 second_b = absolute (step axis.DescendantOrSelf test.Node no_more (named axis.Child (codes "b") (then_expr (binary Eq (path false (named axis.Attribute (codes "k") no_more no_steps)) (literal (codes "1"))) (one (paths.number (pos 2)))) no_steps))
 
--- the document is seen, looked for again by `/`, and looked at with all below it; then the children of each node, and the attribute of each b, also of the one that is dropped
+-- the document is seen, looked for again by `/`, which asks nothing more, and looked at with all below it; then the children of each node, and the attribute of each b, also of the one that is dropped
 asked_for_nothing_found : find_requests D second_b two
-    ≡ at_document NR ++ at_document NR ++ at_document SR ++ at_document LR ++ at_element LR ++ at_attribute 1001 (codes "k") ++ at_attribute 1003 (codes "k") ++ at_child 1001 LR ++ at_child 1003 LR
+    ≡ at_document NR ++ at_document SR ++ at_document LR ++ at_element LR ++ at_attribute 1001 (codes "k") ++ at_attribute 1003 (codes "k") ++ at_child 1001 LR ++ at_child 1003 LR
 asked_for_nothing_found = refl
 
 -- so another one may not change an attribute in the document
 empty_set_holds_the_document : bars (find_requests D second_b two) (request (Node D) (ask.Node IX)) ≡ true
 empty_set_holds_the_document = refl
+
+-- ---- what is looked at again
+
+-- a step to all elements of the document, with these predicates
+abbrev to_all : Exprs → Steps
+to_all es = step axis.DescendantOrSelf test.Node no_more (step axis.Child test.Any es no_steps)
+
+-- //*[//*[//*]]
+abbrev nested : Path
+nested = absolute (to_all (one (path true (to_all (one (path true (to_all no_more)))))))
+
+-- the six looks of the last path are made again at each of three elements, and these at each of three again
+nested_looks : length (looked two (find D nested)) ≡ 1 + (6 + 3 * (6 + 3 * 6))
+nested_looks = refl
+
+-- each asks once
+nested_asks_once : find_requests D nested two
+    ≡ at_document NR ++ at_document SR ++ at_document LR ++ at_element LR ++ at_child 1001 LR ++ at_child 1003 LR
+nested_asks_once = refl
 
 -- ---- what is missing
 
@@ -128,7 +149,7 @@ text_children = refl
 ancestors_one_by_one : find_requests (under E 1009) (relative (step axis.Ancestor test.Node no_more no_steps)) mixed ≡ at_child 1009 NR ++ at_element NR ++ at_document NR
 ancestors_one_by_one = refl
 
-parent_of_an_attribute : find_requests (under E 1001) (relative (named axis.Attribute (codes "k") no_more (step axis.Parent test.Node no_more no_steps))) two ≡ at_child 1001 NR ++ at_attribute 1001 (codes "k") ++ at_child 1001 NR
+parent_of_an_attribute : find_requests (under E 1001) (relative (named axis.Attribute (codes "k") no_more (step axis.Parent test.Node no_more no_steps))) two ≡ at_child 1001 NR ++ at_attribute 1001 (codes "k")
 parent_of_an_attribute = refl
 
 -- what follows and what precedes may lie in all of the document
@@ -150,6 +171,6 @@ dear = absolute (named axis.Child (codes "c") no_more (named axis.Child (codes "
 
 -- each i's prices are looked for, and each price is looked at with all below it, though one i alone is found
 dropped_nodes_are_asked_for : find_requests D dear prices
-    ≡ at_document NR ++ at_document NR ++ at_document LR ++ at_element LR ++ at_child 1001 LR ++ at_grandchild 1001 SR ++ at_child 1003 LR ++ at_grandchild 1003 SR
+    ≡ at_document NR ++ at_document LR ++ at_element LR ++ at_child 1001 LR ++ at_grandchild 1001 SR ++ at_child 1003 LR ++ at_grandchild 1003 SR
     ++ at_child 1005 LR ++ at_grandchild 1005 SR ++ at_child 1007 LR ++ at_grandchild 1007 SR
 dropped_nodes_are_asked_for = refl

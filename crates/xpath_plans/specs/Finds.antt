@@ -8,16 +8,16 @@ use Rattle.tree_cells.specs.Covers.{Agree}
 use Rattle.call_contract.specs.Calls.{CallMeaning}
 use Rattle.path_model.specs.Finds.{find, found_at}
 use Rattle.path_model.specs.Paths.{Path}
-use Rattle.xpath_plans.specs.LookRequests.{requests}
+use Rattle.xpath_plans.specs.LookRequests.{requests_once}
 
 -- a path from the node with a label
 pub record Find : Type 0 where
   pub at : Label
   pub path : Path
 
--- what it asks for
+-- what it asks for: a look that was made before adds nothing
 abbrev pub find_requests : Label → Path → Tree → List Request
-find_requests l p t = requests t (find l p)
+find_requests l p t = requests_once t (find l p)
 
 -- the first so many of these
 abbrev pub requested : ℕ → Label → Path → Tree → List Request

@@ -1,5 +1,7 @@
 -- which request a look makes, and those of a program
 pub mod LookRequests
+-- each look once
+pub mod OnceNoted
 -- what a look reads of a tree
 pub mod LookCells
 -- the call `find` to the machine of locks

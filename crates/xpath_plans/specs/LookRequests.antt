@@ -14,6 +14,7 @@ use Rattle.path_model.specs.Evaluation.{taken}
 use Rattle.path_model.specs.Paths.{bare_step}
 use Rattle.path_model.specs.Positions.{Position}
 use Rattle.path_model.specs.Programs.{Look, at_node, at_row, at_tree, at_attributes, at_attribute, Program, looked}
+use Rattle.xpath_plans.specs.OnceNoted.{once}
 
 -- where a look asks: at the node, at its attributes, or at one of them
 abbrev pub resource_of : Look → Resource
@@ -36,9 +37,13 @@ abbrev pub requests_of : List Look → List Request
 requests_of [] = []
 requests_of (o ∷ os) = with_intentions (resource_of o) (mode_of o) ++ requests_of os
 
--- what a program asks for on a tree
+-- what a program asks for on a tree, with each look as often as it is made
 abbrev pub requests : {A : Type 0} → Tree → Program A → List Request
 requests t p = requests_of (looked t p)
+
+-- what it asks for with each look once
+abbrev pub requests_once : {A : Type 0} → Tree → Program A → List Request
+requests_once t p = requests_of (once [] (looked t p))
 
 -- what a step without predicates on an axis asks for, from each of these positions
 abbrev pub requests_on : Tree → Axis → NodeTest → List Position → List Request

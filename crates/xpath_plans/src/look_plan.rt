@@ -1,35 +1,38 @@
 //! The requests of looks in the making.
 ghost use Rattle.std.specs.Prelude.{◌≡◌, ◌++◌, [], length, take, IsTrue, IfOk, OnOk, OnErr};
 ghost use Rattle.std.specs.List.{AllByRecursion};
-ghost use Rattle.lock_resources.specs.Intentions.{with_intentions};
 ghost use Rattle.lock_resources.specs.Resources.{Fits};
 ghost use Rattle.xpath_axes.specs.Looks.{meant};
-ghost use Rattle.xpath_plans.specs.LookRequests.{mode_of, requests_of, resource_of};
+ghost use Rattle.xpath_plans.specs.LookRequests.{requests_of};
+ghost use Rattle.xpath_plans.specs.OnceNoted.{once};
+ghost use Rattle.xpath_plans.specs.inside.NotedLooks.{looks_of};
 
+use crate::noted_look::NotedLook;
 use dewey_labels::{List, NoMemory};
-use lock_modes::{Ask, Mode};
-use lock_resources::{Request, Resource, with_intentions};
+use lock_resources::{Request, with_intentions};
 use std::alloc::Global;
+use std::collections::BTreeSet;
 use std::marker::Model;
-use xpath_eval::{Look, Looks};
+use xpath_eval::{Look, Notes};
 
-/// The requests of the looks so far, in their order, each with its intentions before it.
+/// The looks so far, each once, in the order in which they were first made.
 #[derive(Drop)]
 pub struct LookPlan {
-    requests: List<Request>,
+    looks: List<NotedLook>,
+    /// The same looks, to be found again.
+    noted: BTreeSet<NotedLook>,
 }
 
 impl Model for LookPlan {
     ghost use Rattle.std.specs.Prelude as p;
-    ghost use Rattle.std.specs.List.{AllByRecursion};
-    ghost use Rattle.lock_resources.specs.declared.request.Request.{Request};
-    ghost use Rattle.lock_resources.specs.Resources.{Fits};
+    ghost use Rattle.path_model.specs.Programs.{Look};
+    ghost use Rattle.xpath_plans.specs.inside.NotedLooks.{looks_of, HasNoted};
 
-    ghost Value = { p.List Request };
+    ghost Value = { p.List Look };
 
-    ghost view = { λ plan. plan.requests };
+    ghost view = { λ plan. looks_of plan.looks };
 
-    ghost invariant = { λ plan. AllByRecursion Fits plan.requests };
+    ghost invariant = { λ plan. HasNoted plan.noted (looks_of plan.looks) };
 }
 
 impl LookPlan {
@@ -38,75 +41,64 @@ impl LookPlan {
         ensures { result ≡ [] }
     {
         LookPlan {
-            requests: List::new(alloc),
+            looks: List::new(alloc),
+            noted: BTreeSet::new(alloc),
         }
     }
 
-    /// Puts the requests behind those that are there, all of them or none.
-    pub fn append_to(self, out: &mut List<Request>) -> Result<(), NoMemory>
-        ensures ok { OnOk result (out.new ≡ out.old ++ self) }
+    /// Puts the looks' requests behind those that are there, each with its intentions before it; all of them or none.
+    pub fn append_to(self, alloc: Global, out: &mut List<Request>) -> Result<(), NoMemory>
+        ensures ok { OnOk result (out.new ≡ out.old ++ requests_of self) }
         ensures err { OnErr result (out.new ≡ out.old) }
-        ensures fits { AllByRecursion Fits self }
+        ensures fits { AllByRecursion Fits out.old → AllByRecursion Fits out.new }
     {
-        let LookPlan { requests } = self;
-        if out.is_empty() {
-            *out = requests;
-            return Ok(());
-        }
+        let LookPlan { looks, .. } = self;
         let length = out.len();
-        let pushed = push_all(requests, out);
-        if pushed.is_err() {
+        let asked = ask_all(alloc, looks, out);
+        if asked.is_err() {
             out.truncate(length);
         }
-        pushed
+        asked
     }
 }
 
-impl Looks for LookPlan {
-    ghost use Rattle.xpath_plans.specs.inside.PlanLists.{no_requests, requests_further};
+impl Notes for LookPlan {
+    ghost use Rattle.xpath_plans.specs.inside.PlanLists.{nothing_noted, noted_further, noted_again};
 
-    ghost saw = { λ before looks after. after ≡ before ++ requests_of looks };
+    ghost saw = { λ before looks after. after ≡ before ++ once before looks };
 
-    #[tactic(auto, using(crate::proofs::SeenLabels::look_row, path_model::proofs::Members::all_joined))]
     fn note(&mut self, alloc: Global, look: Look<'_>) -> Result<(), NoMemory> {
-        let resource = resource_of(alloc, look)?;
-        with_intentions(alloc, resource, ask_of(look), &mut self.requests)
+        let one = NotedLook::of(alloc, look)?;
+        if self.noted.contains(&one) {
+            return Ok(());
+        }
+        let length = self.looks.len();
+        self.looks.push(NotedLook::of(alloc, look)?)?;
+        if self.noted.insert(one).is_err() {
+            // What can't be found again isn't noted.
+            self.looks.truncate(length);
+            return Err(NoMemory);
+        }
+        Ok(())
     }
 
-    ghost saw_nothing = { no_requests };
+    ghost saw_nothing = { nothing_noted };
 
-    ghost saw_further = { requests_further };
+    ghost saw_further = { noted_further };
+
+    ghost saw_again = { noted_again };
 }
 
-/// Where a look asks.
-fn resource_of(alloc: Global, look: Look<'_>) -> Result<Resource, NoMemory>
-    ensures { IfOk result (λ resource. resource ≡ resource_of (meant look.entry)) }
-{
-    Ok(match look {
-        Look::Node(at) | Look::Row(at) | Look::Tree(at) => Resource::Node(at.copy(alloc)?),
-        Look::Attributes(at) => Resource::AttrRoot(at.copy(alloc)?),
-        Look::Attribute(at, name) => Resource::Attr(at.copy(alloc)?, name.copy(alloc)?),
-    })
-}
-
-/// What it asks for.
-fn ask_of(look: Look<'_>) -> Ask
-    ensures { result ≡ mode_of (meant look.entry) }
-{
-    Ask::Node(match look {
-        Look::Node(_) | Look::Attribute(..) => Mode::NR,
-        Look::Row(_) | Look::Attributes(_) => Mode::LR,
-        Look::Tree(_) => Mode::SR,
-    })
-}
-
-/// Puts requests behind others, or some of them where memory runs out.
-fn push_all(requests: List<Request>, out: &mut List<Request>) -> Result<(), NoMemory>
-    ensures ok { OnOk result (out.new ≡ out.old ++ requests) }
+/// Puts what looks ask for behind other requests, or some of it where memory runs out.
+#[tactic(auto, using(crate::proofs::NotedLooks::requests_more, crate::proofs::SeenLabels::look_row, path_model::proofs::Members::all_joined))]
+fn ask_all(alloc: Global, looks: List<NotedLook>, out: &mut List<Request>) -> Result<(), NoMemory>
+    ensures ok { OnOk result (out.new ≡ out.old ++ requests_of (looks_of looks)) }
     ensures begins { take (length out.old) out.new ≡ out.old }
+    ensures fits { AllByRecursion Fits out.old → AllByRecursion Fits out.new }
 {
-    for request in requests.into_vec() {
-        out.push(request)?;
+    for look in looks.into_vec() {
+        let ask = look.ask();
+        with_intentions(alloc, look.resource(), ask, out)?;
     }
     Ok(())
 }

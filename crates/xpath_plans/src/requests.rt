@@ -19,7 +19,7 @@ use std::alloc::Global;
 use tree_model::Reply;
 use xpath_eval::answer_find;
 
-/// Adds what a find asks for on the tree that a map stands for, each request with its intentions before it, and answers its reply:
+/// Adds what a find asks for on the tree that a map stands for, a look once and each request with its intentions before it, and answers its reply:
 /// by the time that all requests are known the path is evaluated, so the map is read once for both.
 /// The reads are those of the evaluation: one for each position that its looks see, and one a look.
 pub fn path_requests<S: NodeRead>(
@@ -37,8 +37,9 @@ pub fn path_requests<S: NodeRead>(
     ensures unchanged { S.unchanged seq.old seq.new }
     ensures cause { HasCause SeqError.DiskFault (S.count seq.old) (S.count seq.new) result }
 {
-    let mut plan = LookPlan::new(alloc);
-    let reply = answer_find(alloc, path, at, seq, &mut plan)?;
-    plan.append_to(out)?;
+    let plan = LookPlan::new(alloc);
+    let found = answer_find(alloc, path, at, seq, plan)?;
+    let (reply, plan) = found;
+    plan.append_to(alloc, out)?;
     Ok(Some(reply))
 }

@@ -1,9 +1,9 @@
 -- Steps, each from one node, and paths.
-use Rattle.std.specs.Prelude.{◌≡◌, List, Option, length}
+use Rattle.std.specs.Prelude.{◌≡◌, ℕ, Bool, IsTrue, List, Option, Result, length}
 use Rattle.std.specs.List.{filter}
 use Rattle.tree_model.specs.Entries.{Entries}
 use Rattle.tree_model.specs.Tree.{Tree}
-use Rattle.node_seq.specs.Trees.{StandsFor}
+use Rattle.node_seq.specs.Trees.{OnTree}
 use Rattle.path_model.specs.declared.path.Axis.TheVariants.{DescendantOrSelf}
 use Rattle.path_model.specs.declared.path.NodeTest.TheVariants.{Node}
 use Rattle.path_model.specs.declared.path.Expr.{Expr}
@@ -13,7 +13,10 @@ use Rattle.path_model.specs.Evaluation.{filtered, find_from, kept_by, value}
 use Rattle.path_model.specs.Paths.{Path, no_more}
 use Rattle.path_model.specs.PlainPaths.{plain, plain_row}
 use Rattle.path_model.specs.Positions.{Position, passes}
-use Rattle.path_model.specs.Programs.{Program, and_then}
+use Rattle.path_model.specs.Programs.{Look, Program, and_then, gathered}
+use Rattle.xpath_axes.specs.declared.position.Position as found
+use Rattle.xpath_axes.specs.Positions.{all_plain}
+use Rattle.xpath_axes.specs.Runs.{HasRun}
 use Rattle.xpath_axes.specs.Wholes.{IsWhole}
 
 -- a step from one node: what its predicates keep of its axis
@@ -35,6 +38,10 @@ pub record LeadsDown (s : Step) (ns : List Position) : Type 0 where
   pub tests : plain_row (out-Step s).tests ≡ no_more
   pub alone : length ns ≡ 1
 
--- the positions are all from one down, of each valid tree that the known map stands for
-abbrev pub IsWholeIn : Option Entries → List Position → Type 0
-IsWholeIn contents ns = (t : Tree) → StandsFor contents t → IsWhole t ns
+-- a map is read, and the looks are noted
+module _ {S W : Type 0} (reads : S → ℕ) (saw : Tree → W → List Look → W → Type 0) where
+  -- a step from each position was run on each valid tree that the known map stands for; where it is said that the positions are
+  -- all from one down, on each of which this is so
+  abbrev pub StepsOver : {E : Type 0} → (S → Option Entries) → Bool → Step → List found.Position → S → W → Result (List found.Position) E → S → W → Type 0
+  StepsOver contents is_whole step from s w result s' w' =
+      OnTree (contents s) result (λ t all. (IsTrue is_whole → IsWhole t (all_plain from)) → HasRun reads saw t (gathered (from_node step) (all_plain from)) (all_plain all) s w s' w')

@@ -10,6 +10,8 @@ returns-then-is_root-clause-run g c = λ t stands.
     let before = all_plain c.args.before in
     let none = root_is_none l t stands.valid (sym c.is_root.ensures ∙ c.if-is_root.true) in
     record {
-      is = sym (append-nil before) ∙ ap (λ f. before ++ drop 1 (tree_seen f)) (sym none);
-      went = record { noted = c.in_ok-note.ensures; read = omega arith };
+      run = λ known. record {
+        is = sym (append-nil before) ∙ ap (λ f. before ++ drop 1 (tree_seen f)) (sym none);
+        went = record { noted = c.in_ok-note.ensures t known; read = omega arith };
+      };
     }

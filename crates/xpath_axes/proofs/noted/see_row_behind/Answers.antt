@@ -17,12 +17,14 @@ returns-clause-run g c =
     on_tree (λ t (a : List Position). all_plain a ≡ behind (seen t (at_row l)))
     (λ t (a : List Position). HasRun g.S.NodeRead.reads g.W.Looks.saw t (looks (at_row l) (λ s. ends (behind s))) (all_plain a) c.args.seq.now c.args.looks.now c.at_row_behind.new.seq c.note.new.self) _ _ c.at_row_behind.result (λ t a stands h.
     record {
-      is = h stands;
-      went = record {
-        noted = c.in_ok-note.ensures;
-        read =
-            let some = c.at_row_behind.ensures.reads t stands in
-            let most = filter_length (on_right c.args.of.now) (seen t (at_row l)) in
-            omega (arith, some, most);
+      run = λ known. record {
+        is = h stands;
+        went = record {
+          noted = c.in_ok-note.ensures t known;
+          read =
+              let some = c.at_row_behind.ensures.reads t stands in
+              let most = filter_length (on_right c.args.of.now) (seen t (at_row l)) in
+              omega (arith, some, most);
+        };
       };
     }) c.at_row_behind.ensures.seen

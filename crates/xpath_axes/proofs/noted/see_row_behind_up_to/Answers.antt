@@ -19,13 +19,15 @@ returns-clause-run g c =
     on_tree (λ t (a : List Position). all_plain a ≡ first (seen t (at_row l)))
     (λ t (a : List Position). HasRun g.S.NodeRead.reads g.W.Looks.saw t (looks (at_row l) (λ s. ends (first s))) (all_plain a) c.args.seq.now c.args.looks.now c.at_row_behind_up_to.new.seq c.note.new.self) _ _ c.at_row_behind_up_to.result (λ t a stands h.
     record {
-      is = h stands;
-      went = record {
-        noted = c.in_ok-note.ensures;
-        read =
-            let some = c.at_row_behind_up_to.ensures.reads t stands in
-            let most = up_to_length (path.passes along.FollowingSibling c.args.test.now) c.args.room (filter (on_right k) (seen t (at_row l))) in
-            let fewer = filter_length (on_right k) (seen t (at_row l)) in
-            omega (arith, some, most, fewer);
+      run = λ known. record {
+        is = h stands;
+        went = record {
+          noted = c.in_ok-note.ensures t known;
+          read =
+              let some = c.at_row_behind_up_to.ensures.reads t stands in
+              let most = up_to_length (path.passes along.FollowingSibling c.args.test.now) c.args.room (filter (on_right k) (seen t (at_row l))) in
+              let fewer = filter_length (on_right k) (seen t (at_row l)) in
+              omega (arith, some, most, fewer);
+        };
       };
     }) c.at_row_behind_up_to.ensures.seen

@@ -1,8 +1,10 @@
-use Rattle.std.proofs.Common.{◌≡◌, ◌+◌, ◌-◌, if◌then◌else◌, List, [], ◌∷◌, ◌++◌, length, take, drop, map, slice_index_or, w64, FitsSigned, refl, sym, ap, subst, ◌∙◌, arith, rules}
+use Rattle.std.proofs.Common.{◌≡◌, ℕ, Bool, IsTrue, ◌+◌, ◌-◌, if◌then◌else◌, List, [], ◌∷◌, ◌++◌, length, take, drop, map, slice_index_or, w64, FitsSigned, refl, sym, ap, subst, ◌∙◌, arith, rules}
 use Rattle.std.proofs.lemmas.Int.{to_z-of_z}
 use Rattle.std.specs.List.{filter}
 use Rattle.std.proofs.lemmas.List.{drop_more, length-drop}
 use Rattle.outside_traits.specs.Faults.{HasCause}
+use Rattle.tree_model.specs.Tree.{Tree}
+use Rattle.node_seq.specs.Trees.{StandsFor}
 use Rattle.node_seq.specs.declared.node_read.SeqError.TheVariants.{DiskFault}
 use Rattle.path_model.specs.declared.path.Axis.TheVariants.{Child}
 use Rattle.path_model.specs.declared.path.Expr.{Expr}
@@ -18,6 +20,7 @@ use Rattle.path_model.specs.PlainPaths.{plain, plain_row, plain_way}
 use Rattle.path_model.specs.Positions.{Position, passes}
 use Rattle.path_model.specs.Programs.{Program, ends, and_then, gathered}
 use Rattle.path_model.specs.Values.{nodes, flag, truth, same_flag}
+use Rattle.xpath_axes.specs.Kept.{holds}
 use Rattle.xpath_axes.specs.Positions.{all_plain}
 use Rattle.xpath_axes.specs.Positions as position
 use Rattle.xpath_axes.proofs.Running.{left_is, begins, no_run, goes, ended, each_goes, item_next, runs_as, and_then-ends, and_then-and_then}
@@ -28,6 +31,7 @@ use Rattle.xpath_axes.specs.Wholes.{IsWhole, StandsBefore}
 use Rattle.xpath_eval.specs.inside.Steps.{from_node}
 use Rattle.xpath_eval.proofs.Chains.{grouped_is, apply_is}
 use Rattle.xpath_eval.proofs.Opened.{take_all, plain_append, plain_length, step_is, path_is, apply_opened, first_is, drop_all, chain_done, meant_pushed, operands_next, kept_next}
+use Rattle.xpath_eval.proofs.Memos.{then_kept}
 use Rattle.xpath_eval.proofs.Parts.{later, run_is, answer_is, made_of, one_by_one, each_starts, on_tree}
 use Rattle.xpath_eval.proofs.PlacedNodes.{kept_number}
 use Rattle.xpath_eval.specs.inside.Places.{at_place, place_of}
@@ -241,7 +245,7 @@ stepped_ahead-loop-index-init g t c =
     record {
       same = seqs.unchanged_itself c.args.seq.now;
       counted = refl;
-      left = λ u stands_for. each_starts reads saw u nothing further (from_node c.args.step.now) (all_plain c.args.whole.now) c.args.seq.now c.args.looks.now (ap all_plain c.new-all.ensures);
+      left = λ u stands_for _. each_starts reads saw u nothing further (from_node c.args.step.now) (all_plain c.args.whole.now) c.args.seq.now c.args.looks.now (ap all_plain c.new-all.ensures);
     }
 
 pub stepped_ahead-loop-index-preserved : goal.stepped_ahead-loop-index-preserved
@@ -263,18 +267,18 @@ stepped_ahead-loop-index-preserved g t c =
     record {
       same = seqs.unchanged_onward _ _ _ inv.same two.unchanged;
       counted = two.cause.exact ∙ inv.counted;
-      left = λ u stands_for.
+      left = λ u stands_for is_whole.
           let now = later _ _ u (seqs.unchanged_contents _ _ inv.same) stands_for in
           let behind = drop (i + 1) whole in
           let all_behind : behind ≡ take (length whole - (i + 1)) behind = sym (take_all behind (length whole - (i + 1)) (sym (length-drop (i + 1) whole))) in
-          let stands_before : StandsBefore u (position.plain x) (all_plain (take (length whole - (i + 1)) behind)) = (all_plain (take i whole), subst (IsWhole u) (ap all_plain (in_its_place whole i x next) ∙ plain_append (take i whole) (x ∷ behind) ∙ ap (λ xs. all_plain (take i whole) ++ position.plain x ∷ all_plain xs) all_behind) (c.requires.whole u stands_for)) in
+          let stands_before : StandsBefore u (position.plain x) (all_plain (take (length whole - (i + 1)) behind)) = (all_plain (take i whole), subst (IsWhole u) (ap all_plain (in_its_place whole i x next) ∙ plain_append (take i whole) (x ∷ behind) ∙ ap (λ xs. all_plain (take i whole) ++ position.plain x ∷ all_plain xs) all_behind) (is_whole refl)) in
           let found = c.in_ok-found.ensures.children u stands_for.valid stands_before in
           let f : List Position → List Position = λ ms. filter (passes Child s.test) ms in
           let ways : Program (List Position) = along Child s.test (position.plain x) in
           each_goes reads saw u nothing further (from_node s) (position.plain x) rest (all_plain c.loop-index.all)
           (ap all_plain next)
           (ap all_plain c.in_ok-put_behind.ensures ∙ plain_append c.loop-index.all c.in_ok-kept.kept)
-          (inv.left u stands_for)
+          (inv.left u stands_for is_whole)
           (run_is reads saw u (and_then-and_then ways (λ ms. ends (f ms)) (λ ms. filtered (plain_row s.tests) ms) ∙ (λ j. and_then (along (sym axis j) s.test (position.plain x)) (λ ms. filtered (plain_row s.tests) (filter (passes (sym axis j) s.test) ms))))
           (one_by_one reads saw u nothing further (and_then ways (λ ms. ends (f ms))) (λ ms. filtered (plain_row s.tests) ms)
           (row_taken u stands_for.valid reads saw s.test (position.plain x) _ _ _ _ found (c.in_ok-found.ensures.noted u))
@@ -294,16 +298,22 @@ taken-loop-step-preserved g t c =
     let steps = c.args.steps.now in
     let rest = plain_way (drop (i + 1) steps) in
     let from = all_plain c.loop-step.nodes in
+    let now : (u : Tree) → StandsFor (g.S.NodeRead.contents c.args.seq.now) u → StandsFor (g.S.NodeRead.contents c.loop-step.seq) u = λ u stands_for. later _ _ u (seqs.unchanged_contents _ _ inv.same) stands_for in
+    let over : (u : Tree) → StandsFor (g.S.NodeRead.contents c.args.seq.now) u → saw u c.args.looks.now [] c.args.looks.now → IsTrue c.loop-step.is_whole → IsWhole u (all_plain c.as_slice-before.result.now) =
+    λ u stands_for known down. subst (λ ns. IsWhole u (all_plain ns)) (sym c.as_slice-before.ensures) (inv.whole u stands_for known down) in
     record {
       same = seqs.unchanged_onward _ _ _ inv.same c.in_ok-found.ensures.unchanged;
       counted = c.in_ok-found.ensures.cause.exact ∙ inv.counted;
-      left = λ u stands_for.
-          left_is reads saw u (ap (λ ns. taken rest ns) (sym c.in_ok-nodes.ensures))
-          (goes reads saw u nothing further (gathered (from_node x) from) (λ all. taken rest (in_order all))
-          (left_is reads saw u (ap (λ ss. taken (plain_way ss) from) (item_next steps i x (omega arith) c.step-item.is) ∙ ap (λ p. taken p from) (step_is x rest)) (inv.left u stands_for))
-          (run_is reads saw u (ap (λ ns. gathered (from_node x) (all_plain ns)) c.as_slice-before.ensures) (c.in_ok-found.ensures.run u (later _ _ u (seqs.unchanged_contents _ _ inv.same) stands_for))));
-      whole = λ down u stands_for.
-          let run = c.in_ok-found.ensures.run u (later _ _ u (seqs.unchanged_contents _ _ inv.same) stands_for) in
+      left = λ u stands_for. record {
+        so_far = λ known.
+            (left_is reads saw u (ap (λ ns. taken rest ns) (sym c.in_ok-nodes.ensures))
+            (goes reads saw u nothing further (gathered (from_node x) from) (λ all. taken rest (in_order all))
+            (left_is reads saw u (ap (λ ss. taken (plain_way ss) from) (item_next steps i x (omega arith) c.step-item.is) ∙ ap (λ p. taken p from) (step_is x rest)) (inv.left u stands_for))
+            (run_is reads saw u (ap (λ ns. gathered (from_node x) (all_plain ns)) c.as_slice-before.ensures) (c.in_ok-found.ensures.run u (now u stands_for) (over u stands_for known))))).so_far known;
+      };
+      whole = λ u stands_for known down.
+          let come = (inv.left u stands_for).so_far known in
+          let run = (c.in_ok-found.ensures.run u (now u stands_for) (over u stands_for known)).run (nothing u _ _ _ come.went.noted) in
           subst (IsWhole u) (sym (c.in_ok-nodes.ensures ∙ ap in_order run.is)) (whole_after u stands_for.valid x _ (c.leads_down-goes_down.ensures down));
     }
 
@@ -411,16 +421,32 @@ kept_one_by_one-loop-index-preserved g t c =
     let so_far = all_plain c.loop-index.kept in
     let rest = all_plain (drop (i + 1) ns) in
     let of_size : c.len.result ≡ size = c.len.ensures ∙ sym c.deref-node-items.ensures.len ∙ ap length same ∙ sym (plain_length ns) in
+    let kept : Bool → List Position = λ b. if b then position.plain x ∷ [] else [] in
+    let here : ℕ → Context = λ z. record { at = position.plain x; proximity = i + 1; size = z } in
+    let behind : Bool → Program (List Position) = λ b. and_then (kept_by test size (i + 1 + 1) rest) (λ more. ends ((so_far ++ kept b) ++ more)) in
     record {
-      same = seqs.unchanged_onward _ _ _ inv.same c.in_ok-holds.ensures.unchanged;
-      counted = c.in_ok-holds.ensures.cause.exact ∙ inv.counted;
+      same = seqs.unchanged_onward _ _ _ inv.same c.in_ok-is_kept.ensures.unchanged;
+      counted = c.in_ok-is_kept.ensures.cause.exact ∙ inv.counted;
       left = λ u stands_for.
-          left_is reads saw u (λ j. and_then (kept_by test size (i + 1 + 1) rest) (λ more. ends (sym (c.in_ok-keep_if.ensures ∙ ap (λ b. so_far ++ (if b then position.plain x ∷ [] else [])) c.keeps.ensures) j ++ more)))
-          (goes reads saw u nothing further (test (record { at = position.plain x; proximity = i + 1; size = size })) (λ v. and_then (kept_by test size (i + 1 + 1) rest) (λ more. ends ((so_far ++ (if keeps v (i + 1) then position.plain x ∷ [] else [])) ++ more)))
+          left_is reads saw u (λ j. and_then (kept_by test size (i + 1 + 1) rest) (λ more. ends (sym c.in_ok-keep_if.ensures j ++ more)))
+          (goes reads saw u nothing further (holds (plain c.args.test.now) (here size)) behind
           (left_is reads saw u (ap (λ ys. and_then (kept_by test size (i + 1) (all_plain ys)) (λ more. ends (so_far ++ more))) (subst (λ (ys : List _). drop i ys ≡ x ∷ drop (i + 1) ys) same (item_next xs i x (omega arith) c.node-item.is))
-          ∙ kept_next test size (i + 1) (position.plain x) rest so_far) (inv.left u stands_for))
-          (run_is reads saw u (ap (λ z. test (record { at = position.plain x; proximity = i + 1; size = z })) of_size) (c.in_ok-holds.ensures.run u (later _ _ u (seqs.unchanged_contents _ _ inv.same) stands_for))));
+          ∙ kept_next test size (i + 1) (position.plain x) rest so_far ∙ sym (and_then-and_then (test (here size)) (λ v. ends (keeps v (i + 1))) behind)) (inv.left u stands_for))
+          (run_is reads saw u (ap (λ z. holds (plain c.args.test.now) (here z)) of_size) (c.in_ok-is_kept.ensures.run u (later _ _ u (seqs.unchanged_contents _ _ inv.same) stands_for))));
     }
+
+pub holds-returns-clause-run : goal.holds-returns-clause-run
+holds-returns-clause-run g t c =
+    let reads = g.S.NodeRead.reads in
+    let saw = g.W.Looks.saw in
+    let nothing = g.met.W.Looks.saw_nothing in
+    let further = g.met.W.Looks.saw_further in
+    let again = g.met.W.Looks.saw_again in
+    let e = plain c.args.test.now in
+    let k = stands c.args.context.now in
+    λ u stands_for. then_kept reads saw u nothing further again (holds e k) c.keeps-holds.result
+    (answer_is reads saw u (sym c.keeps-holds.ensures) (made_of reads saw u nothing further (program.value e k) (λ v. keeps v k.proximity) (c.in_ok-found.ensures.run u stands_for)))
+    (c.in_ok-keep.ensures u)
 
 pub stepped_from-returns-in_default-clause-run : goal.stepped_from-returns-in_default-clause-run
 stepped_from-returns-in_default-clause-run g t c =

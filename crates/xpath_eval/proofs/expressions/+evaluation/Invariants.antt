@@ -1,4 +1,4 @@
-use Rattle.std.proofs.Common.{◌≡◌, ◌++◌, ◌+◌, drop, length, map, IsTrue}
+use Rattle.std.proofs.Common.{◌≡◌, ◌++◌, ◌+◌, [], true, drop, length, map, IsTrue}
 use Rattle.tree_model.specs.Tree.{Tree}
 use Rattle.node_seq.specs.Trees.{StandsFor}
 use Rattle.path_model.specs.Evaluation as program
@@ -9,7 +9,8 @@ use Rattle.xpath_axes.proofs.Running.{IsLeft}
 use Rattle.xpath_eval.specs.Values.{meant, all_meant}
 use Rattle.xpath_eval.specs.inside.Chains.{chain_of, chain_from}
 use Rattle.xpath_eval.specs.inside.Contexts.{stands}
-use Rattle.xpath_eval.specs.inside.Steps.{from_node, IsWholeIn}
+use Rattle.xpath_eval.specs.inside.Steps.{from_node}
+use Rattle.xpath_axes.specs.Wholes.{IsWhole}
 use Rattle.xpath_eval.proofs.expressions.+evaluation.Given as goal
 
 abbrev pub invariant-chain-loop-index : goal.invariant-chain-loop-index
@@ -42,7 +43,7 @@ invariant-taken-loop-step g l = record {
   counted : g.S.NodeRead.count l.seq ≡ g.S.NodeRead.count l.fn.seq;
   left : (t : Tree) → StandsFor (g.S.NodeRead.contents l.fn.seq) t → IsLeft g.S.NodeRead.reads g.W.Looks.saw t (program.taken (plain_way l.steps) (all_plain l.fn.from))
       (program.taken (plain_way (drop l.step-index l.steps)) (all_plain l.nodes)) l.fn.seq l.fn.looks l.seq l.looks;
-  whole : IsTrue l.is_whole → IsWholeIn (g.S.NodeRead.contents l.fn.seq) (all_plain l.nodes);
+  whole : (t : Tree) → StandsFor (g.S.NodeRead.contents l.fn.seq) t → g.W.Looks.saw t l.fn.looks [] l.fn.looks → IsTrue l.is_whole → IsWhole t (all_plain l.nodes);
 }
 
 abbrev pub invariant-stepped-loop-node : goal.invariant-stepped-loop-node
@@ -57,7 +58,7 @@ abbrev pub invariant-stepped_ahead-loop-index : goal.invariant-stepped_ahead-loo
 invariant-stepped_ahead-loop-index g l = record {
   same : g.S.NodeRead.unchanged l.fn.seq l.seq;
   counted : g.S.NodeRead.count l.seq ≡ g.S.NodeRead.count l.fn.seq;
-  left : (t : Tree) → StandsFor (g.S.NodeRead.contents l.fn.seq) t → IsLeft g.S.NodeRead.reads g.W.Looks.saw t (gathered (from_node l.step) (all_plain l.whole))
+  left : (t : Tree) → StandsFor (g.S.NodeRead.contents l.fn.seq) t → (IsTrue true → IsWhole t (all_plain l.whole)) → IsLeft g.S.NodeRead.reads g.W.Looks.saw t (gathered (from_node l.step) (all_plain l.whole))
       (and_then (gathered (from_node l.step) (all_plain (drop l.index l.whole))) (λ more. ends (all_plain l.all ++ more))) l.fn.seq l.fn.looks l.seq l.looks;
 }
 

@@ -1,21 +1,31 @@
-use Rattle.tree_model.specs.declared.reply.Reply.{Reply}
+use Rattle.std.proofs.Common.{sym, subst}
+use Rattle.std.specs.BTreeMap.{values}
 use Rattle.path_model.specs.Finds.{find}
 use Rattle.path_model.specs.PlainPaths.{plain_path}
-use Rattle.xpath_axes.specs.Runs.{HasRun}
-use Rattle.xpath_eval.proofs.Parts.{on_tree}
+use Rattle.path_model.specs.Programs.{looked}
+use Rattle.xpath_eval.specs.inside.Memos.{IsRight, IsRightAt}
+use Rattle.xpath_eval.proofs.Memos.{none_kept}
 use Rattle.xpath_eval.proofs.find.answer_find.Goals as goal
 
 pub returns-clause-reply : goal.returns-clause-reply
-returns-clause-reply g c =
-    on_tree (λ t (r : Reply). HasRun g.S.NodeRead.reads g.W.Looks.saw t (find c.args.at.now (plain_path c.args.path.now)) r c.args.seq.now c.args.looks.now c.find_at.new.seq c.find_at.new.looks)
-    _ _ _ c.find_at.result (λ t a stands h. (h stands).is) c.find_at.ensures.run
+returns-clause-reply g c = λ t stands.
+    let saw = g.W.Notes.saw in
+    let memo = c.in_ok-memo.memo in
+    let right : IsRight saw t memo = none_kept (IsRightAt saw t memo.tests memo.notes) (values memo.kept) c.in_ok-memo.ensures.1 in
+    ((c.in_ok-reply.ensures.run t stands).run (right, g.met.W.Notes.saw_nothing memo.notes, right)).is
 
 pub returns-clause-looked : goal.returns-clause-looked
-returns-clause-looked g c =
-    on_tree (λ t (r : Reply). HasRun g.S.NodeRead.reads g.W.Looks.saw t (find c.args.at.now (plain_path c.args.path.now)) r c.args.seq.now c.args.looks.now c.find_at.new.seq c.find_at.new.looks)
-    _ _ _ c.find_at.result (λ t a stands h. (h stands).went.noted) c.find_at.ensures.run
+returns-clause-looked g c = λ t stands.
+    let saw = g.W.Notes.saw in
+    let memo = c.in_ok-memo.memo in
+    let os = looked t (find c.args.at.now (plain_path c.args.path.now)) in
+    let right : IsRight saw t memo = none_kept (IsRightAt saw t memo.tests memo.notes) (values memo.kept) c.in_ok-memo.ensures.1 in
+    let run = (c.in_ok-reply.ensures.run t stands).run (right, g.met.W.Notes.saw_nothing memo.notes, right) in
+    subst (λ w. saw w os c.into_notes.result) c.in_ok-memo.ensures.0 (subst (λ w. saw memo.notes os w) (sym c.into_notes.ensures) run.went.noted.1)
 
 pub returns-clause-reads : goal.returns-clause-reads
-returns-clause-reads g c =
-    on_tree (λ t (r : Reply). HasRun g.S.NodeRead.reads g.W.Looks.saw t (find c.args.at.now (plain_path c.args.path.now)) r c.args.seq.now c.args.looks.now c.find_at.new.seq c.find_at.new.looks)
-    _ _ _ c.find_at.result (λ t a stands h. (h stands).went.read) c.find_at.ensures.run
+returns-clause-reads g c = λ t stands.
+    let saw = g.W.Notes.saw in
+    let memo = c.in_ok-memo.memo in
+    let right : IsRight saw t memo = none_kept (IsRightAt saw t memo.tests memo.notes) (values memo.kept) c.in_ok-memo.ensures.1 in
+    ((c.in_ok-reply.ensures.run t stands).run (right, g.met.W.Notes.saw_nothing memo.notes, right)).went.read
