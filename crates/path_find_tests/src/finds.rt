@@ -234,6 +234,44 @@ fn a_path_reads_what_its_looks_show_and_one_more_each(rt: HostRuntime) -> Result
     Ok(())
 }
 
+/// Twelve steps to all elements, each in a predicate of the one before; only the last asks for a name.
+const NESTED: [(&str, &str, u64); 4] = [
+    (
+        "//*[//*[//*[//*[//*[//*[//*[//*[//*[//*[//*[//price]]]]]]]]]]]",
+        "1.1001.1001,1.1001.1001.1001,1.1001.1001.1001.1001,1.1001.1001.1003,1.1001.1001.1003.1001,1.1001.1001.1005,1.1001.1001.1005.1001,1.1001.1001.1007,1.1001.1001.1007.1001,",
+        400,
+    ),
+    (
+        "//*[//*[//*[//*[//*[//*[//*[//*[//*[//*[//*[//none]]]]]]]]]]]",
+        "",
+        400,
+    ),
+    (
+        "//price[..//*[..//*[..//*[..//*[..//*[..//*[..//*[..//text()]]]]]]]]",
+        "1.1001.1001.1001.1001,1.1001.1001.1003.1001,1.1001.1001.1005.1001,1.1001.1001.1007.1001,",
+        1200,
+    ),
+    (
+        "//i[not(//*[not(//*[not(//*[not(//*[not(//*[not(//none)])])])])])]",
+        "",
+        2500,
+    ),
+];
+
+#[test]
+fn predicates_in_predicates_are_evaluated_once_where_they_say_the_same(
+    rt: HostRuntime,
+) -> Result<(), Fail> {
+    for (path, wanted, most) in NESTED {
+        let found = finds(rt.alloc(), &PRICES, "1.1001", path, wanted)?;
+        assert_eq!(rt; found, true, "at {path:?}");
+        let mut map = Counted::new(map_of(rt.alloc(), &PRICES)?);
+        let _reply = reply_of(rt.alloc(), &mut map, "1.1001", path)?;
+        assert_eq!(rt; map.calls() <= most, true, "at {path:?}: {}", map.calls());
+    }
+    Ok(())
+}
+
 /// Whether a fault ends the evaluation of a path.
 fn ends_with_a_fault(alloc: Global) -> Result<bool, Fail> {
     let mut answers = Vec::new(alloc);
