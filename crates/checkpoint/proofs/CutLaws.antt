@@ -8,7 +8,7 @@ use Rattle.byteorder.specs.Endian.{big_bytes}
 use Rattle.byteorder.specs.Numbers.{length-bytes_high_first}
 use Rattle.page_store.specs.Pages.{ArePagesOf, IsPageOf}
 use Rattle.outside_traits.specs.Moments.{History}
-use Rattle.page_images.specs.Images.{KeepsOthers}
+use Rattle.page_store.specs.Images.{KeepsOthers}
 use Rattle.tree_model.specs.declared.key.Key.{Key}
 use Rattle.tree_model.specs.declared.record.Record.{Record}
 use Rattle.tree_model.specs.Tree.{Tree, map_of}

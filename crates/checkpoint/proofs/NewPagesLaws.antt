@@ -9,7 +9,7 @@ use Rattle.byteorder.specs.Endian.{big_bytes}
 use Rattle.page_store.specs.Pages.{page_of}
 use Rattle.tree_model.proofs.Lists.{all_append, all_on}
 use Rattle.node_records.proofs.ReadLaws.{both}
-use Rattle.page_images.specs.Images.{AreImages, Rising}
+use Rattle.page_store.specs.Images.{AreImages, Rising}
 use Rattle.journal.specs.PageImages.{IsPageImage, images_body, images_bytes, numbers_rise}
 use Rattle.store_contents.specs.Contents.{image_of}
 use Rattle.checkpoint.specs.NewPages.{has_page, image_unless, new_pages}

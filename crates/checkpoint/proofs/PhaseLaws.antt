@@ -7,7 +7,7 @@ use Rattle.outside_traits.specs.Moments.{History, IsAllSynced}
 use Rattle.outside_traits.proofs.ImageLaws.{image-all_synced}
 use Rattle.outside_traits.proofs.MomentLaws.{weaker}
 use Rattle.outside_traits.proofs.PairLaws.{journal_phase, pages_phase, pairs_joined}
-use Rattle.page_images.specs.Images.{KeepsOthers, LeavesOthers}
+use Rattle.page_store.specs.Images.{KeepsOthers, LeavesOthers}
 use Rattle.node_pages.specs.PageZero.{count_of}
 use Rattle.journal.specs.Appends.{IsOneOf, groups_in, groups_read}
 use Rattle.journal.specs.Groups.{images, only_commits, with_images}

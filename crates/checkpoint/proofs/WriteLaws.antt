@@ -3,7 +3,7 @@ use Rattle.std.proofs.Common.{◌≡◌, ◌<◌, ◌≤◌, ◌^◌, ℕ, List,
 use Rattle.outside_traits.specs.DiskPairs.{Pair, PairsLeave, pair_of}
 use Rattle.outside_traits.specs.Moments.{History}
 use Rattle.outside_traits.proofs.PairLaws.{none}
-use Rattle.page_images.specs.Images.{AreImages}
+use Rattle.page_store.specs.Images.{AreImages}
 use Rattle.tree_model.specs.Tree.{Tree, map_of}
 use Rattle.node_pages.specs.Cuts.{most_pages}
 use Rattle.node_pages.specs.PageFiles.{contents_of_file}

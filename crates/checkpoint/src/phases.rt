@@ -1,7 +1,7 @@
 //! The three phases of a checkpoint.
 ghost use Rattle.std.specs.Prelude.{◌≡◌, ◌≤◌, Some, IsTrue, OnOk, length};
 ghost use Rattle.outside_traits.specs.Moments.{IsAllSynced};
-ghost use Rattle.page_images.specs.Images.{AreImages as AreInstallable, Rising};
+ghost use Rattle.page_store.specs.Images.{AreImages as AreInstallable, Rising};
 ghost use Rattle.journal.specs.DiskFaults.{disk_fault};
 ghost use Rattle.journal.specs.Groups.{AreImages};
 ghost use Rattle.journal.specs.PageImages.{images_in};
@@ -12,7 +12,7 @@ ghost use Rattle.checkpoint.specs.inside.Phases.{HasTwoCauses, HasWritten, Leave
 use dewey_labels::List;
 use journal::{DiskFault, Journal};
 use outside_traits::Disk;
-use page_images::install;
+use page_store::install;
 
 /// Puts images into the journal, then in place, and then resets the journal. It takes no memory.
 /// `body` is that of the images. An error stops it in the phase whose disk failed.

@@ -9,7 +9,7 @@ use node_records::OpenError;
 use node_seq::SortedSeq;
 use outside_kinds::MemDisk;
 use outside_traits::Disk;
-use paged_recovery::open_store;
+use recovery::open_store;
 use std::alloc::Global;
 use std::test::Fail;
 use tree_model::{Change, Record};

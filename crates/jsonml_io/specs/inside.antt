@@ -1,2 +1,3 @@
--- Words that only proofs use.
+-- Words that only private functions and proofs use.
 pub mod Rows
+pub mod Tokens

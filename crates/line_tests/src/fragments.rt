@@ -1,7 +1,8 @@
 //! Fragments as JSON, the rules that a value breaks, and the limits.
 use dewey_labels::{List, Text};
-use jsonml_io::{FragmentError, of_value, read_fragment, read_value, to_value, write_fragment};
-use jsonml_text::text_of;
+use jsonml_io::{
+    FragmentError, of_value, read_fragment, read_value, text_of, to_value, write_fragment,
+};
 use serde_json::Value;
 use std::alloc::Global;
 use std::test::Fail;

@@ -5,7 +5,7 @@ use node_seq::{SeqError, entries_above};
 use outside_kinds::MemDisk;
 use outside_traits::Disk;
 use overlays::Stacked;
-use paged_recovery::{Opened, open_store};
+use recovery::{Opened, open_store};
 use std::alloc::Global;
 use std::test::Fail;
 use tree_model::Key;

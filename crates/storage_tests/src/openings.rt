@@ -6,7 +6,7 @@ use node_seq::{NodeRead, SeqError, entries_above};
 use outside_kinds::MemDisk;
 use outside_traits::Disk;
 use overlays::Stacked;
-use paged_recovery::{StoreFault, open_store};
+use recovery::{StoreFault, open_store};
 use std::alloc::Global;
 use std::test::Fail;
 use tree_model::{Key, Record};

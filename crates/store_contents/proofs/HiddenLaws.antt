@@ -4,7 +4,7 @@ use Rattle.std.proofs.lemmas.Bool.{eq-eqb, eqb-true}
 use Rattle.std.proofs.lemmas.List.{length-take, length-drop}
 use Rattle.std.specs.List.{AllByRecursion}
 use Rattle.page_store.specs.Pages.{IsPageOf, page_of}
-use Rattle.page_images.specs.Images.{KeepsOthers, Lacks}
+use Rattle.page_store.specs.Images.{KeepsOthers, Lacks}
 use Rattle.tree_model.specs.Entries.{Entries}
 use Rattle.node_pages.specs.PageFiles.{contents_of_file, file_page}
 use Rattle.node_pages.specs.PageZero.{Header, count_of, header_in, header_of}

@@ -1,7 +1,7 @@
 -- Of which files the laws of this crate tell.
 use Rattle.std.specs.Prelude.{◌≡◌, ℕ, List, [], Some, None, Ok}
 use Rattle.tree_model.specs.StoredTree.{broken_at}
-use Rattle.page_images.specs.Images.{KeepsOthers}
+use Rattle.page_store.specs.Images.{KeepsOthers}
 use Rattle.node_pages.specs.PageZero.{Header, count_of, header_in}
 use Rattle.journal.specs.Groups.{only_commits}
 use Rattle.journal.specs.Journals.{read}

@@ -8,7 +8,7 @@ use Rattle.tree_model.specs.Tree.{Tree}
 use Rattle.node_seq.specs.Trees.{StandsFor}
 use Rattle.journal.specs.Groups.{is_next}
 use Rattle.journal.specs.Views.{JournalView}
-use Rattle.paged_recovery.specs.Openings.{TakesBehind}
+use Rattle.recovery.specs.Openings.{TakesBehind}
 use Rattle.script_runs.specs.Counts.{DisksCountedWhere}
 use Rattle.script_runs.specs.Machine.{IsSettled}
 use Rattle.durable_sessions.specs.Asked.{TakesNext}

@@ -10,7 +10,7 @@ use Rattle.tree_model.specs.Tree.{Tree}
 use Rattle.tree_model.specs.ValidTrees.{IsValidTree}
 use Rattle.node_seq.specs.Trees.{StandsFor}
 use Rattle.journal.specs.Views.{JournalView}
-use Rattle.paged_recovery.specs.Openings.{TakesBehind}
+use Rattle.recovery.specs.Openings.{TakesBehind}
 use Rattle.checkpoint.specs.Bases.{IsUnchanged, contents_of, count_of, is_paged}
 use Rattle.checkpoint.specs.declared.base.Base.{Base}
 use Rattle.script_runs.specs.Counts.{Counts, DisksCountedWhere}

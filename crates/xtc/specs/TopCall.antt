@@ -6,7 +6,7 @@ use Rattle.outside_traits.specs.Bytes.{Took, TookPrefix}
 use Rattle.outside_traits.specs.DiskPairs.{Pair, PairsHave, PairsLeave}
 use Rattle.outside_traits.specs.declared.disk.Disk.{Ghosts as DiskOf}
 use Rattle.node_records.specs.declared.open_error.Place.{Place}
-use Rattle.paged_recovery.specs.Openings.{RefusesPages}
+use Rattle.recovery.specs.Openings.{RefusesPages}
 use Rattle.tree_model.specs.Tree.{Tree}
 use Rattle.store_contents.specs.StoredTrees.{StandFor, StoodFor, LeaveWhatStood}
 use Rattle.script_runs.specs.Lines.{ended, lines_of, first_long, AllShort, line_limit}

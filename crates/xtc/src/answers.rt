@@ -8,7 +8,7 @@ ghost use Rattle.xtc.specs.Documents.{answer_line, hits_in, hits_line, label_in,
 use crate::question::Question;
 use command_lines::{LineAnswer, LineReply, write_answer};
 use dewey_labels::{Label, List, NoMemory};
-use jsonml_text::text_of;
+use jsonml_io::text_of;
 use std::alloc::Global;
 use tree_model::{Fragment, Reply};
 

@@ -1,7 +1,7 @@
 // The command that makes a document, over a store that was opened.
 ghost use Rattle.std.specs.Prelude.{◌≡◌, ◌≢◌, [], Ok, Err, IfOk, IfErr, OnOk, IfSome};
 ghost use Rattle.tree_model.specs.Fragments.{IsValid, plain};
-ghost use Rattle.paged_recovery.specs.Openings.{TakesBehind};
+ghost use Rattle.recovery.specs.Openings.{TakesBehind};
 ghost use Rattle.script_runs.specs.Counts.{CountedWhere};
 ghost use Rattle.command_lines.specs.ValidCommands.{IsValidWhat};
 ghost use Rattle.command_lines.specs.declared.command.What.TheVariants.{Call};

@@ -3,7 +3,7 @@ ghost use Rattle.std.specs.Prelude.{◌≡◌, ◌≤◌, ◌&&◌, ◌++◌, �
 ghost use Rattle.outside_traits.specs.Faults.{HasCause};
 ghost use Rattle.outside_traits.specs.Moments.{IsAllSynced};
 ghost use Rattle.node_seq.specs.Trees.{OnTree};
-ghost use Rattle.paged_recovery.specs.Openings.{TakesBehind};
+ghost use Rattle.recovery.specs.Openings.{TakesBehind};
 ghost use Rattle.checkpoint.specs.Bases.{contents_of};
 ghost use Rattle.command_words.specs.Commands.{gen as gen_command};
 ghost use Rattle.workload_gen.specs.LineTexts.{line_text};

@@ -2,7 +2,7 @@
 ghost use Rattle.std.specs.Prelude.{◌≡◌, ◌≢◌, ◌++◌, ◌∷◌, ℕ, [], Err, IfOk, IfErr, OnOk};
 ghost use Rattle.outside_traits.specs.Faults.{HasCause};
 ghost use Rattle.node_seq.specs.Trees.{OnTree};
-ghost use Rattle.paged_recovery.specs.Openings.{TakesBehind};
+ghost use Rattle.recovery.specs.Openings.{TakesBehind};
 ghost use Rattle.call_contract.specs.States.{start};
 ghost use Rattle.command_lines.specs.ValidCommands.{IsValidWhat};
 ghost use Rattle.command_lines.specs.declared.command.StoreCall.TheVariants.{Dom};

@@ -2,7 +2,7 @@
 ghost use Rattle.std.specs.Prelude.{◌≡◌, IsTrue, None};
 ghost use Rattle.outside_traits.specs.Moments.{IsAllSynced};
 ghost use Rattle.node_records.specs.declared.open_error.Place.{Place};
-ghost use Rattle.paged_recovery.specs.Openings.{TakesBehind};
+ghost use Rattle.recovery.specs.Openings.{TakesBehind};
 ghost use Rattle.script_runs.specs.Counts.{CountedWhere, DisksCountedWhere};
 ghost use Rattle.command_words.specs.Commands.{IsInRange, command_of, meant, run};
 ghost use Rattle.xtc.specs.Checkpoints.{is_positive, may_lose_by};
@@ -24,8 +24,8 @@ use command_words::{Command, Words, read_words};
 use journal::Journal;
 use outside_traits::{Disk, Gate, Sink, Source};
 use overlays::Stacked;
-use paged_recovery::{Opened, StoreFault, open_store};
 use paged_seq::PagedSeq;
+use recovery::{Opened, StoreFault, open_store};
 use std::alloc::Global;
 use std::sync::Wait;
 use std::thread::Threads;

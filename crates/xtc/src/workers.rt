@@ -1,7 +1,7 @@
 // The command that runs a whole script by workers, over a store that was opened.
 ghost use Rattle.std.specs.Prelude.{◌≡◌, [], Err, IfErr, IfOk, IfSome, IsTrue, Some};
 ghost use Rattle.outside_traits.specs.Moments.{IsAllSynced};
-ghost use Rattle.paged_recovery.specs.Openings.{TakesBehind};
+ghost use Rattle.recovery.specs.Openings.{TakesBehind};
 ghost use Rattle.script_runs.specs.Counts.{CountedWhere};
 ghost use Rattle.checkpoint.specs.Bases.{contents_of};
 ghost use Rattle.command_words.specs.Commands.{workers as workers_command};

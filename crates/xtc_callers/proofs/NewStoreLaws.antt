@@ -17,7 +17,7 @@ use Rattle.journal.specs.Appends.{groups_read}
 use Rattle.journal.specs.Journals.{read}
 use Rattle.journal.specs.declared.group.Groups.{Groups}
 use Rattle.store_contents.specs.Contents.{Contents, contents_of_files}
-use Rattle.paged_recovery.specs.Openings.{RefusesPages}
+use Rattle.recovery.specs.Openings.{RefusesPages}
 use Rattle.store_contents.specs.StoredTrees.{StandFor, StoodFor}
 use Rattle.script_runs.specs.Lines.{ended, unended, last_line, lines_of}
 use Rattle.script_runs.specs.Runs.{AskedLines}

@@ -1,7 +1,7 @@
 -- Images that were gathered from pages in their order.
 use Rattle.std.specs.Prelude.{◌≡◌, ◌≤◌, ◌<◌, ℕ, List, length}
 use Rattle.std.specs.List.{AllByRecursion}
-use Rattle.page_images.specs.Images.{Rising}
+use Rattle.page_store.specs.Images.{Rising}
 
 -- each is a whole page
 abbrev pub AreWhole : List (List ℕ) → Type 0

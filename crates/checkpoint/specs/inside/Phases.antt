@@ -3,7 +3,7 @@ use Rattle.std.specs.Prelude.{◌≡◌, ◌≤◌, ◌⊎◌, ℕ, Bool, IsTrue
 use Rattle.outside_traits.specs.DiskPairs.{PairsLeave, pair_of}
 use Rattle.outside_traits.specs.Faults.{FaultCounted}
 use Rattle.outside_traits.specs.Moments.{History, IsAllSynced}
-use Rattle.page_images.specs.Images.{KeepsOthers}
+use Rattle.page_store.specs.Images.{KeepsOthers}
 use Rattle.page_store.specs.Pages.{ArePagesOf}
 use Rattle.tree_model.specs.Tree.{Tree, map_of}
 use Rattle.tree_model.specs.ValidTrees.{IsValidTree}

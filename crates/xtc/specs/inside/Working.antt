@@ -7,7 +7,7 @@ use Rattle.tree_model.specs.Entries.{Entries}
 use Rattle.tree_model.specs.Tree.{Tree}
 use Rattle.node_seq.specs.Trees.{StandsFor}
 use Rattle.journal.specs.Views.{JournalView}
-use Rattle.paged_recovery.specs.Openings.{TakesBehind}
+use Rattle.recovery.specs.Openings.{TakesBehind}
 use Rattle.script_runs.specs.Counts.{Counts}
 use Rattle.call_contract.specs.Books.{Book, IsBookFrom, commits}
 use Rattle.call_contract.specs.States.{start}

@@ -3,7 +3,7 @@ use Rattle.std.proofs.lemmas.List.{length-take}
 use Rattle.std.specs.Prelude.{is_some}
 use Rattle.outside_traits.specs.DiskPairs.{pair_of}
 use Rattle.outside_traits.specs.Moments.{History, IsAllSynced}
-use Rattle.page_images.specs.Images.{AreImages, Rising}
+use Rattle.page_store.specs.Images.{AreImages, Rising}
 use Rattle.journal.specs.Groups.{is_last}
 use Rattle.journal.specs.PageImages.{images_body, images_in}
 use Rattle.journal.specs.Views.{JournalView}

@@ -1,5 +1,5 @@
 use Rattle.std.proofs.Common.{◌∙◌}
-use Rattle.page_images.specs.Images.{written_over}
+use Rattle.page_store.specs.Images.{written_over}
 use Rattle.checkpoint.specs.inside.Phases.{HasWritten}
 use Rattle.checkpoint.proofs.PhaseLaws.{after_first, after_second, after_third, synced_again}
 use Rattle.checkpoint.proofs.phases.write_images.Goals as goal

@@ -1,2 +1,0 @@
--- words that only private functions and the proof use
-pub mod inside

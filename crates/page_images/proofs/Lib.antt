@@ -1,2 +1,0 @@
-pub mod InstallSteps
-pub mod WrittenLaws

@@ -1,7 +1,0 @@
-use Rattle.std.proofs.Common.{◌≡◌}
-use Rattle.tree_model.specs.Changes.{laid}
-use Rattle.paged_recovery.specs.inside.Nets.{as_changes}
-use Rattle.paged_recovery.proofs.netting.note.Given as goal
-
-abbrev pub invariant-loop-change : goal.invariant-loop-change
-invariant-loop-change l = as_changes l.net.entries ≡ laid l.yielded (as_changes l.fn.net.entries)
