@@ -186,7 +186,12 @@ class Errors(WithFolder):
             (("select", "x", "//b["), "", 10, "no path goes on like this\n    //b[\n        ^"),
             (("select", "x", "//b[. = 1.5]"), "", 10, "this store hasn't"),
             (("set", "x", "//b", "t"), "", 10, "finds nothing"),
+            (("set", "x", "/", "t"), "", 10, "the path finds the document itself"),
+            (("drop", "x", "y"), "", 10, "there is no document y"),
+            (("export", "out", "y"), "", 10, "there is no document y"),
             (("put", "y"), "[1]", 9, "no element in JsonML"),
+            (("put", "y"), json.dumps([5, "x" * 1100000]), 9, "no element in JsonML"),
+            (("put", "y"), json.dumps(["a", {"k": "x" * 1048500, "l": 1.5}]), 9, "no element in JsonML"),
             (("put", "y"), "<a>", 9, "line 1: no XML"),
             (("put", "y"), '["a"', 9, "no JSON"),
             (("-C", "none", "list"), "", 11, "there is no folder none"),
@@ -203,7 +208,7 @@ class Errors(WithFolder):
     def test_a_folder_without_a_store_stays_as_it_is(self):
         for command in (["list"], ["get", "x"], ["check"], ["stats"], ["compact"], ["backup", "copy"]):
             self.assertEqual(self.ran(*command)[0], 11)
-        self.assertEqual([it for it in os.listdir(self.folder) if it != "copy"], [])
+        self.assertEqual(os.listdir(self.folder), [])
 
     def test_damage_and_another_process_are_told(self):
         self.done("put", "x", given='["a"]')

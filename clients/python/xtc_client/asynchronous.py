@@ -74,11 +74,19 @@ class AsyncSession:
     @contextlib.asynccontextmanager
     async def reading(self) -> AsyncIterator[AsyncSession]:
         """For `async with`: a transaction that only reads. It is aborted at the end of the block, so nothing is written."""
+        await self.start()
         try:
-            await self.begin()
             yield self
         finally:
             await self.give_up()
+
+    async def start(self) -> int:
+        """As `begin`, which a task that is cancelled in it takes back."""
+        try:
+            return await self.begin()
+        except asyncio.CancelledError:
+            await self.give_up()
+            raise
 
     async def transactions(self, attempts: int = 100) -> AsyncIterator[AsyncAttempt]:
         """For `async for` and `async with`: the block is done again after each deadlock, until it has committed or been left by another exception.
@@ -169,11 +177,7 @@ class AsyncBounds:
         self.number: int | None = None
 
     async def begin(self) -> None:
-        try:
-            self.ordinal = await self.session.begin()
-        except asyncio.CancelledError:
-            await self.session.give_up()
-            raise
+        self.ordinal = await self.session.start()
 
     async def end(self, error: BaseException | None) -> None:
         """Commits, or aborts what an exception has left, unless it has ended by that."""

@@ -5,6 +5,7 @@ from __future__ import annotations
 import json
 
 from .conversation import LINE
+from .errors import BadTree
 from .store import Session
 from .values import Element, Label, Tree, Value
 
@@ -25,12 +26,15 @@ def create_large(session: Session, name: str, tree: Tree | None = None) -> Label
 
 
 def append_large(session: Session, at: str, tree: Tree) -> Label:
-    """As `append`, of a tree of any length; its label."""
+    """As `append`, of a tree of any length; its label. A BadTree that is found in a part has no place."""
     if _fits(tree):
         return session.append(at, tree)
     if isinstance(tree, str):
         return _append_text(session, at, tree)
-    element = Element.of(tree)
+    try:
+        element = Element.of(tree)
+    except TypeError:
+        raise BadTree("tree", 0) from None
     label = _append_start(session, at, element)
     for child in element.children:
         append_large(session, label, child)
@@ -61,4 +65,8 @@ def _append_start(session: Session, at: str, element: Element) -> Label:
 
 def _text_of(value: Value) -> str:
     """An attribute's value as the store makes a text of it."""
-    return value if isinstance(value, str) else "" if value is None else json.dumps(value)
+    if isinstance(value, str) or value is None:
+        return value or ""
+    if not isinstance(value, int):
+        raise BadTree("tree", 0)
+    return json.dumps(value)

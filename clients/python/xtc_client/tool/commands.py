@@ -8,7 +8,7 @@ import sys
 from dataclasses import dataclass
 from enum import Enum
 from pathlib import Path
-from typing import Iterable, Iterator
+from typing import Container, Iterable, Iterator
 
 from ..errors import DocumentRefused, NotFoundError, XtcError
 from ..placing import append_large, create_large
@@ -79,8 +79,9 @@ def _put_in_place(session: Session, name: str, tree: Tree) -> Label:
 
 def drop(context: Context, dropped: Iterable[str]) -> None:
     with context.session() as session, session.transaction():
+        there = [it.name for it in session.docs()]
         for name in dropped:
-            session.drop(name)
+            session.drop(_named(name, there))
 
 
 def rename(context: Context, old: str, new: str) -> Label:
@@ -92,20 +93,28 @@ def rename(context: Context, old: str, new: str) -> Label:
     return label
 
 
+def _named(name: str, there: Container[str]) -> str:
+    """The name, where there is a document with it; of several it is said which isn't there."""
+    if name not in there:
+        raise DocumentRefused("there is no document %s: `list` says which there are" % name)
+    return name
+
+
 # ---- many documents
 
 
 def export(context: Context, folder: str, wanted: list[str], form: Form) -> int:
     """Writes documents, all where none is named, to files NAME.json or NAME.xml of a folder, which may not be there yet; how many."""
-    os.makedirs(folder, exist_ok=True)
     with context.session() as session, session.reading():
-        chosen = wanted or [it.name for it in session.docs()]
+        labels = {it.name: it.label for it in session.docs()}
+        chosen = [_named(name, labels) for name in wanted] or list(labels)
         targets = {name: Path(folder, "%s.%s" % (name, form.value)) for name in chosen}
         for target in targets.values():
             if target.exists():
                 raise FileExistsError("%s is there already: name another folder" % target)
+        os.makedirs(folder, exist_ok=True)
         for name in progress(chosen, "export"):
-            tree = session.dump(session.doc(name))
+            tree = session.dump(labels[name])
             targets[name].write_text((xml_text(tree) if form is Form.XML else json_text(tree)) + "\n", encoding="utf-8")
     return len(chosen)
 
@@ -169,21 +178,27 @@ def set_values(context: Context, name: str, path: str, text: str) -> int:
             if label.attribute is not None:
                 session.set_attr(label.node, label.attribute, text)
             else:
+                _above(label)
                 session.set_text(label, text)
     return len(labels)
+
+
+def _above(label: Label) -> Label:
+    """The parent of a node; a document has none."""
+    above = label.parent
+    if above is None:
+        raise DocumentRefused("the path finds the document itself, and not its element: that is `/*`")
+    return above
 
 
 def delete(context: Context, name: str, path: str) -> int:
     """Takes out each node and attribute that a path finds; how many."""
     with _found(context, name, path) as (session, labels):
         for label in reversed(labels):  # what is below goes before what is above it
-            above = label.parent
             if label.attribute is not None:
                 session.remove_attr(label.node, label.attribute)
-            elif above is None:
-                raise DocumentRefused("the path finds the document itself: `drop` takes it out")
             else:
-                session.remove(above, label)
+                session.remove(_above(label), label)
     return len(labels)
 
 

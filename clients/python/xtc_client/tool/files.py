@@ -110,11 +110,11 @@ def statistics(folder: str) -> Statistics:
 
 def backup(folder: str, target: str) -> str:
     """Copies both files to another folder while no program has the store, and tests the copy; what it holds, in one line."""
-    os.makedirs(target, exist_ok=True)
     there = [name for name in NAMES if os.path.exists(os.path.join(target, name))]
     if there:
         raise FileExistsError("%s is there already: name a folder without a store" % os.path.join(target, there[0]))
     with locked(folder):
+        os.makedirs(target, exist_ok=True)
         for name in NAMES:
             _copy(Path(folder, name), Path(target, name))
         _sync(target)
