@@ -407,8 +407,10 @@ class Options(WithStore):
             call.result(10)
         with tempfile.TemporaryDirectory() as beside, open(trace + ".script", "rb") as script, open(trace + ".replies", "rb") as replies:
             self.assertEqual(subprocess.run([PROGRAM, "run"], cwd=beside, stdin=script, stdout=subprocess.PIPE).stdout, replies.read())
-        drawn = subprocess.run([os.path.join(ROOT, "tools", "timeline"), trace + ".script", trace + ".replies"], stdout=subprocess.PIPE, check=True).stdout
-        self.assertIn(b"waits for 1", drawn)
+        for words, sessions, waits in [((), 2, True), (("--lines", "1-5"), 2, False), (("--lines", "6-99"), 2, True), (("--sessions", "1"), 1, False)]:
+            timeline = [os.path.join(ROOT, "tools", "timeline"), trace + ".script", trace + ".replies", *words]
+            drawn = subprocess.run(timeline, stdout=subprocess.PIPE, check=True).stdout.decode()
+            self.assertEqual((drawn.count(">session "), "waits for 1<" in drawn), (sessions, waits), words)
 
 
 class Values(unittest.TestCase):
