@@ -74,6 +74,14 @@ class Documents(WithFolder):
             self.done(*words)
         self.assertEqual(os.path.getsize(self.path("store.journal")), size)
 
+    def test_files_that_may_not_be_written_are_read_from_a_copy(self):
+        self.done("put", "x", given=BOOKS)
+        may = os.access
+        with mock.patch("os.access", lambda path, mode: not mode & os.W_OK and may(path, mode)):
+            with mock.patch("xtc_client.tool.commands.Store", wraps=client.Store) as opened:
+                self.assertEqual(self.done("list") + self.done("select", "x", "//title"), "x\nOne\nTwo\n")
+        self.assertNotIn(mock.call(".", PROGRAM), opened.mock_calls)
+
     def test_a_document_of_any_length_is_put_and_got(self):
         tree = ["a", {"k": "v" * 700000, "l": "w" * 700000}, "\u20ac" * 349525, *(["b", ["c", "x" * 300000]] for _ in range(60))]
         self.done("put", "x", given=json.dumps(tree))

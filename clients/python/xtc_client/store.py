@@ -53,7 +53,7 @@ def later(make: Callable[P, Request[T]]) -> Callable[Concatenate[Futures, P], Ca
     return method
 
 
-class Call(Pending[T], concurrent.futures.Future):  # type: ignore[type-arg]  # a Future of T, which the type of `result` says
+class Call(Pending[T], concurrent.futures.Future[T]):
     """What a call is answered, as a future. It is sent, so `cancel` answers False: only an abort of its session gives up one that waits.
 
     Its callbacks run in the thread that reads replies, so they make no blocking call.
@@ -71,11 +71,6 @@ class Call(Pending[T], concurrent.futures.Future):  # type: ignore[type-arg]  # 
 
     def fail(self, error: BaseException) -> None:
         self.set_exception(error)
-
-    def result(self, timeout: float | None = None) -> T:
-        """The answer, or the exception that stands for it; TimeoutError after so many seconds."""
-        value: T = super().result(timeout)
-        return value
 
 
 class Awaited(Pending[T]):

@@ -15,7 +15,7 @@ from ..placing import append_large, create_large
 from ..store import Session, Store
 from ..values import Label, Tree
 from .advice import said_of, status_of
-from .files import need_store
+from .files import need_store, readable
 from .progress import progress
 from .trees import BadFile, Reading, json_text, xml_piece, xml_text
 
@@ -43,17 +43,23 @@ class Context:
         with Store(self.folder, self.program) as store, store.session() as session:
             yield session
 
+    @contextlib.contextmanager
+    def reading(self) -> Iterator[Session]:
+        """A session in a transaction that only reads, also of a store whose files may not be written."""
+        with readable(self.folder) as folder, Store(folder, self.program) as store, store.session() as session, session.reading():
+            yield session
+
 
 # ---- documents
 
 
 def names(context: Context) -> list[str]:
-    with context.session() as session, session.reading():
+    with context.reading() as session:
         return [it.name for it in session.docs()]
 
 
 def get(context: Context, name: str) -> Tree | None:
-    with context.session() as session, session.reading():
+    with context.reading() as session:
         return session.dump(session.doc(name))
 
 
@@ -105,7 +111,7 @@ def _named(name: str, there: Container[str]) -> str:
 
 def export(context: Context, folder: str, wanted: list[str], form: Form) -> int:
     """Writes documents, all where none is named, to files NAME.json or NAME.xml of a folder, which may not be there yet; how many."""
-    with context.session() as session, session.reading():
+    with context.reading() as session:
         labels = {it.name: it.label for it in session.docs()}
         chosen = [_named(name, labels) for name in wanted] or list(labels)
         targets = {name: Path(folder, "%s.%s" % (name, form.value)) for name in chosen}
@@ -138,7 +144,7 @@ def import_files(context: Context, paths: list[str], reading: Reading, replaces:
 
 def select(context: Context, name: str, path: str, form: Form) -> list[str]:
     """The value of each node and attribute that a path finds, as a line or, in XML, a piece of it."""
-    with context.session() as session, session.reading():
+    with context.reading() as session:
         labels = session.find(session.doc(name), path)
         return [_value(session, label, form) for label in labels]
 

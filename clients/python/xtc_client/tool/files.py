@@ -6,6 +6,7 @@ import contextlib
 import fcntl
 import os
 import shutil
+import tempfile
 from collections import Counter
 from dataclasses import dataclass
 from pathlib import Path
@@ -68,6 +69,20 @@ def locked(folder: str, changes: bool = False) -> Iterator[None]:
             yield
     except (BlockingIOError, PermissionError) as error:
         raise NotAvailable(why_not_available(folder) or str(error)) from None
+
+
+@contextlib.contextmanager
+def readable(folder: str) -> Iterator[str]:
+    """A folder from which the program can read the store: this one, or where its files may not be written, as on a medium of copies, a copy for as long."""
+    need_store(folder)
+    if all(os.access(os.path.join(folder, name), os.W_OK) for name in NAMES):
+        yield folder
+        return
+    with tempfile.TemporaryDirectory(prefix="xtc-docs-") as copy:
+        with locked(folder):
+            for name in NAMES:
+                shutil.copyfile(os.path.join(folder, name), os.path.join(copy, name))
+        yield copy
 
 
 def records_of(folder: str) -> tuple[dict[Any, Any], int]:
