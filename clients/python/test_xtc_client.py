@@ -323,6 +323,11 @@ class Statuses(WithStore):
                 made(os.path.join(folder, name))
                 client.Store(folder, PROGRAM)
 
+    def test_an_interrupt_at_the_terminal_doesnt_end_the_program(self):
+        script = "import signal, sys, os, xtc_client\nwith xtc_client.Store(*sys.argv[1:]) as store, store.session() as session:\n    signal.signal(signal.SIGINT, lambda *_: None)\n    os.killpg(0, signal.SIGINT)\n    print(session.begin())"
+        ran = subprocess.run([sys.executable, "-B", "-c", script, self.folder, PROGRAM], cwd=HERE, stdout=subprocess.PIPE, start_new_session=True)
+        self.assertEqual((ran.returncode, ran.stdout), (0, b"1\n"))
+
     def test_a_program_that_isnt_xtc_is_an_end(self):
         with self.assertRaisesRegex(client.Ended, "no reply of xtc"):
             client.Store(self.folder, shutil.which("yes"))

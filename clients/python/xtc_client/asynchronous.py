@@ -251,7 +251,8 @@ class AsyncStore:
         """Starts the program and waits until the store is open."""
         need_folder(self._folder)
         pipe = asyncio.subprocess.PIPE
-        self._process = await asyncio.create_subprocess_exec(*self._command, cwd=self._folder, stdin=pipe, stdout=pipe, stderr=pipe)
+        command = asyncio.create_subprocess_exec(*self._command, cwd=self._folder, stdin=pipe, stdout=pipe, stderr=pipe, start_new_session=True)
+        self._process = await command
         if self._trace_prefix is not None:
             self._trace = Trace(self._trace_prefix)
         self._reading = asyncio.create_task(self._read())

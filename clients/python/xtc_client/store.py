@@ -358,7 +358,9 @@ class Store:
         need_folder(self._folder)
         self._trace = Trace(trace) if trace is not None else None
         command = command_of_run(program, checkpoint, frames)
-        self._process = subprocess.Popen(command, cwd=self._folder, stdin=subprocess.PIPE, stdout=subprocess.PIPE, stderr=subprocess.PIPE)
+        pipe = subprocess.PIPE
+        # In a session of its own, so that a Ctrl-C at the terminal is the caller's affair and doesn't end the program.
+        self._process = subprocess.Popen(command, cwd=self._folder, stdin=pipe, stdout=pipe, stderr=pipe, start_new_session=True)
         self._conversation = Conversation()
         # `_lock` is over what is queued and whether it has ended, and is never held over a write. `_writing` is over writing: the program
         # may stop reading until its replies are read, and the thread that reads them needs only `_lock`.
@@ -418,13 +420,16 @@ class Store:
         with self._writing:
             with self._lock:
                 lines, self._queued = b"".join(self._queued), []
-            if self._trace and lines != OPENING:
-                self._trace.asked(lines)
             try:
                 stdin.write(lines)
                 stdin.flush()
+                if self._trace and lines != OPENING:
+                    self._trace.asked(lines)
             except (OSError, ValueError):
                 pass  # the program has ended, and the reader says why
+            except BaseException:
+                self._process.kill()  # a line may be cut off, and the next would be read as its rest
+                raise
 
     def _wake_writer(self) -> None:
         if self._writer is None:
@@ -445,13 +450,11 @@ class Store:
         self._write()
         stdin = self._process.stdin
         assert stdin is not None
-        with self._writing, self._lock:
+        with self._lock:
             if self._end is None:
                 self._end = Closed("the store is closed")
-            try:
-                stdin.close()
-            except OSError:
-                pass  # the program has ended before
+        with self._writing, contextlib.suppress(OSError):  # the program may have ended before
+            stdin.close()
         self._reader.join()
         if self._end.status:
             raise self._end
