@@ -34,6 +34,8 @@ def main(words: list[str] | None = None) -> int:
         return _failed(str(error), NotJsonMl.status)
     except Mistyped as error:
         return _failed(str(error), Usage.status)
+    except KeyboardInterrupt:
+        return _failed("stopped; what wasn't committed is dropped", 130)
     except BrokenPipeError:  # whoever reads wants no more
         os.dup2(os.open(os.devnull, os.O_WRONLY), sys.stdout.fileno())
         return 0

@@ -219,17 +219,17 @@ class Shell:
         return [it for it in known if it.startswith(last)]
 
 
-def history_file() -> Path:
-    """Where lines are kept from one prompt to the next."""
+def history_file(library: str) -> Path:
+    """Where lines are kept from one prompt to the next, in the form of the library that reads them; its folder is made."""
     folder = Path(os.environ.get("XDG_STATE_HOME") or Path.home() / ".local" / "state")
-    return folder / "xtc-docs-history"
+    folder.mkdir(parents=True, exist_ok=True)
+    return folder / ("xtc-docs-history." + library)
 
 
 def reads_for(shell: Shell) -> Reads:
     """How lines are read: by prompt_toolkit where it is there, else by readline; plainly where the input is no terminal."""
     if not sys.stdin.isatty():
         return _read_plain
-    history_file().parent.mkdir(parents=True, exist_ok=True)
     try:
         return _by_prompt_toolkit(shell)
     except ImportError:
@@ -254,7 +254,7 @@ def _by_prompt_toolkit(shell: Shell) -> Reads:
             for word in shell.completions(line):
                 yield Completion(word, start_position=-len(line.split(" ")[-1]))
 
-    prompts: Any = PromptSession(history=FileHistory(str(history_file())), completer=Words(), complete_while_typing=False)
+    prompts: Any = PromptSession(history=FileHistory(str(history_file("prompt_toolkit"))), completer=Words(), complete_while_typing=False)
     return lambda prompt: str(prompts.prompt(prompt))
 
 
@@ -269,7 +269,8 @@ def _by_readline(shell: Shell) -> Reads:
     readline.set_completer(complete)
     readline.set_completer_delims(" ")
     readline.parse_and_bind("tab: complete")
-    if history_file().exists():
-        readline.read_history_file(history_file())
-    atexit.register(readline.write_history_file, history_file())
+    history = history_file("readline")
+    if history.exists():
+        readline.read_history_file(history)
+    atexit.register(readline.write_history_file, history)
     return lambda prompt: input(prompt)
