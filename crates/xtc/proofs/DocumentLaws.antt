@@ -83,6 +83,10 @@ asks_no_commit (put name) s read all is commits_none = absurd cc
 asks_no_commit (get name) s read all is commits_none = subst AskNoCommit (ap asks_in is) (show_no_commit s name Whole)
 asks_no_commit (query name path) s read all is commits_none = query_no_commit (parsed path) s name all is
 
+-- such a command may not commit
+never_commits : (c : Command) → may_commit (Some c) ≡ false → IsTrue (may_commit (Some c)) → ⊥
+never_commits c none may = let no : IsTrue false = subst IsTrue none may in cc
+
 module _ (is_known : Bool) (s : State StoreCall) (c : Command) (read : List ℕ) where
   -- nothing was asked
   pub nothing_asked : (journal : History) (status : Status) → IsDocumentEnd c s read status [] → IsWithin status (length read) → DocumentWent is_known s c read journal journal status
@@ -112,12 +116,21 @@ module _ (is_known : Bool) (s : State StoreCall) (c : Command) (read : List ℕ)
     few_by stop.DiskFault lines more cause one = one
     few_by stop.NoMemory lines more cause one = one
 
+    -- the reply that refuses it ends it, whatever is asked behind
+    refused_behind : (answered further : List (Asked StoreCall)) (reason : Reason) → first_reason (stops_at c) (said s answered) ≡ Some reason
+        → end_by (first_reason (stops_at c) (said s (answered ++ further))) ≡ DocumentRefused reason
+    refused_behind answered further reason refused =
+        ap (λ (l : List LineReply). end_by (first_reason (stops_at c) l)) (said_on store_meaning s answered further)
+        ∙ ap end_by (reason_stays (stops_at c) (said s answered) (said (after s answered) further) reason refused)
+
     pub end_is : (why : Stop) (answered more rest : List (Asked StoreCall)) → answered ++ (more ++ rest) ≡ all → StopsBy (stops_at c) why (said s answered) more → IsDocumentEnd c s read (status_of_stop why) (answered ++ more)
-    end_is (stop.Refused reason) answered more rest parts cause =
-        ap (end_of c s) is
-        ∙ ap (λ (l : List (Asked StoreCall)). end_by (first_reason (stops_at c) (said s l))) (sym parts)
-        ∙ ap (λ (l : List LineReply). end_by (first_reason (stops_at c) l)) (said_on store_meaning s answered (more ++ rest))
-        ∙ ap end_by (reason_stays (stops_at c) (said s answered) (said (after s answered) (more ++ rest)) reason cause.0)
+    end_is (stop.Refused reason) answered more rest parts cause = record {
+      end = ap (end_of c s) is
+          ∙ ap (λ (l : List (Asked StoreCall)). end_by (first_reason (stops_at c) (said s l))) (sym parts)
+          ∙ refused_behind answered (more ++ rest) reason cause.0;
+      behind = λ may. subst (λ (r : Result (List (Asked StoreCall)) Status). IfOk r (λ asks. end_of c s (Ok (answered ++ more)) ≡ DocumentRefused reason)) (sym is)
+          (refused_behind answered more reason cause.0);
+    }
     end_is stop.DiskFault answered more rest parts cause = tt
     end_is stop.NoMemory answered more rest parts cause = tt
 
@@ -190,11 +203,11 @@ module _ (is_known : Bool) (s : State StoreCall) (c : Command) (read : List ℕ)
         shown = shown ∙ ap (text_of c s) (sym whole);
       }
 
-  -- the same where a reply refuses it
-  pub document_refused : (all : List (Asked StoreCall)) → asks_of c s read ≡ Ok all → length read ≤ whole_limit → (journal : History) (why : Reason) → first_reason (stops_at c) (said s all) ≡ Some why
-      → DocumentWent is_known s c read journal journal (DocumentRefused why)
-  document_refused all is short journal why refused =
-      nothing_asked journal (DocumentRefused why) (ap (end_of c s) is ∙ ap end_by refused) short
+  -- the same where a reply refuses it, of a command that commits nothing
+  pub document_refused : (all : List (Asked StoreCall)) → asks_of c s read ≡ Ok all → length read ≤ whole_limit → may_commit (Some c) ≡ false → (journal : History) (why : Reason)
+      → first_reason (stops_at c) (said s all) ≡ Some why → DocumentWent is_known s c read journal journal (DocumentRefused why)
+  document_refused all is short none journal why refused =
+      nothing_asked journal (DocumentRefused why) (record { end = ap (end_of c s) is ∙ ap end_by refused; behind = λ may. absurd (never_commits c none may) }) short
 
   -- where the text can't be written, it went as where it can
   pub write_failed : (old new : History) → DocumentWent is_known s c read old new Done → DocumentWent is_known s c read old new WriteFault

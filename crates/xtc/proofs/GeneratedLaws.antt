@@ -84,7 +84,10 @@ module _ (s : State StoreCall) (c : Command) (files : Pair) (stand : StandFor s 
 -- a store with documents
 pub documents_went : (s : State StoreCall) (seed count : ℕ) (files : Pair) → StandFor s files → has_documents s.tree ≡ true → WentOver s (gen seed count) files files (DocumentRefused (reason.Call DocumentExists))
 documents_went s seed count files stand some =
-    nothing_went s (gen seed count) files stand (DocumentRefused (reason.Call DocumentExists)) (ap (λ (b : Bool). end_of (gen seed count) s (gen_asks_of b seed count)) some)
+    nothing_went s (gen seed count) files stand (DocumentRefused (reason.Call DocumentExists)) (record {
+      end = ap (λ (b : Bool). end_of (gen seed count) s (gen_asks_of b seed count)) some;
+      behind = λ may. subst (λ (b : Bool). IfOk (gen_asks_of b seed count) (λ asks. end_of (gen seed count) s (Ok []) ≡ DocumentRefused (reason.Call DocumentExists))) (sym some) tt;
+    })
 
 -- ---- the script
 

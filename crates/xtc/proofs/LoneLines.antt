@@ -115,11 +115,11 @@ module _ (t : Tree) (n : ℕ) (name : Name) (q : Question) where
         (text_is ∙ ap (answer_line q) are.same ∙ sym (shows.text (show_asks s name q)))
 
     pub lone_refused : (lines : List LineReply) (why : Reason) → AreLinesOf s name q lines → reason_in lines ≡ Some why → DocumentWent is_known s c [] journal journal (DocumentRefused why)
-    lone_refused lines why are some = document_refused is_known s c [] (show_asks s name q) shows.asks (omega arith) journal why (reasons ∙ sym (ap reason_in are.same) ∙ some)
+    lone_refused lines why are some = document_refused is_known s c [] (show_asks s name q) shows.asks (omega arith) shows.uncommitted journal why (reasons ∙ sym (ap reason_in are.same) ∙ some)
 
     -- no number is left
     pub lone_limited : n ≡ tx_limit → DocumentWent is_known s c [] journal journal (DocumentRefused Limit)
-    lone_limited is = document_refused is_known s c [] (show_asks s name q) shows.asks (omega arith) journal Limit (reasons ∙ spent_limit t n tx_limit name q (same_numbers t n tx_limit is))
+    lone_limited is = document_refused is_known s c [] (show_asks s name q) shows.asks (omega arith) shows.uncommitted journal Limit (reasons ∙ spent_limit t n tx_limit name q (same_numbers t n tx_limit is))
 
 -- a disk failed, or memory was wanting
 pub lone_halted : (is_known : Bool) (s : State StoreCall) (c : Command) (journal : History) (why : Stop) → IsHalt why → DocumentWent is_known s c [] journal journal (status_of_stop why)

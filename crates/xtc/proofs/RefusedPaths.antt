@@ -1,5 +1,5 @@
 -- A path that is refused: nothing was asked.
-use Rattle.std.proofs.Common.{List, ℕ, Bool, [], ◌≡◌, ◌≢◌, ap, arith}
+use Rattle.std.proofs.Common.{List, ℕ, Bool, false, IsTrue, [], ◌≡◌, ◌≢◌, ap, arith}
 use Rattle.std.specs.Prelude.{Err}
 use Rattle.outside_traits.specs.Moments.{History}
 use Rattle.tree_model.specs.Names.{Name}
@@ -20,8 +20,8 @@ pub path_went : (is_known : Bool) (s : State StoreCall) (name : Name) (path : Li
     → DocumentWent is_known s (query name path) [] journal journal (status_of_path e)
 path_went is_known s name path error.NoMemory journal refused = nothing_asked is_known s (query name path) [] journal NoMemory tt (omega arith)
 path_went is_known s name path (error.Syntax place) journal refused =
-    nothing_asked is_known s (query name path) [] journal (DocumentRefused (Path (error.Syntax place))) (ap (λ r. end_of (query name path) s (query_asks_of s name r)) (refused (λ is. cc))) (omega arith)
+    nothing_asked is_known s (query name path) [] journal (DocumentRefused (Path (error.Syntax place))) (record { end = ap (λ r. end_of (query name path) s (query_asks_of s name r)) (refused (λ is. cc)); behind = λ may. absurd (let no : IsTrue false = may in cc) }) (omega arith)
 path_went is_known s name path (error.Unsupported place what) journal refused =
-    nothing_asked is_known s (query name path) [] journal (DocumentRefused (Path (error.Unsupported place what))) (ap (λ r. end_of (query name path) s (query_asks_of s name r)) (refused (λ is. cc))) (omega arith)
+    nothing_asked is_known s (query name path) [] journal (DocumentRefused (Path (error.Unsupported place what))) (record { end = ap (λ r. end_of (query name path) s (query_asks_of s name r)) (refused (λ is. cc)); behind = λ may. absurd (let no : IsTrue false = may in cc) }) (omega arith)
 path_went is_known s name path (error.Deep place) journal refused =
-    nothing_asked is_known s (query name path) [] journal (DocumentRefused (Path (error.Deep place))) (ap (λ r. end_of (query name path) s (query_asks_of s name r)) (refused (λ is. cc))) (omega arith)
+    nothing_asked is_known s (query name path) [] journal (DocumentRefused (Path (error.Deep place))) (record { end = ap (λ r. end_of (query name path) s (query_asks_of s name r)) (refused (λ is. cc)); behind = λ may. absurd (let no : IsTrue false = may in cc) }) (omega arith)

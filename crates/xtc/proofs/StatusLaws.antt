@@ -1,12 +1,13 @@
 -- What a run of the program leaves, by the status that it ends with.
 use Rattle.std.proofs.Common.{◌≡◌, ◌∙◌, Bool, true, false, not, ◌&&◌, true≢false, IsTrue, refl, sym, inl, inr, List, ℕ, [], ap, subst}
 use Rattle.std.specs.Prelude.{◌⊎◌, Option, None, Some}
-use Rattle.outside_traits.specs.DiskPairs.{PairsHave}
+use Rattle.outside_traits.specs.DiskPairs.{Pair, PairsHave}
 use Rattle.tree_model.specs.declared.change.Change.{Change}
 use Rattle.tree_model.specs.Entries.{Entries, changed}
 use Rattle.overlays.specs.Views.{contents_after}
 use Rattle.paged_seq.specs.PagedMaps.{file_entries, map_of_file, valid_entries}
 use Rattle.store_contents.specs.StoredTrees.{StoodFor}
+use Rattle.recovery.specs.Openings.{AreOpened}
 use Rattle.command_words.specs.declared.words_error.WordsError.{WordsError}
 use Rattle.command_words.specs.declared.words_error.WordsError.TheVariants as words
 use Rattle.node_records.specs.declared.open_error.OpenError.{OpenError}
@@ -158,6 +159,12 @@ script_opened lost end.WriteFault loses = tt
 script_opened lost (end.Halted halt.DiskFault) loses = tt
 script_opened lost (end.Halted halt.NoMemory) loses = tt
 script_opened lost (end.Halted (halt.Damaged place)) loses = loses place refl
+
+-- ---- the files at the opening
+
+-- what holds of files on known disks
+pub as_known : (journal_known pages_known : Bool) → IsTrue journal_known → IsTrue pages_known → (old new : Pair) → AreOpened journal_known pages_known old new → AreOpened true true old new
+as_known journal_known pages_known kj kp old new opened = record { journal = λ _. opened.journal kj; pages = λ _. opened.pages kp }
 
 -- ---- a command that ran over a store that was opened
 

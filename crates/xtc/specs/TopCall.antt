@@ -1,12 +1,12 @@
 -- What a run of the program leaves, by its status (docs/MANUAL.md, "Statuses").
-use Rattle.std.specs.Prelude.{◌≡◌, ◌≤◌, ◌⊎◌, ℕ, ◌+◌, ◌-◌, List, [], ◌∷◌, ◌++◌, length, take, Bool, false, true, IsTrue, Option, Some, None, Result, Ok, Err, IfSome, String}
+use Rattle.std.specs.Prelude.{◌≡◌, ◌≤◌, ◌⊎◌, ℕ, ◌+◌, ◌-◌, List, [], ◌∷◌, ◌++◌, length, take, Bool, false, true, IsTrue, Option, Some, None, Result, Ok, Err, IfOk, IfSome, String}
 use Rattle.std.specs.declared.alloc.Global.{Global}
 use Rattle.outside_kinds.specs.Bounds.{input_limit}
 use Rattle.outside_traits.specs.Bytes.{Took, TookPrefix}
 use Rattle.outside_traits.specs.DiskPairs.{Pair, PairsHave, PairsLeave}
 use Rattle.outside_traits.specs.declared.disk.Disk.{Ghosts as DiskOf}
 use Rattle.node_records.specs.declared.open_error.Place.{Place}
-use Rattle.recovery.specs.Openings.{RefusesPages}
+use Rattle.recovery.specs.Openings.{AreOpened, RefusesPages, UnlessImages}
 use Rattle.tree_model.specs.Tree.{Tree}
 use Rattle.store_contents.specs.StoredTrees.{StandFor, StoodFor, LeaveWhatStood}
 use Rattle.script_runs.specs.Lines.{ended, lines_of, first_long, AllShort, line_limit}
@@ -85,6 +85,16 @@ pub record OpenAfterLines (t : Tree) (n limit : ℕ) (least : ℕ) (lines : List
 
 -- ---- the book
 
+-- each deadlock in a book from this tree, number and limit shows a true cycle
+abbrev pub ShowTrueCycles : Tree → ℕ → ℕ → Book StoreCall → Type 0
+ShowTrueCycles t n limit book = (before : Book StoreCall) (e : Noted StoreCall) (behind : Book StoreCall) → book ≡ before ++ e ∷ behind
+    → DeadlockIsTrue store_meaning (last store_meaning (start t n limit) before) e
+
+-- each abort in it leaves the committed tree and all other transactions, and the aborted one holds nothing
+abbrev pub AbortsLeaveAllElse : Tree → ℕ → ℕ → Book StoreCall → Type 0
+AbortsLeaveAllElse t n limit book = (before : Book StoreCall) (e : Noted StoreCall) (behind : Book StoreCall) → book ≡ before ++ e ∷ behind → e.event ≡ Abort
+    → LeavesAllElse (last store_meaning (start t n limit) before) (last store_meaning (start t n limit) (before ++ e ∷ [])) e.session
+
 -- What holds of a book from this tree, number and limit.
 -- It is legal; its committed transactions, run one after another by one thread on a plain tree, give the replies that were given, and the committed tree;
 -- at each moment what the live ones were answered, those that abort later among them, is what they would be answered on the committed tree of that moment;
@@ -93,10 +103,8 @@ pub record IsSoundBook (t : Tree) (n limit : ℕ) (book : Book StoreCall) : Type
   pub legal : IsBookFrom IsValidStoreCall store_meaning t n limit book
   pub serial : IsSerial store_meaning t n limit book
   pub live : (before behind : Book StoreCall) → book ≡ before ++ behind → RepliesStand store_meaning (last store_meaning (start t n limit) before)
-  pub deadlocks : (before : Book StoreCall) (e : Noted StoreCall) (behind : Book StoreCall) → book ≡ before ++ e ∷ behind
-      → DeadlockIsTrue store_meaning (last store_meaning (start t n limit) before) e
-  pub aborts : (before : Book StoreCall) (e : Noted StoreCall) (behind : Book StoreCall) → book ≡ before ++ e ∷ behind → e.event ≡ Abort
-      → LeavesAllElse (last store_meaning (start t n limit) before) (last store_meaning (start t n limit) (before ++ e ∷ [])) e.session
+  pub deadlocks : ShowTrueCycles t n limit book
+  pub aborts : AbortsLeaveAllElse t n limit book
 
 -- The book of a script is sound, the state after it is that of the script, and no session waits whose call would be answered.
 pub record IsSound (t : Tree) (n limit : ℕ) (script : Progress StoreCall) : Type 0 where
@@ -165,11 +173,17 @@ abbrev pub AreFirst : List (Asked StoreCall) → Result (List (Asked StoreCall))
 AreFirst asked (Ok asks) = (rest : List (Asked StoreCall)) × (asked ++ rest ≡ asks)
 AreFirst asked (Err status) = asked ≡ []
 
+-- A command is refused so. One that may commit has done all up to there: what was asked of the store ends it so,
+-- where its input asks for anything at all.
+pub record IsRefusedBehind (c : Command) (st : State StoreCall) (read : List ℕ) (asked : List (Asked StoreCall)) (why : Reason) : Type 0 where
+  pub end : end_of c st (asks_of c st read) ≡ DocumentRefused why
+  pub behind : IsTrue (may_commit (Some c)) → IfOk (asks_of c st read) (λ asks. end_of c st (Ok asked) ≡ DocumentRefused why)
+
 -- what a status says of the input, and of what was asked from a state on; where nothing fails it is `end_of`
 abbrev pub IsDocumentEnd : Command → State StoreCall → List ℕ → Status → List (Asked StoreCall) → Type 0
 IsDocumentEnd c st read Done asked = (asks_of c st read ≡ Ok asked) × (end_of c st (Ok asked) ≡ Done)
 IsDocumentEnd c st read WriteFault asked = (asks_of c st read ≡ Ok asked) × (end_of c st (Ok asked) ≡ Done)
-IsDocumentEnd c st read (DocumentRefused why) asked = end_of c st (asks_of c st read) ≡ DocumentRefused why
+IsDocumentEnd c st read (DocumentRefused why) asked = IsRefusedBehind c st read asked why
 IsDocumentEnd c st read (NotJsonMl why) asked = asks_of c st read ≡ Err (NotJsonMl why)
 IsDocumentEnd c st read (LineTooLong line) asked = (line ≡ 0) × (asked ≡ [])
 IsDocumentEnd c st read ReadFault asked = IsTrue (reads_input (Some c)) × (asked ≡ [])
@@ -334,6 +348,8 @@ pub record OpenedStoreLeaves (limit : ℕ) (command : Option Command) (every : �
   pub stood : StandFor o.old.journal.now.reads o.old.pages.now.reads tree number
   pub opening : Pair
   pub until_open : LeaveWhatStood o.old opening
+  -- where no images were open, the opening left the bytes of both files, all synced; of a fresh journal nine
+  pub begins : UnlessImages true true o.old.journal.now.reads (AreOpened true true o.old opening)
   pub ran : CommandRan tree number limit command status opening o
   -- without checkpoints the pages aren't written; with them, at the end, they hold the tree behind the last one
   pub pages : tries command every ≡ false → o.new.pages ≡ opening.pages

@@ -22,7 +22,8 @@ pub use durable_sessions::Reason;
 pub use laws::{get_is_dump, put_is_create, query_is_find};
 pub use promises::{
     crashes_lose_no_answered_commit, every_deadlock_is_true, every_output_is_the_replies,
-    every_run_is_serial, files_hold_what_was_answered,
+    every_run_is_serial, files_hold_what_was_answered, nobody_is_left_waiting_in_vain,
+    reading_leaves_both_files,
 };
 pub use status::Status;
 pub use top_call::{Finish, xtc};

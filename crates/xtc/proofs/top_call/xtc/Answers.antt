@@ -1,4 +1,4 @@
-use Rattle.std.proofs.Common.{◌≡◌, ◌-◌, ◌∙◌, arith, ℕ, [], Option, refl, sym, ap, subst, add-zero, Some, Ok, Err}
+use Rattle.std.proofs.Common.{◌≡◌, ◌-◌, ◌∙◌, arith, ℕ, [], true, Option, refl, sym, ap, subst, add-zero, Some, Ok, Err}
 use Rattle.outside_traits.specs.DiskPairs.{Pair, pair_of}
 use Rattle.outside_traits.proofs.Laws.{gave_none}
 use Rattle.node_seq.specs.Trees.{StandsFor}
@@ -6,6 +6,7 @@ use Rattle.overlays.specs.Views.{contents_after}
 use Rattle.paged_seq.specs.PagedFiles.{PagedView}
 use Rattle.paged_seq.specs.PagedMaps.{map_of_file}
 use Rattle.store_contents.specs.StoredTrees.{LeaveWhatStood, StandFor}
+use Rattle.recovery.specs.Openings.{AreOpened}
 use Rattle.script_runs.specs.Counts.{Counts, DisksCountedWhere}
 use Rattle.xtc.specs.declared.status.Status.TheVariants.{Done, Damaged, DiskFault}
 use Rattle.command_words.specs.Commands.{Command, checkpoint_of, command_of, meant}
@@ -14,7 +15,7 @@ use Rattle.xtc.specs.Commands.{reads_input}
 use Rattle.xtc.specs.StoreMachine.{Held, pages_of, told}
 use Rattle.xtc.specs.inside.CommandRuns.{StandSettled}
 use Rattle.xtc.specs.TopCall.{Outcome, Leaves, OpenedStoreLeaves, IsOfOpened, IsSilent, tx_limit}
-use Rattle.xtc.proofs.StatusLaws.{known_map, refused_leaves, refused_silent, refused_not, refused_as, words_usage, nothing_read, unopened_leaves, unopened_not_done, unopened_silent, opened_leaves, opened_unread, none_lost, opened_not_damaged, damaged_of, cause_of, no_fault}
+use Rattle.xtc.proofs.StatusLaws.{as_known, known_map, refused_leaves, refused_silent, refused_not, refused_as, words_usage, nothing_read, unopened_leaves, unopened_not_done, unopened_silent, opened_leaves, opened_unread, none_lost, opened_not_damaged, damaged_of, cause_of, no_fault}
 use Rattle.xtc.proofs.top_call.xtc.Goals as goal
 
 -- ---- the words gave no command
@@ -156,6 +157,7 @@ returns-in-Ok-open_store-clause-leaves g c =
             stood = stand;
             opening = opening;
             until_open = subst (LeaveWhatStood old) (sym same_pair) (opened.any_moment kj kp);
+            begins = λ _ _ none. subst (λ (p : Pair). AreOpened true true old p) (sym same_pair) (as_known g.J.Disk.is_known g.P.Disk.is_known kj kp old opened_pair (opened.ready.synced.same kj kp none));
             ran = with_them.ran;
             pages = with_them.pages;
             made = with_them.made;
