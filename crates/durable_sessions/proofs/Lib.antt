@@ -5,3 +5,8 @@ pub mod HaltLaws
 pub mod InTurnLists
 pub mod InTurnLaws
 pub mod LoneLaws
+mod BookBodies
+mod Standing
+mod ValidCommits
+mod ValidEntries
+mod WrittenChanges

@@ -11,3 +11,20 @@ pub mod Grouping
 pub mod Closed
 pub mod Sent
 pub mod Bodied
+mod Passes
+mod Lines
+mod Broken
+mod Calls
+mod Waits
+mod Ends
+mod Answered
+mod Splits
+mod Joins
+mod Came
+mod Runs
+mod Started
+mod Opened
+mod Handed
+mod Over
+mod Finish
+mod Told

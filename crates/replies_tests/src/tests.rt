@@ -10,8 +10,8 @@ use std::alloc::Global;
 use std::sync::Wait;
 use std::thread::Threads;
 use tx_core::Core;
-use workers_replies::answer_script;
-use workers_script::read_script;
+use workers_text::read_script;
+use xtc::answer_script;
 
 const SCRIPT: &str =
     "{\"s\":1,\"call\":\"begin\"}\n{\"s\":2,\"call\":\"begin\"}\n\nx\n{\"s\":1,\"call\":\"docs\"}\n{\"s\":2,\"call\":\"docs\"}\n{\"s\":1,\"call\":\"commit\"}\n{\"s\":2,\"call\":\"commit\"}";

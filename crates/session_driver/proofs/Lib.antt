@@ -10,3 +10,5 @@ pub mod Runs
 pub mod Stepped
 pub mod Stopped
 pub mod Waiters
+pub mod OtherSessions
+pub mod InPart

@@ -3,6 +3,7 @@
 #![tactic(auto)]
 
 mod laws;
+mod line_call;
 mod parts;
 mod store_op;
 

@@ -6,7 +6,7 @@ use dewey_labels::{List, NoMemory};
 use outside_kinds::MemSource;
 use std::alloc::Global;
 use tree_model::Reply;
-use workers_script::{Script, ScriptError, read_script};
+use workers_text::{Script, ScriptError, read_script};
 
 /// So many times this byte.
 type Run = (u8, usize);

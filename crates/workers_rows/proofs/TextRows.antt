@@ -6,7 +6,7 @@ use Rattle.call_contract.specs.Books.{Book, next}
 use Rattle.call_contract.specs.States.{State, start}
 use Rattle.tree_model.specs.Tree.{empty_tree}
 use Rattle.tree_model.specs.declared.dom_call.DomCall.{DomCall}
-use Rattle.workers_text.specs.Sessions.{AreOthers, Meets, Part}
+use Rattle.session_driver.specs.Sessions.{AreOthers, Meets, Part}
 use Rattle.workers_text.specs.WorkersText.{WorkersText, printed_of}
 use Rattle.workers_rows.specs.Rows.{book, docs_meaning, lines, order, replies}
 

@@ -1,20 +1,8 @@
-mod OtherSessions
-pub mod InPart
-mod Passes
-mod Lines
-mod Broken
-mod Calls
-mod Waits
-mod Ends
-mod Answered
-mod Splits
-mod Joins
-mod Came
-mod Runs
 mod Orders
-mod Started
-mod Opened
-mod Handed
-mod Over
-mod Finish
-mod Told
+pub mod Shown
+pub mod LineByLine
+pub mod Places
+pub mod Sessions
+pub mod Taking
+pub mod TooLong
+pub mod WhatWasRead

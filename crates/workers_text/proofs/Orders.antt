@@ -2,7 +2,7 @@
 use Rattle.std.proofs.Common.{◌≡◌, ◌≢◌, ◌∙◌, ◌<◌, ◌≤◌, ◌+◌, ℕ, zero, suc, true, false, cond, refl, sym, ap, subst, arith, List, [], ◌∷◌, ◌++◌, map, length, take, set, append_assoc, append-nil, get_or-set_same, get_or-set_other, ◌⊎◌, inl, inr}
 use Rattle.std.specs.Prelude.{Option, Some, None, is_some}
 use Rattle.std.specs.List.{slice_index_or}
-use Rattle.std.proofs.lemmas.List.{map-append}
+use Rattle.std.proofs.lemmas.List.{map-append, take_more}
 use mathlib.Core.Logic.{dite}
 use native.Mathlib.Decide.{ℕ_discrete}
 use Rattle.call_contract.specs.Books.{Book, called, called_again, commit_of, commits, commits_after, open_after, open_of}
@@ -20,7 +20,9 @@ use Rattle.call_contract.proofs.Lists.{found_ended, found_named, found_others, f
 use Rattle.shared_store.specs.Lists.{SessionsFit}
 use Rattle.workers_text.specs.declared.order.Begun.{Begun}
 use Rattle.workers_text.specs.inside.Ordering.{OrderedSoFar, after_call, after_entry, begun_of, committed_by, listed, pair_of}
-use Rattle.workers_text.proofs.Splits.{take_one_more}
+
+take_one_more : {X : Type 0} (xs : List X) (i : ℕ) (x : X) → i < length xs → x ≡ slice_index_or xs i x → take (i + 1) xs ≡ take i xs ++ x ∷ []
+take_one_more xs i x lt at = take_more xs i x lt ∙ ap (λ y. take i xs ++ y ∷ []) (sym at)
 
 module _ {C : Type 0} where
   -- ---- one session

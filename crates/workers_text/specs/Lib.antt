@@ -1,8 +1,6 @@
-pub mod Sessions
 pub mod WorkersText
-pub mod Asking
-pub mod StorePorts
-pub mod Cores
-pub mod Journals
+pub mod Entries
+pub mod Limits
+pub mod Shown
 -- words that private functions alone use
 pub mod inside

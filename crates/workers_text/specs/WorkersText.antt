@@ -8,7 +8,7 @@ use Rattle.command_lines.specs.declared.line_reply.LineReply.TheVariants.{Order}
 use Rattle.session_driver.specs.Lines.{Asked}
 use Rattle.tree_model.specs.Tree.{Tree}
 use Rattle.session_driver.specs.declared.doing.Doing.{Doing}
-use Rattle.workers_text.specs.Sessions.{Does, DoesSome, Printed}
+use Rattle.session_driver.specs.Sessions.{Does, DoesSome, Printed}
 
 -- a line that isn't blank: what a session is asked, or a bad line with its reply
 pub data Line (C : Type 0) : Type 0 where

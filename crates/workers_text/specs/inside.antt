@@ -1,8 +1,4 @@
--- words of what a line leaves, of how ports are split and joined, and of what is handed out
-pub mod SessionLaws
-pub mod Answering
-pub mod Joining
-pub mod Handing
+-- words of what was read, of places, and of the order line
 pub mod Ordering
-pub mod PortLaws
-pub mod Running
+pub mod Inputs
+pub mod Places

@@ -27,3 +27,5 @@ pub mod StoreRuns
 pub mod WorkedScripts
 pub mod WorkersCommits
 pub mod WorkersLaws
+pub mod RepliesShown
+pub mod CallSent

@@ -22,10 +22,10 @@ use Rattle.command_lines.specs.declared.command.StoreCall.{StoreCall}
 use Rattle.command_lines.specs.declared.line_reply.LineReply.{LineReply}
 use Rattle.tx_core.specs.Cores.{CoreView, opened_over}
 use Rattle.store_calls.specs.StoreCalls.{IsValidStoreCall, store_meaning}
-use Rattle.workers_replies.specs.Shown.{IsShownBy}
-use Rattle.workers_text.specs.Cores.{IsFrom}
-use Rattle.workers_text.specs.Journals.{WroteAll, WroteFirst}
-use Rattle.workers_text.specs.Sessions.{BreaksNext, Does, DoesSome, Ends, Printed, doings_of}
+use Rattle.workers_text.specs.Shown.{IsShownBy}
+use Rattle.group_commit.specs.Cores.{IsFrom}
+use Rattle.group_commit.specs.Journals.{WroteAll, WroteFirst}
+use Rattle.session_driver.specs.Sessions.{BreaksNext, Does, DoesSome, Ends, Printed, doings_of}
 use Rattle.workers_text.specs.WorkersText.{HasReplies, Line, asked, asked_of, bad, printed_of}
 use Rattle.xtc.specs.Book.{replies_text}
 use Rattle.xtc.specs.StoreMachine.{HasPages, faults_of}

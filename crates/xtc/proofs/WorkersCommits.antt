@@ -34,10 +34,10 @@ use Rattle.call_contract.specs.Sessions.{commits_in}
 use Rattle.call_contract.specs.States.{State}
 use Rattle.command_lines.specs.declared.command.StoreCall.{StoreCall}
 use Rattle.command_words.specs.Commands.{workers}
-use Rattle.durable_books.specs.WrittenBooks.{StandAfter, StandAfterSome}
+use Rattle.durable_sessions.specs.WrittenBooks.{StandAfter, StandAfterSome}
 use Rattle.group_commit.specs.Written.{HoldsFirst}
 use Rattle.shared_store.specs.Bodies.{bodies_of}
-use Rattle.workers_text.specs.Journals.{WroteFirst}
+use Rattle.group_commit.specs.Journals.{WroteFirst}
 use Rattle.durable_sessions.specs.Durable.{HoldState}
 use Rattle.store_calls.specs.StoreCalls.{IsValidStoreCall, store_meaning}
 use Rattle.tx_core.specs.Cores.{CoreView, state_from}

@@ -12,11 +12,11 @@ use Rattle.call_contract.specs.Books.{Book, IsBookFrom}
 use Rattle.command_lines.specs.declared.command.StoreCall.{StoreCall}
 use Rattle.command_words.specs.Commands.{workers}
 use Rattle.store_calls.specs.StoreCalls.{IsValidStoreCall, store_meaning}
-use Rattle.workers_replies.specs.Shown.{lines_in}
-use Rattle.workers_script.specs.Entries.{Script, entries_of}
-use Rattle.workers_script.specs.Limits.{IsReadScript, too_long}
-use Rattle.workers_script.specs.declared.script_error.ScriptError.{ScriptError}
-use Rattle.workers_script.specs.declared.script_error.ScriptError.TheVariants as script
+use Rattle.workers_text.specs.Shown.{lines_in}
+use Rattle.workers_text.specs.Entries.{Script, entries_of}
+use Rattle.workers_text.specs.Limits.{IsReadScript, too_long}
+use Rattle.workers_text.specs.declared.script_error.ScriptError.{ScriptError}
+use Rattle.workers_text.specs.declared.script_error.ScriptError.TheVariants as script
 use Rattle.workers_text.specs.WorkersText.{Line}
 use Rattle.xtc.specs.Checkpoints.{AreMade, is_positive}
 use Rattle.xtc.specs.Statuses.{status_of_script}

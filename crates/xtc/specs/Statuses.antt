@@ -13,8 +13,8 @@ use Rattle.script_runs.specs.declared.running.End.{End}
 use Rattle.script_runs.specs.declared.running.End.TheVariants as end
 use Rattle.script_runs.specs.declared.whole.GatherError.{GatherError}
 use Rattle.script_runs.specs.declared.whole.GatherError.TheVariants as gathering
-use Rattle.workers_script.specs.declared.script_error.ScriptError.{ScriptError}
-use Rattle.workers_script.specs.declared.script_error.ScriptError.TheVariants as script
+use Rattle.workers_text.specs.declared.script_error.ScriptError.{ScriptError}
+use Rattle.workers_text.specs.declared.script_error.ScriptError.TheVariants as script
 use Rattle.xpath_parser.specs.declared.path_error.PathError.{PathError}
 use Rattle.xpath_parser.specs.declared.path_error.PathError.TheVariants as path
 use Rattle.durable_sessions.specs.declared.in_turn.Stop.{Stop}

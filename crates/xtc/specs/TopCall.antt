@@ -28,10 +28,10 @@ use Rattle.session_driver.specs.Waiters.{AllStopped}
 use Rattle.store_calls.specs.StoreCalls.{store_meaning, IsValidStoreCall}
 use Rattle.xtc.specs.Book.{script_of, after_asked, replies_text}
 use Rattle.command_words.specs.Commands.{Command, checkpoint_of, command_of, run, workers, put, get, query, gen}
-use Rattle.workers_script.specs.Entries.{entries_of}
-use Rattle.workers_script.specs.Limits.{too_long}
-use Rattle.workers_replies.specs.Shown.{lines_in, IsShownBy}
-use Rattle.workers_text.specs.Sessions.{DoesSome}
+use Rattle.workers_text.specs.Entries.{entries_of}
+use Rattle.workers_text.specs.Limits.{too_long}
+use Rattle.workers_text.specs.Shown.{lines_in, IsShownBy}
+use Rattle.session_driver.specs.Sessions.{DoesSome}
 use Rattle.workers_text.specs.WorkersText.{asked_of}
 use Rattle.xtc.specs.Checkpoints.{AreMade, every_of, may_lose_by, tries}
 use Rattle.xtc.specs.Commands.{may_commit, reads_input}

@@ -7,3 +7,4 @@ pub mod Counting
 pub mod Working
 pub mod Renewing
 pub mod Generating
+pub mod Texts

@@ -2,8 +2,10 @@
 //! Its clause `leaves` shows one book: what the lines that were done put into it. It is a legal run of the lock machine over sessions 1 to 64, its commits are serial, and the sink has the text of its replies;
 //! the files, as they read and as a crash leaves them, stand for the tree after its first commits. Whatever the status, each commit that was answered is found, and at most one that wasn't.
 //! The program over it opens the real streams and files, prints the status and ends with its number.
+//! `answer_script` has the workers of a whole script do it over a core, and answers its text.
 #![tactic(auto)]
 
+mod answering;
 mod answers;
 mod checkpoints;
 mod document;
@@ -18,6 +20,7 @@ mod store;
 mod top_call;
 mod workers;
 
+pub use answering::{Answered, answer_script};
 pub use durable_sessions::Reason;
 pub use laws::{get_is_dump, put_is_create, query_is_find};
 pub use promises::{

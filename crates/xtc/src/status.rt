@@ -11,7 +11,7 @@ use node_records::{File, OpenError, Place};
 use script_runs::{End, GatherError, Halt};
 use std::fmt;
 use std::fmt::{Display, Formatter, Write};
-use workers_script::ScriptError;
+use workers_text::ScriptError;
 use xpath_parser::PathError;
 
 /// How a run of the program ended.

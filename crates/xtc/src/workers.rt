@@ -5,7 +5,7 @@ ghost use Rattle.recovery.specs.Openings.{TakesBehind};
 ghost use Rattle.script_runs.specs.Counts.{CountedWhere};
 ghost use Rattle.checkpoint.specs.Bases.{contents_of};
 ghost use Rattle.command_words.specs.Commands.{workers as workers_command};
-ghost use Rattle.workers_replies.specs.Shown.{lines_in};
+ghost use Rattle.workers_text.specs.Shown.{lines_in};
 ghost use Rattle.xtc.specs.Checkpoints.{may_lose};
 ghost use Rattle.xtc.specs.Outside.{read_from, written_to};
 ghost use Rattle.xtc.specs.StoreMachine.{HasPages, pages_of, told};
@@ -14,13 +14,14 @@ ghost use Rattle.xtc.specs.inside.CommandRuns.{HasTree, RunsOver};
 ghost use Rattle.xtc.specs.inside.Renewing.{ReadsGroups};
 ghost use Rattle.xtc.specs.inside.Working.{IfWorked, IsBegun, IsNew, IsWorkersFault, IsWorkersStop, LeavesBook, MayEnd, WorksInput, WorksOver, counts_beside, counts_left};
 
+use crate::answering::{Answered, answer_script};
 use crate::checkpoints::Checkpoints;
 use crate::document::written;
 use crate::status::Status;
 use crate::store::OpenStore;
 use crate::top_call::{Finish, TX_LIMIT, with_files};
 use checkpoint::Base;
-use durable_books::first_commits_stand;
+use durable_sessions::first_commits_stand;
 use journal::Journal;
 use outside_traits::{Disk, Gate, Sink, Source};
 use std::alloc::Global;
@@ -29,8 +30,7 @@ use std::sync::Wait;
 use std::thread::Threads;
 use store_calls::StoreOp;
 use tx_core::{Core, NoCore};
-use workers_replies::{Answered, answer_script};
-use workers_script::{Script, read_script};
+use workers_text::{Script, read_script};
 
 /// What workers over a store have to write, or why there is nothing to be written, with the journal and what they worked over.
 #[derive(Drop)]

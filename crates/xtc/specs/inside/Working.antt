@@ -19,11 +19,11 @@ use Rattle.tx_core.specs.Cores.{CoreView, opened_over}
 use Rattle.checkpoint.specs.Bases.{contents_of, is_paged}
 use Rattle.checkpoint.specs.Renewals.{pages_of as base_pages}
 use Rattle.checkpoint.specs.declared.base.Base.{Base}
-use Rattle.workers_replies.specs.Shown.{IsShownBy, lines_in}
-use Rattle.workers_script.specs.Entries.{entries_of}
-use Rattle.workers_script.specs.Limits.{too_long}
-use Rattle.workers_text.specs.Journals.{WroteAll}
-use Rattle.workers_text.specs.Sessions.{DoesSome}
+use Rattle.workers_text.specs.Shown.{IsShownBy, lines_in}
+use Rattle.workers_text.specs.Entries.{entries_of}
+use Rattle.workers_text.specs.Limits.{too_long}
+use Rattle.group_commit.specs.Journals.{WroteAll}
+use Rattle.session_driver.specs.Sessions.{DoesSome}
 use Rattle.workers_text.specs.WorkersText.{asked_of, Line}
 use Rattle.xtc.specs.Book.{replies_text}
 use Rattle.xtc.specs.Checkpoints.{AreMade, is_positive}

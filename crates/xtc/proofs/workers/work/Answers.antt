@@ -12,7 +12,7 @@ use Rattle.journal.specs.Views.{JournalView}
 use Rattle.script_runs.specs.Counts.{Counts, DisksCountedWhere}
 use Rattle.store_calls.specs.StoreCalls.{IsValidStoreCall, store_meaning}
 use Rattle.tx_core.specs.Cores.{CoreView}
-use Rattle.workers_replies.specs.Shown.{lines_in}
+use Rattle.workers_text.specs.Shown.{lines_in}
 use Rattle.xtc.specs.Checkpoints.{is_positive, may_lose}
 use Rattle.xtc.specs.StoreMachine.{HasPages}
 use Rattle.xtc.specs.declared.status.Status.TheVariants.{DiskFault}

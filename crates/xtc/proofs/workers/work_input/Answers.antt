@@ -1,7 +1,7 @@
 use Rattle.std.proofs.Common.{ap, sym, subst}
 use Rattle.std.specs.Prelude.{Option, Some}
 use Rattle.command_words.specs.Commands.{workers}
-use Rattle.workers_replies.specs.Shown.{lines_in}
+use Rattle.workers_text.specs.Shown.{lines_in}
 use Rattle.xtc.specs.Checkpoints.{may_lose}
 use Rattle.xtc.specs.StoreMachine.{HasPages}
 use Rattle.xtc.proofs.WorkersLaws.{error_fault, error_worked, input_worked, stops_fault, worked_whole}

@@ -6,7 +6,7 @@ use Rattle.checkpoint.specs.declared.base.Base.{Base}
 use Rattle.script_runs.specs.Counts.{DisksCountedWhere}
 use Rattle.command_lines.specs.declared.command.StoreCall.{StoreCall}
 use Rattle.tx_core.specs.Cores.{CoreView}
-use Rattle.workers_replies.specs.Shown.{lines_in}
+use Rattle.workers_text.specs.Shown.{lines_in}
 use Rattle.xtc.specs.StoreMachine.{HasPages}
 use Rattle.xtc.specs.declared.status.Status.TheVariants.{DiskFault}
 use Rattle.xtc.specs.inside.CommandRuns.{HasTree, StandSettled}

@@ -1,5 +1,0 @@
-mod ValidEntries
-mod WrittenChanges
-mod ValidCommits
-mod BookBodies
-mod Standing

@@ -1,3 +1,0 @@
-pub mod Shown
--- words that private functions alone use
-pub mod inside

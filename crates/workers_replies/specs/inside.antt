@@ -1,2 +1,0 @@
--- words of the text in the making
-pub mod Texts
