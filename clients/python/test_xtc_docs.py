@@ -166,7 +166,7 @@ class Stores(WithFolder):
         self.assertEqual(client.put("y", ["a"], self.folder, PROGRAM), "1.1003")
 
     def test_a_reader_that_wants_no_more_is_no_failure(self):
-        self.done("put", "x", given=json.dumps(["a", *(["b", "text"] for _ in range(20000))]))
+        self.done("put", "x", given=json.dumps(["a", *(["b", "text " * 10] for _ in range(3000))]))
         for tool in ([os.path.join(ROOT, "tools", "read_store")], [os.path.join(HERE, "xtc-docs"), "--program", PROGRAM, "select", "x", "//b"]):
             ran = subprocess.Popen(tool, cwd=self.folder, stdout=subprocess.PIPE, stderr=subprocess.PIPE)
             ran.stdout.readline()
