@@ -44,7 +44,12 @@ pub struct Never {
 }
 
 /// Adds a request at the node, with its intentions.
-fn ask_node(alloc: Global, at: &Label, mode: Mode, out: &mut List<Request>) -> Result<(), NoMemory>
+pub(crate) fn ask_node(
+    alloc: Global,
+    at: &Label,
+    mode: Mode,
+    out: &mut List<Request>,
+) -> Result<(), NoMemory>
     requires { IsTrue (has_row (resource.Node at.now) (ask.Node mode)) }
     ensures ok { OnOk result (out.new ≡ out.old ++ with_intentions (resource.Node at.now) (ask.Node mode)) }
     ensures fits { AllByRecursion Fits out.old → AllByRecursion Fits out.new }
