@@ -12,7 +12,7 @@ ghost use Rattle.journal.specs.Views.{TakesGroups};
 use dewey_labels::{Label, List, NoMemory, Text};
 use journal::{DiskFault, Journal, a_body_is_read_again};
 use node_records::{OpenError, write_change};
-use node_seq::{SeqError, SortedSeq, entries_above};
+use node_seq::{NodeRead, SeqError, SortedSeq, entries_above};
 use outside_kinds::MemDisk;
 use outside_traits::Disk;
 use overlays::Stacked;
@@ -110,40 +110,89 @@ pub fn key(alloc: Global, divisions: &[u32], name: &str) -> Result<Key, Fail> {
     }
 }
 
+/// Puts a record at the key of a label and a name.
+pub fn put_in(
+    alloc: Global,
+    seq: &mut SortedSeq,
+    divisions: &[u32],
+    name: &str,
+    record: Record,
+) -> Result<(), Fail> {
+    let at = key(alloc, divisions, name)?;
+    let _old = seq.put(alloc, at, record)?;
+    Ok(())
+}
+
 /// The map of the document `x` with the element `a`.
 pub fn document(alloc: Global) -> Result<SortedSeq, Fail> {
     let mut seq = SortedSeq::new(alloc);
-    let label = Text::of(alloc, "1.1001")?;
-    seq.put(alloc, key(alloc, &[1], "x")?, Record::Attr(label))?;
-    seq.put(alloc, key(alloc, &[1, 1001], "")?, Record::Document)?;
-    let name = Text::of(alloc, "a")?;
-    seq.put(
-        alloc,
-        key(alloc, &[1, 1001, 1001], "")?,
-        Record::Element(name),
-    )?;
+    let label = Record::Attr(Text::of(alloc, "1.1001")?);
+    put_in(alloc, &mut seq, &[1], "x", label)?;
+    put_in(alloc, &mut seq, &[1, 1001], "", Record::Document)?;
+    let element = Record::Element(Text::of(alloc, "a")?);
+    put_in(alloc, &mut seq, &[1, 1001, 1001], "", element)?;
     Ok(seq)
 }
 
-/// The number of a store, and how many records are seen through its commits.
-fn seen(alloc: Global, store: Opened<MemDisk, MemDisk>) -> Result<(u32, usize), SeqError> {
-    let mut map = Stacked::new(store.base, store.layers);
+/// What becomes of the disks of two files that are opened: the number and the count of the store's records, or why they aren't opened, and the disks behind it.
+#[derive(Drop)]
+pub struct Came {
+    pub store: Result<(u32, usize), OpenError>,
+    pub journal: MemDisk,
+    pub pages: MemDisk,
+}
+
+/// How many records a map has.
+fn count_of<S: NodeRead>(alloc: Global, map: &mut S) -> Result<usize, SeqError> {
     let root = Label::root(alloc)?;
     let first = Key::of_node(alloc, &root)?;
-    let entries = entries_above(alloc, &first, &mut map)?;
-    Ok((store.number, entries.len()))
+    let entries = entries_above(alloc, &first, map)?;
+    Ok(entries.len())
+}
+
+/// A store's number, and how many records are seen through its commits.
+fn seen<S: NodeRead>(alloc: Global, number: u32, map: &mut S) -> Result<(u32, usize), OpenError> {
+    match count_of(alloc, map) {
+        Ok(count) => Ok((number, count)),
+        Err(SeqError::DiskFault) => Err(OpenError::DiskFault),
+        Err(SeqError::NoMemory) => Err(OpenError::NoMemory),
+    }
+}
+
+/// What is seen in an opened store, and its disks.
+fn came_open(alloc: Global, store: Opened<MemDisk, MemDisk>) -> Came {
+    let journal = store.journal.into_disk();
+    let mut map = Stacked::new(store.base, store.layers);
+    let seen = seen(alloc, store.number, &mut map);
+    let (base, _layers) = map.into_parts();
+    let (pages, _pool) = base.into_parts();
+    Came {
+        store: seen,
+        journal,
+        pages,
+    }
+}
+
+/// Opens the store of two disks, with one page frame.
+fn came_of(alloc: Global, journal: MemDisk, pages: MemDisk) -> Came {
+    match open_store(alloc, journal, pages, 1) {
+        Ok(store) => came_open(alloc, store),
+        Err(refused) => Came {
+            store: Err(refused.fault),
+            journal: refused.journal,
+            pages: refused.pages,
+        },
+    }
+}
+
+/// What becomes of two files that are opened.
+pub fn reopened(alloc: Global, journal: &[u8], pages: &[u8]) -> Result<Came, NoMemory> {
+    let journal = disk(alloc, journal, 0)?;
+    let pages = disk(alloc, pages, 0)?;
+    Ok(came_of(alloc, journal, pages))
 }
 
 /// The number and the count of records that two files open with, or why they aren't opened.
 pub fn opens(alloc: Global, journal: &[u8], pages: &[u8]) -> Result<(u32, usize), OpenError> {
-    let journal = disk(alloc, journal, 0)?;
-    let pages = disk(alloc, pages, 0)?;
-    match open_store(alloc, journal, pages, 1) {
-        Ok(store) => match seen(alloc, store) {
-            Ok(found) => Ok(found),
-            Err(SeqError::DiskFault) => Err(OpenError::DiskFault),
-            Err(SeqError::NoMemory) => Err(OpenError::NoMemory),
-        },
-        Err(refused) => Err(refused.fault),
-    }
+    reopened(alloc, journal, pages)?.store
 }

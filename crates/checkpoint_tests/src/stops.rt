@@ -1,15 +1,17 @@
 //! Three commits with a checkpoint behind the second, and the opening that finishes it, stopped at each call of both disks.
+ghost use Rattle.std.specs.Prelude.{◌≡◌, Some, IfOk};
 ghost use Rattle.outside_traits.specs.Moments.{IsAllSynced};
 ghost use Rattle.outside_kinds.specs.MemoryDisks.{history_of};
+ghost use Rattle.journal.specs.Views.{TakesGroups};
 
-use crate::files::{commit, disk, document, empty_journal, key, opens};
+use crate::files::{commit, disk, document, empty_journal, key, opens, put_in, reopened};
 use checkpoint::{Made, checkpoint};
 use dewey_labels::{List, NoMemory, Text};
+use journal::Journal;
 use node_records::OpenError;
 use node_seq::SortedSeq;
 use outside_kinds::MemDisk;
 use outside_traits::Disk;
-use recovery::open_store;
 use std::alloc::Global;
 use std::test::Fail;
 use tree_model::{Change, Record};
@@ -61,8 +63,24 @@ fn second_changes(alloc: Global) -> Result<Vec<Change>, Fail> {
 /// The map after both.
 fn tree(alloc: Global) -> Result<SortedSeq, Fail> {
     let mut seq = document(alloc)?;
-    seq.put(alloc, key(alloc, &TEXT_AT, "")?, text(alloc)?)?;
+    let text = text(alloc)?;
+    put_in(alloc, &mut seq, &TEXT_AT, "", text)?;
     Ok(seq)
+}
+
+/// A journal with two commits of these changes.
+fn two_commits(
+    alloc: Global,
+    first: &[Change],
+    second: &[Change],
+) -> Result<Journal<MemDisk>, OpenError>
+    ensures usable { IfOk result (λ journal. TakesGroups journal) }
+    ensures last { IfOk result (λ journal. journal.last ≡ Some 2) }
+{
+    let mut journal = empty_journal(alloc, 0)?;
+    commit(alloc, &mut journal, 1, first)?;
+    commit(alloc, &mut journal, 2, second)?;
+    Ok(journal)
 }
 
 /// Two commits with these changes, a checkpoint of the tree behind them, and a third commit without changes where the checkpoint is made.
@@ -75,9 +93,7 @@ fn run(
 ) -> Result<MemDisk, OpenError>
     requires synced { IsAllSynced (history_of pages.old) }
 {
-    let mut journal = empty_journal(alloc, 0)?;
-    commit(alloc, &mut journal, 1, first)?;
-    commit(alloc, &mut journal, 2, second)?;
+    let mut journal = two_commits(alloc, first, second)?;
     match checkpoint(alloc, &mut journal, pages, seq, 2) {
         Ok(Made::Yes) => {
             commit(alloc, &mut journal, 3, &[])?;
@@ -87,13 +103,48 @@ fn run(
     }
 }
 
-/// The same, with the disk of the pages failing at one call; at none for 0.
-fn checkpointed(alloc: Global, call: u64) -> Result<Disks, Fail> {
+/// What is committed first and second, and the map after both.
+#[derive(Drop)]
+struct Commits {
+    first: Vec<Change>,
+    second: Vec<Change>,
+    tree: SortedSeq,
+}
+
+fn of_document(alloc: Global) -> Result<Commits, Fail> {
     let first = first_changes(alloc)?;
     let second = second_changes(alloc)?;
+    let tree = tree(alloc)?;
+    Ok(Commits {
+        first,
+        second,
+        tree,
+    })
+}
+
+/// The same with a disk of the pages that fails at one call; at none for 0.
+fn run_over(
+    alloc: Global,
+    call: u64,
+    first: &[Change],
+    second: &[Change],
+    seq: &mut SortedSeq,
+) -> Result<Disks, OpenError> {
     let mut pages = disk(alloc, b"", call)?;
-    let journal = run(alloc, &mut pages, &first, &second, &mut tree(alloc)?)?;
+    let journal = run(alloc, &mut pages, first, second, seq)?;
     Ok(Disks { journal, pages })
+}
+
+/// The same with these commits of the document and its text.
+fn checkpointed(alloc: Global, call: u64) -> Result<Disks, Fail> {
+    let mut commits = of_document(alloc)?;
+    Ok(run_over(
+        alloc,
+        call,
+        &commits.first,
+        &commits.second,
+        &mut commits.tree,
+    )?)
 }
 
 /// The fewest and the most numbers that files open with, each of the one and the other; 0 and 9 where a number comes with other records than its own.
@@ -223,28 +274,17 @@ fn a_stop_at_each_call_of_a_checkpoint_leaves_its_tree(rt: HostRuntime) -> Resul
     Ok(())
 }
 
-/// The disks that an opening of these files leaves.
-fn reopened(alloc: Global, files: &Disks) -> Result<Disks, OpenError> {
-    let journal = disk(alloc, files.journal.bytes(), 0)?;
-    let pages = disk(alloc, files.pages.bytes(), 0)?;
-    match open_store(alloc, journal, pages, 1) {
-        Ok(store) => {
-            let (pages, _pool) = store.base.into_parts();
-            Ok(Disks {
-                journal: store.journal.into_disk(),
-                pages,
-            })
-        }
-        Err(refused) => Err(refused.fault),
-    }
-}
-
 #[test]
 fn a_stop_at_each_call_of_an_opening_that_finishes_leaves_the_tree(
     rt: HostRuntime,
 ) -> Result<(), Fail> {
     let unwritten = checkpointed(rt.alloc(), 2)?;
-    let finished = reopened(rt.alloc(), &unwritten)?;
+    let finished = reopened(
+        rt.alloc(),
+        unwritten.journal.bytes(),
+        unwritten.pages.bytes(),
+    )?;
+    assert_eq!(rt; finished.store, Ok((2, 4)));
     let of_pages = wrong_stop_of_pages(rt.alloc(), &finished.pages, unwritten.journal.bytes());
     assert_eq!(rt; of_pages, None);
     let of_journal = wrong_stop_of_journal(rt.alloc(), &finished.journal, finished.pages.bytes());

@@ -39,7 +39,7 @@ pub fn moved(alloc: Global, of_journal: u64, of_pages: u64) -> Result<Left, Fail
 /// The pages of the dump, with their zeros.
 fn dumped(alloc: Global) -> Result<Vec<u8>, NoMemory> {
     let mut bytes = Vec::new(alloc);
-    for content in DUMP {
+    for &content in &DUMP {
         bytes.extend_from_slice(content)?;
         for _ in content.len()..8_192 {
             bytes.push(0)?;

@@ -8,24 +8,38 @@ use std::alloc::Global;
 use std::test::Fail;
 use tree_model::Fragment;
 
-/// The fragment's text, which its value and its tokens give, or the name and place of a copy of the refusal.
+/// The bytes of a fragment's text, if its tokens give the same.
+fn bytes_of(alloc: Global, fragment: &Fragment) -> Result<List<u8>, Fail> {
+    let mut out = List::new(alloc);
+    write_fragment(alloc, fragment, &mut out)?;
+    let by_tokens = text_of(alloc, fragment)?;
+    if by_tokens.as_slice() == out.as_slice() {
+        Ok(out)
+    } else {
+        Err(Fail::from("two texts"))
+    }
+}
+
+/// The fragment's text, which its value and its tokens give.
+fn told_of(alloc: Global, fragment: &Fragment) -> Result<String, Fail> {
+    let bytes = bytes_of(alloc, fragment)?;
+    match str::from_utf8(bytes.as_slice()) {
+        Ok(text) => Ok(String::from_str(alloc, text)?),
+        Err(_) => Err(Fail::from("no text")),
+    }
+}
+
+/// The name and place of a copy of a refusal.
+fn refusal_of(alloc: Global, error: &FragmentError) -> Result<String, Fail> {
+    let copy = error.copy(alloc)?;
+    Ok(format!(in alloc; "{} {}", copy.name(), copy.path())?)
+}
+
+/// The fragment's text, or the name and place of the refusal.
 fn told(alloc: Global, read: Result<Fragment, FragmentError>) -> Result<String, Fail> {
     match read {
-        Ok(fragment) => {
-            let mut out = List::new(alloc);
-            write_fragment(alloc, &fragment, &mut out)?;
-            if text_of(alloc, &fragment)?.as_slice() != out.as_slice() {
-                return Err(Fail::from("two texts"));
-            }
-            match str::from_utf8(out.as_slice()) {
-                Ok(text) => Ok(String::from_str(alloc, text)?),
-                Err(_) => Err(Fail::from("no text")),
-            }
-        }
-        Err(error) => {
-            let copy = error.copy(alloc)?;
-            Ok(format!(in alloc; "{} {}", copy.name(), copy.path())?)
-        }
+        Ok(fragment) => told_of(alloc, &fragment),
+        Err(error) => refusal_of(alloc, &error),
     }
 }
 
@@ -84,7 +98,7 @@ const VALUES: [(&str, &str); 34] = [
 #[test]
 fn a_value_is_a_fragment_or_breaks_a_first_rule(rt: HostRuntime) -> Result<(), Fail> {
     let alloc = rt.alloc();
-    for (json, want) in VALUES {
+    for &(json, want) in &VALUES {
         let read = read_fragment(alloc, json.as_bytes());
         assert_eq!(rt; told(alloc, read)?.as_str(), want, "{json}");
     }
@@ -121,19 +135,34 @@ const NESTED: [(usize, &str, &str, usize); 7] = [
     (100, "7", "NotJsonMl ", 100),
 ];
 
+/// What a text is told as where it isn't refused, or with this at such a depth.
+fn wanted(alloc: Global, json: &str, refused: &str, place: usize) -> Result<String, Fail> {
+    if refused.is_empty() {
+        return Ok(String::from_str(alloc, json)?);
+    }
+    let path = nested(alloc, place, "/1", "", "")?;
+    Ok(format!(in alloc; "{refused}{path}")?)
+}
+
+/// What so many elements around a middle are told as, and what is wanted.
+fn told_around(
+    alloc: Global,
+    around: usize,
+    middle: &str,
+    refused: &str,
+    place: usize,
+) -> Result<(String, String), Fail> {
+    let json = nested(alloc, around, "[\"a\",", middle, "]")?;
+    let told = told(alloc, read_fragment(alloc, json.as_bytes()))?;
+    let want = wanted(alloc, &json, refused, place)?;
+    Ok((told, want))
+}
+
 #[test]
 fn arrays_nest_100_deep(rt: HostRuntime) -> Result<(), Fail> {
-    let alloc = rt.alloc();
-    for (around, middle, refused, place) in NESTED {
-        let json = nested(alloc, around, "[\"a\",", middle, "]")?;
-        let want = if refused.is_empty() {
-            json.clone()?
-        } else {
-            let path = nested(alloc, place, "/1", "", "")?;
-            format!(in alloc; "{refused}{path}")?
-        };
-        let read = read_fragment(alloc, json.as_bytes());
-        assert_eq!(rt; told(alloc, read)?, want, "{around} around {middle}");
+    for &(around, middle, refused, place) in &NESTED {
+        let (told, want) = told_around(rt.alloc(), around, middle, refused, place)?;
+        assert_eq!(rt; told, want, "{around} around {middle}");
     }
     Ok(())
 }
@@ -147,35 +176,65 @@ const AROUND_LETTERS: [(&str, &str, &str); 5] = [
     ("[\"", "x\"]", "BadName /0"),
 ];
 
+/// Whether letters with these around them are told as they stand, or so refused.
+fn letters_are_told(
+    alloc: Global,
+    letters: &str,
+    before: &str,
+    behind: &str,
+    refused: &str,
+) -> Result<bool, Fail> {
+    let json = format!(in alloc; "{before}{letters}{behind}")?;
+    let told = told(alloc, read_fragment(alloc, json.as_bytes()))?;
+    let want = if refused.is_empty() {
+        json.as_str()
+    } else {
+        refused
+    };
+    Ok(told.as_str() == want)
+}
+
 #[test]
 fn texts_have_1048576_bytes(rt: HostRuntime) -> Result<(), Fail> {
-    let alloc = rt.alloc();
-    let letters = nested(alloc, 1_048_576, "x", "", "")?;
-    for (before, behind, refused) in AROUND_LETTERS {
-        let json = format!(in alloc; "{before}{letters}{behind}")?;
-        let want = if refused.is_empty() {
-            json.as_str()
-        } else {
-            refused
-        };
-        let read = read_fragment(alloc, json.as_bytes());
-        assert!(rt; told(alloc, read)?.as_str() == want);
+    let letters = nested(rt.alloc(), 1_048_576, "x", "", "")?;
+    for &(before, behind, refused) in &AROUND_LETTERS {
+        assert!(rt; letters_are_told(rt.alloc(), &letters, before, behind, refused)?);
     }
     Ok(())
 }
 
+fn fragment_of(alloc: Global, value: &Value) -> Result<Fragment, Fail> {
+    match of_value(alloc, value) {
+        Ok(fragment) => Ok(fragment),
+        Err(_) => Err(Fail::from("no fragment")),
+    }
+}
+
+/// Whether a fragment is written as this value, and as this text.
+fn is_written_as(
+    alloc: Global,
+    fragment: &Fragment,
+    value: &Value,
+    json: &str,
+) -> Result<bool, Fail> {
+    let again = to_value(alloc, fragment)?;
+    let same = again == *value;
+    drop(again);
+    Ok(same && told_of(alloc, fragment)?.as_str() == json)
+}
+
+/// Whether the fragment of a value is.
+fn is_again(alloc: Global, value: &Value, json: &str) -> Result<bool, Fail> {
+    let fragment = fragment_of(alloc, value)?;
+    is_written_as(alloc, &fragment, value, json)
+}
+
 /// Whether a fragment's text is read as a value that the fragment is written as, and is written again.
 fn is_written_again(alloc: Global, json: &str) -> Result<bool, Fail> {
-    let Some(value) = read_value(alloc, json.as_bytes())? else {
-        return Err(Fail::from("no value"));
-    };
-    let read = of_value(alloc, &value);
-    let Ok(fragment) = read else {
-        return Err(Fail::from("no fragment"));
-    };
-    let same = to_value(alloc, &fragment)? == value;
-    drop(value);
-    Ok(same && told(alloc, Ok(fragment))?.as_str() == json)
+    match read_value(alloc, json.as_bytes())? {
+        Some(value) => is_again(alloc, &value, json),
+        None => Err(Fail::from("no value")),
+    }
 }
 
 #[test]
@@ -189,24 +248,39 @@ fn values_are_read_and_written(rt: HostRuntime) -> Result<(), Fail> {
     Ok(())
 }
 
-fn attribute(alloc: Global, name: &str, value: &str) -> Result<(Text, Text), Fail> {
-    Ok((Text::of(alloc, name)?, Text::of(alloc, value)?))
+fn push_attribute(
+    alloc: Global,
+    attrs: &mut List<(Text, Text)>,
+    name: &str,
+    value: &str,
+) -> Result<(), Fail> {
+    let name = Text::of(alloc, name)?;
+    let value = Text::of(alloc, value)?;
+    attrs.push((name, value))?;
+    Ok(())
+}
+
+fn attributes(alloc: Global) -> Result<List<(Text, Text)>, Fail> {
+    let mut attrs = List::new(alloc);
+    push_attribute(alloc, &mut attrs, "b", "1")?;
+    push_attribute(alloc, &mut attrs, "a", "2")?;
+    push_attribute(alloc, &mut attrs, "b", "3")?;
+    Ok(attrs)
+}
+
+fn element(alloc: Global) -> Result<Fragment, Fail> {
+    let name = Text::of(alloc, "e")?;
+    Ok(Fragment::Element {
+        name,
+        attrs: attributes(alloc)?,
+        children: List::new(alloc),
+    })
 }
 
 #[test]
 fn attributes_out_of_order_are_an_object(rt: HostRuntime) -> Result<(), Fail> {
-    let alloc = rt.alloc();
-    let attrs = vec![in alloc;
-        attribute(alloc, "b", "1")?,
-        attribute(alloc, "a", "2")?,
-        attribute(alloc, "b", "3")?,
-    ]?;
-    let fragment = Fragment::Element {
-        name: Text::of(alloc, "e")?,
-        attrs: List::from_vec(attrs),
-        children: List::new(alloc),
-    };
+    let fragment = element(rt.alloc())?;
     let want = "[\"e\",{\"a\":\"2\",\"b\":\"3\"}]";
-    assert_eq!(rt; told(alloc, Ok(fragment))?.as_str(), want);
+    assert_eq!(rt; told_of(rt.alloc(), &fragment)?.as_str(), want);
     Ok(())
 }

@@ -152,7 +152,7 @@ const REASONS: [(&str, &str); 44] = [
 #[test]
 fn the_first_reason_that_holds_is_given(rt: HostRuntime) -> Result<(), Fail> {
     let alloc = rt.alloc();
-    for (line, want) in REASONS {
+    for &(line, want) in &REASONS {
         let why = reason(alloc, line.as_bytes())?;
         assert_eq!(rt; why.as_str(), want, "{line}");
     }
@@ -270,21 +270,19 @@ fn waits_bad_lines_and_the_order_are_written(rt: HostRuntime) -> Result<(), Fail
     Ok(())
 }
 
+fn hit(alloc: Global, attr: Option<Text>) -> Result<Hit, Fail> {
+    Ok(Hit {
+        label: label(alloc, "1.1001.1001")?,
+        attr,
+    })
+}
+
 /// An element and its attribute `id`.
 fn hits(alloc: Global) -> Result<List<Hit>, Fail> {
-    let mut hits = List::new(alloc);
-    let element = label(alloc, "1.1001.1001")?;
-    hits.push(Hit {
-        label: element,
-        attr: None,
-    })?;
-    let element = label(alloc, "1.1001.1001")?;
+    let element = hit(alloc, None)?;
     let name = Text::of(alloc, "id")?;
-    hits.push(Hit {
-        label: element,
-        attr: Some(name),
-    })?;
-    Ok(hits)
+    let attribute = hit(alloc, Some(name))?;
+    Ok(List::from_vec(vec![in alloc; element, attribute]?))
 }
 
 #[test]

@@ -1,7 +1,7 @@
 //! Stores with pages as their two files have them, damaged at each rule's place, and failing at each call of their disks.
 use dewey_labels::{Label, List, NoMemory};
 use node_records::{File, OpenError, Place};
-use node_seq::{SeqError, entries_above};
+use node_seq::{NodeRead, SeqError, entries_above};
 use outside_kinds::MemDisk;
 use outside_traits::Disk;
 use overlays::Stacked;
@@ -36,15 +36,21 @@ const NO_DOCUMENT: &[u8] = b"\x02\x01\x83\x69\0\0";
 
 const NO_ELEMENT: &[u8] = b"\x02\x01\x83\x69\x83\x69\0\0";
 
-/// The pages with the byte at one place changed, the first so many bytes of them.
-fn paged(alloc: Global, keep: usize, at: usize, byte: u8) -> Result<Vec<u8>, NoMemory> {
+/// The three pages, with their zeros.
+fn whole_pages(alloc: Global) -> Result<Vec<u8>, NoMemory> {
     let mut bytes = Vec::new(alloc);
-    for content in PAGES {
+    for &content in &PAGES {
         bytes.extend_from_slice(content)?;
         for _ in content.len()..8_192 {
             bytes.push(0)?;
         }
     }
+    Ok(bytes)
+}
+
+/// The pages with the byte at one place changed, the first so many bytes of them.
+fn paged(alloc: Global, keep: usize, at: usize, byte: u8) -> Result<Vec<u8>, NoMemory> {
+    let mut bytes = whole_pages(alloc)?;
     if let Some(place) = bytes.get_mut(at) {
         *place = byte;
     }
@@ -75,27 +81,66 @@ fn disk(alloc: Global, file: &[u8], call: u64) -> Result<MemDisk, NoMemory> {
     Ok(MemDisk::new(bytes, calls))
 }
 
-/// The number of a store, and how many records are seen through its commits.
-fn seen(alloc: Global, store: Opened<MemDisk, MemDisk>) -> Result<(u32, usize), SeqError> {
-    let mut map = Stacked::new(store.base, store.layers);
+/// What becomes of the disks of two files that are opened: the number and the count of the store's records, or why they aren't opened, and the disks behind it.
+#[derive(Drop)]
+struct Left {
+    found: Result<(u32, usize), OpenError>,
+    journal: MemDisk,
+    pages: MemDisk,
+}
+
+/// How many records a map has.
+fn count_of<S: NodeRead>(alloc: Global, map: &mut S) -> Result<usize, SeqError> {
     let root = Label::root(alloc)?;
     let first = Key::of_node(alloc, &root)?;
-    let entries = entries_above(alloc, &first, &mut map)?;
-    Ok((store.number, entries.len()))
+    let entries = entries_above(alloc, &first, map)?;
+    Ok(entries.len())
+}
+
+/// A store's number, and how many records are seen through its commits.
+fn found_in<S: NodeRead>(
+    alloc: Global,
+    number: u32,
+    map: &mut S,
+) -> Result<(u32, usize), OpenError> {
+    match count_of(alloc, map) {
+        Ok(count) => Ok((number, count)),
+        Err(SeqError::DiskFault) => Err(OpenError::DiskFault),
+        Err(SeqError::NoMemory) => Err(OpenError::NoMemory),
+    }
+}
+
+/// What is found in an opened store, and its disks.
+fn left_open(alloc: Global, store: Opened<MemDisk, MemDisk>) -> Left {
+    let journal = store.journal.into_disk();
+    let mut map = Stacked::new(store.base, store.layers);
+    let found = found_in(alloc, store.number, &mut map);
+    let (base, _layers) = map.into_parts();
+    let (pages, _pool) = base.into_parts();
+    Left {
+        found,
+        journal,
+        pages,
+    }
+}
+
+/// Opens the store of two disks, with one page frame.
+fn left_by(alloc: Global, journal: MemDisk, pages: MemDisk) -> Left {
+    match open_store(alloc, journal, pages, 1) {
+        Ok(store) => left_open(alloc, store),
+        Err(refused) => Left {
+            found: Err(refused.fault),
+            journal: refused.journal,
+            pages: refused.pages,
+        },
+    }
 }
 
 /// The number and the count of records that two files open with, or why they aren't opened.
 fn opens(alloc: Global, journal: &[u8], pages: &[u8]) -> Result<(u32, usize), OpenError> {
     let journal = disk(alloc, journal, 0)?;
     let pages = disk(alloc, pages, 0)?;
-    match open_store(alloc, journal, pages, 1) {
-        Ok(store) => match seen(alloc, store) {
-            Ok(found) => Ok(found),
-            Err(SeqError::DiskFault) => Err(OpenError::DiskFault),
-            Err(SeqError::NoMemory) => Err(OpenError::NoMemory),
-        },
-        Err(refused) => Err(refused.fault),
-    }
+    left_by(alloc, journal, pages).found
 }
 
 /// The number and the count of records that two files open with, or the place of their damage.
@@ -255,19 +300,33 @@ fn pages_open_or_are_damaged_at_their_place(rt: HostRuntime) -> Result<(), Fail>
     Ok(())
 }
 
-/// Whether an opening with one failing call of a disk is answered as a fault, or made no such call.
-fn answers_fault(alloc: Global, of_journal: bool, call: u64) -> Result<bool, OpenError> {
-    let (first, second) = if of_journal { (call, 0) } else { (0, call) };
-    let journal = disk(alloc, &journal(alloc, 2, TEXT)?, first)?;
-    let pages = disk(alloc, &paged(alloc, 24_576, 0, 0x58)?, second)?;
-    match open_store(alloc, journal, pages, 1) {
-        Ok(store) => Ok(store.journal.faults() == 0),
-        Err(refused) => {
-            let counted = (refused.journal.faults(), refused.pages.faults());
-            let wanted = if of_journal { (1, 0) } else { (0, 1) };
-            Ok(refused.fault == OpenError::DiskFault && counted == wanted)
-        }
+/// Disks with the second commit behind the pages, each of which fails at one call; at none for 0.
+fn disks_of_two(
+    alloc: Global,
+    of_journal: u64,
+    of_pages: u64,
+) -> Result<(MemDisk, MemDisk), NoMemory> {
+    let journal = disk(alloc, &journal(alloc, 2, TEXT)?, of_journal)?;
+    let pages = disk(alloc, &paged(alloc, 24_576, 0, 0x58)?, of_pages)?;
+    Ok((journal, pages))
+}
+
+/// Whether a fault is answered where one disk has counted one, and the other none; or none is where neither has.
+fn is_answered(left: &Left, of_journal: bool) -> bool {
+    let wanted = if of_journal { (1, 0) } else { (0, 1) };
+    let counted = (left.journal.faults(), left.pages.faults());
+    if left.found.is_ok() {
+        counted == (0, 0)
+    } else {
+        left.found == Err(OpenError::DiskFault) && counted == wanted
     }
+}
+
+/// Whether an opening with one failing call of a disk is answered as a fault, or made no such call.
+fn answers_fault(alloc: Global, of_journal: bool, call: u64) -> Result<bool, NoMemory> {
+    let (first, second) = if of_journal { (call, 0) } else { (0, call) };
+    let (journal, pages) = disks_of_two(alloc, first, second)?;
+    Ok(is_answered(&left_by(alloc, journal, pages), of_journal))
 }
 
 #[test]

@@ -1,5 +1,5 @@
 //! Page files that break a rule, as docs/FILE_FORMAT.md tells what becomes of them.
-use crate::files::{document, file_of, key, letters, opened, padded};
+use crate::files::{document_file, file_of, key, letters, long_file, opened, padded, put};
 use node_seq::{NodeRead, SeqError, SortedSeq};
 use outside_kinds::MemDisk;
 use paged_seq::PagedSeq;
@@ -56,13 +56,17 @@ const ROWS: [(usize, &[(usize, u8)], Option<u64>); 23] = [
     (24_576, &[(16_386, 2), (8_193, 0)], Some(8_192)),
 ];
 
+/// Where the file of this length is damaged with these other bytes.
+fn place_in(alloc: Global, length: usize, others: &[(usize, u8)]) -> Result<Option<u64>, Fail> {
+    let mut bytes = document_file(alloc)?;
+    bytes.resize(length, 0)?;
+    place_with(alloc, bytes, others)
+}
+
 #[test]
 fn each_file_is_damaged_at_its_place(rt: HostRuntime) -> Result<(), Fail> {
-    let alloc = rt.alloc();
     for &(length, others, want) in &ROWS {
-        let mut bytes = file_of(alloc, &mut document(alloc)?)?;
-        bytes.resize(length, 0)?;
-        let place = place_with(alloc, bytes, others)?;
+        let place = place_in(rt.alloc(), length, others)?;
         assert_eq!(rt; place, want, "with {length} bytes and {others:?}");
     }
     Ok(())
@@ -79,17 +83,28 @@ const LONG: [(usize, usize, u8, u64); 5] = [
     (20_479, 29_779, 0, 8_192),
 ];
 
+/// How long the file of a text is, and where it is damaged with one other byte.
+fn place_in_long(
+    alloc: Global,
+    length: usize,
+    at: usize,
+    byte: u8,
+) -> Result<(usize, Option<u64>), Fail> {
+    let bytes = long_file(alloc, length)?;
+    let whole = bytes.len();
+    let place = place_with(alloc, bytes, &[(at, byte)])?;
+    Ok((whole, place))
+}
+
 #[test]
 fn a_record_that_is_none_is_damage_where_it_begins(rt: HostRuntime) -> Result<(), Fail> {
-    let alloc = rt.alloc();
     for &(length, at, byte, want) in &LONG {
-        let mut seq = document(alloc)?;
-        let text = key(alloc, &[1, 1001, 1001, 1001], "")?;
-        seq.put(alloc, text, Record::Text(letters(alloc, length)?))?;
-        let bytes = file_of(alloc, &mut seq)?;
-        assert_eq!(rt; bytes.len(), 40_960);
-        let place = place_with(alloc, bytes, &[(at, byte)])?;
-        assert_eq!(rt; place, Some(want), "at {at} of a text of {length}");
+        let found = place_in_long(rt.alloc(), length, at, byte)?;
+        assert_eq!(rt;
+            found,
+            (40_960, Some(want)),
+            "at {at} of a text of {length}"
+        );
     }
     Ok(())
 }
@@ -114,8 +129,14 @@ fn long_names(alloc: Global) -> Result<Vec<u8>, Fail> {
     let mut seq = SortedSeq::new(alloc);
     let name = letters(alloc, 1_000)?;
     for number in 0..80 {
-        let at = key(alloc, &[1, 1001, 1001 + 2 * number], name.as_str())?;
-        seq.put(alloc, at, Record::Attr(letters(alloc, 0)?))?;
+        let empty = Record::Attr(letters(alloc, 0)?);
+        put(
+            alloc,
+            &mut seq,
+            &[1, 1001, 1001 + 2 * number],
+            name.as_str(),
+            empty,
+        )?;
     }
     file_of(alloc, &mut seq)
 }
@@ -131,7 +152,7 @@ fn too_few_directory_pages_are_damage_at_the_last(rt: HostRuntime) -> Result<(),
 
 /// The page file of the document, in which its element has a blank for a name.
 fn blank_name(alloc: Global) -> Result<Vec<u8>, Fail> {
-    let mut bytes = file_of(alloc, &mut document(alloc)?)?;
+    let mut bytes = document_file(alloc)?;
     if 8_234 < bytes.len() {
         bytes[8_234] = b' ';
     }

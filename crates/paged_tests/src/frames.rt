@@ -1,19 +1,14 @@
 //! How many pages are read from a disk that counts its calls.
-use crate::files::{document, file_of, key, letters, opened};
+use crate::files::{document_file, key, long_file, opened};
 use node_seq::NodeRead;
 use outside_kinds::MemDisk;
+use page_store::Pool;
 use paged_seq::PagedSeq;
 use std::alloc::Global;
 use std::test::Fail;
-use tree_model::Record;
 
-/// Reads page 1, page 2 and page 1 again with so many frames, and counts the calls of the disk.
-fn reads_with(alloc: Global, frames: u32) -> Result<u64, Fail> {
-    let bytes = file_of(alloc, &mut document(alloc)?)?;
-    let Ok(seq) = opened(alloc, bytes, frames)? else {
-        return Err(Fail::from("damaged"));
-    };
-    let (mut disk, mut pool) = seq.into_parts();
+/// Reads page 1, page 2 and page 1 again, and counts the calls of the disk.
+fn reads_of(alloc: Global, mut disk: MemDisk, mut pool: Pool) -> Result<u64, Fail> {
     pool.forget();
     let before = disk.calls();
     if disk.bytes().len() < 24_576 {
@@ -25,6 +20,17 @@ fn reads_with(alloc: Global, frames: u32) -> Result<u64, Fail> {
     Ok(disk.calls().saturating_sub(before))
 }
 
+/// The same with so many frames.
+fn reads_with(alloc: Global, frames: u32) -> Result<u64, Fail> {
+    match opened(alloc, document_file(alloc)?, frames)? {
+        Ok(seq) => {
+            let (disk, pool) = seq.into_parts();
+            reads_of(alloc, disk, pool)
+        }
+        Err(_place) => Err(Fail::from("damaged")),
+    }
+}
+
 #[test]
 fn a_page_is_read_again_once_its_frame_is_gone(rt: HostRuntime) -> Result<(), Fail> {
     assert_eq!(rt; reads_with(rt.alloc(), 1)?, 3);
@@ -32,17 +38,9 @@ fn a_page_is_read_again_once_its_frame_is_gone(rt: HostRuntime) -> Result<(), Fa
     Ok(())
 }
 
-/// The page file of the document with a text over three pages.
-fn long_file(alloc: Global) -> Result<Vec<u8>, Fail> {
-    let mut map = document(alloc)?;
-    let at = key(alloc, &[1, 1001, 1001, 1001], "")?;
-    map.put(alloc, at, Record::Text(letters(alloc, 20_000)?))?;
-    file_of(alloc, &mut map)
-}
-
-/// The map over it, with one frame.
+/// The map over the document with a text over three pages, with one frame.
 fn long_text(alloc: Global) -> Result<PagedSeq<MemDisk>, Fail> {
-    match opened(alloc, long_file(alloc)?, 1)? {
+    match opened(alloc, long_file(alloc, 20_000)?, 1)? {
         Ok(seq) => Ok(seq),
         Err(_place) => Err(Fail::from("damaged")),
     }

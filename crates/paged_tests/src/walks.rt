@@ -1,5 +1,5 @@
 //! Maps of many pages beside the same maps in memory: walked, and read key by key.
-use crate::files::{file_of, key, letters, opened};
+use crate::files::{file_of, key, letters, opened, put};
 use node_seq::{NodeRead, SeqError, SortedSeq};
 use outside_kinds::MemDisk;
 use paged_seq::PagedSeq;
@@ -19,9 +19,8 @@ struct Both {
 fn texts(alloc: Global, count: u32) -> Result<SortedSeq, Fail> {
     let mut seq = SortedSeq::new(alloc);
     for number in 0..count.min(2_000) {
-        let at = key(alloc, &[1, 1001, 1001 + 2 * number], "")?;
-        let length = (number % 37) as usize * 90;
-        seq.put(alloc, at, Record::Text(letters(alloc, length)?))?;
+        let text = Record::Text(letters(alloc, (number % 37) as usize * 90)?);
+        put(alloc, &mut seq, &[1, 1001, 1001 + 2 * number], "", text)?;
     }
     Ok(seq)
 }
@@ -30,7 +29,7 @@ fn texts(alloc: Global, count: u32) -> Result<SortedSeq, Fail> {
 fn long_text(alloc: Global) -> Result<SortedSeq, Fail> {
     let mut map = texts(alloc, 120)?;
     let long = Record::Text(letters(alloc, 20_000)?);
-    map.put(alloc, key(alloc, &[1, 1001, 1121], "")?, long)?;
+    put(alloc, &mut map, &[1, 1001, 1121], "", long)?;
     Ok(map)
 }
 
@@ -187,16 +186,33 @@ const ASKED: [u32; 16] = [
     1001, 1003, 1005, 1011, 1013, 1051, 1049, 1119, 1121, 1123, 1131, 1009, 1201, 1239, 1241, 999,
 ];
 
+/// The first of these keys above which a step over the maps leads apart, by its last division.
+fn first_step_apart<S: NodeRead, T: NodeRead>(
+    alloc: Global,
+    seq: &mut S,
+    map: &mut T,
+) -> Result<Option<u32>, Fail> {
+    for &last in &ASKED {
+        let at = key(alloc, &[1, 1001, last], "")?;
+        let step = take_step(alloc, seq, map, &at, true)?;
+        if is_apart(&step) {
+            return Ok(Some(last));
+        }
+    }
+    Ok(None)
+}
+
+/// The same of the texts with a long one, and so many frames.
+fn step_apart_with(alloc: Global, frames: u32) -> Result<Option<u32>, Fail> {
+    let mut both = beside(alloc, long_text(alloc)?, frames)?;
+    first_step_apart(alloc, &mut both.seq, &mut both.map)
+}
+
 #[test]
 fn a_step_from_any_key_leads_where_it_does_in_memory(rt: HostRuntime) -> Result<(), Fail> {
-    let alloc = rt.alloc();
     for frames in 1..=2 {
-        let mut both = beside(alloc, long_text(alloc)?, frames)?;
-        for &last in &ASKED {
-            let at = key(alloc, &[1, 1001, last], "")?;
-            let step = take_step(alloc, &mut both.seq, &mut both.map, &at, true)?;
-            assert_eq!(rt; is_apart(&step), false, "above {last} with {frames} frames");
-        }
+        let apart = step_apart_with(rt.alloc(), frames)?;
+        assert_eq!(rt; apart, None, "with {frames} frames");
     }
     Ok(())
 }

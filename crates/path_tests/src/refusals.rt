@@ -262,7 +262,7 @@ const DEEP: [(&str, &str, usize, &str, &str); 13] = [
 
 #[test]
 fn the_51st_nested_part_is_refused(rt: HostRuntime) -> Result<(), Fail> {
-    for (front, part, count, back, refusal) in DEEP {
+    for &(front, part, count, back, refusal) in &DEEP {
         let text = nested(rt.alloc(), front, part, count, back)?;
         assert_eq!(rt;
             told(rt.alloc(), text.as_str())?.as_str(),
@@ -285,7 +285,7 @@ const LONG: [(&str, &str, &str); 4] = [
 fn chains_and_lists_of_any_length_are_read_copied_and_let_go_of(
     rt: HostRuntime,
 ) -> Result<(), Fail> {
-    for (front, part, back) in LONG {
+    for &(front, part, back) in &LONG {
         let text = nested(rt.alloc(), front, part, 50_000, back)?;
         let Ok(path) = parse(rt.alloc(), text.as_str()) else {
             return Err(Fail::from("no path"));

@@ -26,7 +26,7 @@ const NUMBERS: [(&str, Option<i64>); 12] = [
 
 #[test]
 fn a_text_is_a_number_by_its_digits(rt: HostRuntime) {
-    for (text, wanted) in NUMBERS {
+    for &(text, wanted) in &NUMBERS {
         assert_eq!(rt; number_of_text(text), wanted, "at {text:?}");
     }
 }

@@ -10,7 +10,7 @@ use std::alloc::Global;
 use std::sync::Wait;
 use std::thread::Threads;
 use tx_core::Core;
-use workers_text::read_script;
+use workers_text::{Script, read_script};
 use xtc::answer_script;
 
 const SCRIPT: &str =
@@ -85,17 +85,48 @@ fn commits_of(alloc: Global, file: &[u8]) -> Option<usize> {
     }
 }
 
-/// A run of a script over an empty store, with a journal that fails at this call; none where memory is wanting.
-fn run<R: Threads + Wait + Sync>(rt: &R, alloc: Global, text: &str, fails: u64) -> Option<Came> {
+fn script_of(alloc: Global, text: &str) -> Option<Script> {
     let mut source = source(alloc, text).ok()?;
-    let script = read_script(alloc, &mut source).ok()?;
+    read_script(alloc, &mut source).ok()
+}
+
+/// The text of a script's replies, if there is one, and the disk of the journal.
+#[derive(Drop)]
+struct Done {
+    text: Option<Vec<u8>>,
+    disk: MemDisk,
+}
+
+/// Does a script over an empty store; none where memory is wanting.
+fn done_over<R: Threads + Wait + Sync>(
+    rt: &R,
+    alloc: Global,
+    journal: Journal<MemDisk>,
+    script: &Script,
+) -> Option<Done>
+    requires { TakesGroups journal × (journal.last ≡ None) }
+{
     let core = Core::new(alloc, SortedSeq::new(alloc), 0, 4_294_967_295).ok()?;
-    let answered = answer_script(rt, alloc, core, journal(alloc, fails)?, &script, &NoGate);
-    let commits = commits_of(alloc, answered.journal.into_disk().bytes())?;
-    Some(Came {
+    let answered = answer_script(rt, alloc, core, journal, script, &NoGate);
+    Some(Done {
         text: answered.text.ok(),
+        disk: answered.journal.into_disk(),
+    })
+}
+
+fn came_of(alloc: Global, done: Done) -> Option<Came> {
+    let commits = commits_of(alloc, done.disk.bytes())?;
+    Some(Came {
+        text: done.text,
         commits,
     })
+}
+
+/// A run of a script over an empty store, with a journal that fails at this call; none where memory is wanting.
+fn run<R: Threads + Wait + Sync>(rt: &R, alloc: Global, text: &str, fails: u64) -> Option<Came> {
+    let script = script_of(alloc, text)?;
+    let journal = journal(alloc, fails)?;
+    came_of(alloc, done_over(rt, alloc, journal, &script)?)
 }
 
 #[test]

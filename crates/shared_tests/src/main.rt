@@ -4,18 +4,10 @@
 //! Without words it is a short run, which prints the same whatever thread comes first.
 #![tactic(auto)]
 
-mod book;
-mod line;
-mod moves;
-mod plain;
-mod rows;
-mod spread;
 #[cfg(test)]
 mod tests;
 
-use book::book_after;
-use line::Trouble;
-use moves::sums_after;
+use shared_cases::{Trouble, book_after, sums_after};
 use std::alloc::Global;
 use std::sync::Wait;
 use std::thread::Threads;

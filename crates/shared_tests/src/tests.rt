@@ -1,10 +1,7 @@
 //! Sessions in threads: worked scripts, amounts that are moved, and the core afterwards.
 ghost use Rattle.std.specs.Prelude.{◌≡◌};
 
-use crate::line::{Trouble, Way};
-use crate::moves::sums_after;
-use crate::rows::{again, in_two_threads, replies_to};
-use crate::spread::{cut, store_with};
+use shared_cases::{Trouble, Way, again, cut, in_two_threads, replies_to, store_with, sums_after};
 use std::alloc::Global;
 use std::sync::Wait;
 use std::thread::Threads;

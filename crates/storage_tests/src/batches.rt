@@ -415,22 +415,43 @@ const IMAGES: [(Behind<'static>, Result<usize, u64>); 8] = [
     ((1, 2, &[3, 7], 1), Err(59)),
 ];
 
-fn images_behind(alloc: Global, behind: Behind<'_>) -> Result<List<u8>, NoMemory> {
-    let (number, count, pages, gate) = behind;
+/// Puts a page's image, all bytes of which are its number.
+fn push_image(alloc: Global, page: u8, body: &mut List<u8>) -> Result<(), NoMemory> {
+    body.extend_from_slice(alloc, &[0, 0, 0, page])?;
+    let bytes = vec![in alloc; page; 8_192]?;
+    body.extend_from_slice(alloc, bytes.as_slice())
+}
+
+/// The body of images that are said to be so many.
+fn images_body(alloc: Global, count: u8, pages: &[u8]) -> Result<List<u8>, NoMemory> {
     let mut body = List::new(alloc);
     body.extend_from_slice(alloc, &[0, 0, 0, count])?;
     for page in pages {
-        body.extend_from_slice(alloc, &[0, 0, 0, *page])?;
-        let bytes = vec![in alloc; *page; 8_192];
-        body.extend_from_slice(alloc, bytes?.as_slice())?;
+        push_image(alloc, *page, &mut body)?;
     }
+    Ok(body)
+}
+
+/// Puts a group of images with an open gate.
+fn push_images(
+    alloc: Global,
+    number: u8,
+    body: &[u8],
+    file: &mut List<u8>,
+) -> Result<(), NoMemory> {
     let Ok(length) = u32::try_from(body.len()) else {
         return Err(NoMemory);
     };
-    let mut file = changed(alloc, 59, 0, 1)?;
     file.extend_from_slice(alloc, &[1, 1, 0, 0, 0, number])?;
     file.extend_from_slice(alloc, &length.to_be_bytes())?;
-    file.extend_from_slice(alloc, body.as_slice())?;
+    file.extend_from_slice(alloc, body)
+}
+
+fn images_behind(alloc: Global, behind: Behind<'_>) -> Result<List<u8>, NoMemory> {
+    let (number, count, pages, gate) = behind;
+    let body = images_body(alloc, count, pages)?;
+    let mut file = changed(alloc, 59, 0, 1)?;
+    push_images(alloc, number, body.as_slice(), &mut file)?;
     file.push(gate)?;
     Ok(file)
 }

@@ -6,7 +6,7 @@ use node_seq::{NodeRead, SeqError, entries_above};
 use outside_kinds::MemDisk;
 use outside_traits::Disk;
 use overlays::Stacked;
-use recovery::{StoreFault, open_store};
+use recovery::{Opened, open_store};
 use std::alloc::Global;
 use std::test::Fail;
 use tree_model::{Key, Record};
@@ -43,24 +43,54 @@ fn entries_of<S: NodeRead>(alloc: Global, map: &mut S) -> Result<List<(Key, Reco
     entries_above(alloc, &first, map)
 }
 
+/// What becomes of the disks of two files that are opened: the store that they hold, or why they aren't opened, and the disks behind it.
+#[derive(Drop)]
+struct Left {
+    held: Result<Held, OpenError>,
+    journal: MemDisk,
+    pages: MemDisk,
+}
+
+/// The store that a map with this number holds.
+fn held_in<S: NodeRead>(alloc: Global, number: u32, map: &mut S) -> Result<Held, OpenError> {
+    match entries_of(alloc, map) {
+        Ok(entries) => Ok(Held { number, entries }),
+        Err(SeqError::DiskFault) => Err(OpenError::DiskFault),
+        Err(SeqError::NoMemory) => Err(OpenError::NoMemory),
+    }
+}
+
+/// What an opened store holds, and its disks.
+fn left_open(alloc: Global, store: Opened<MemDisk, MemDisk>) -> Left {
+    let journal = store.journal.into_disk();
+    let mut map = Stacked::new(store.base, store.layers);
+    let held = held_in(alloc, store.number, &mut map);
+    let (base, _layers) = map.into_parts();
+    let (pages, _pool) = base.into_parts();
+    Left {
+        held,
+        journal,
+        pages,
+    }
+}
+
+/// Opens the store of two disks, with one page frame.
+fn left_by(alloc: Global, journal: MemDisk, pages: MemDisk) -> Left {
+    match open_store(alloc, journal, pages, 1) {
+        Ok(store) => left_open(alloc, store),
+        Err(refused) => Left {
+            held: Err(refused.fault),
+            journal: refused.journal,
+            pages: refused.pages,
+        },
+    }
+}
+
 /// The store that two files open as, or why they aren't opened.
 fn opened(alloc: Global, journal: &[u8], pages: &[u8]) -> Result<Held, OpenError> {
     let journal = disk(alloc, journal, 0)?;
     let pages = disk(alloc, pages, 0)?;
-    match open_store(alloc, journal, pages, 1) {
-        Ok(store) => {
-            let mut map = Stacked::new(store.base, store.layers);
-            match entries_of(alloc, &mut map) {
-                Ok(entries) => Ok(Held {
-                    number: store.number,
-                    entries,
-                }),
-                Err(SeqError::DiskFault) => Err(OpenError::DiskFault),
-                Err(SeqError::NoMemory) => Err(OpenError::NoMemory),
-            }
-        }
-        Err(refused) => Err(refused.fault),
-    }
+    left_by(alloc, journal, pages).held
 }
 
 /// The number and the count of records that two files open with, or why they aren't opened.
@@ -374,27 +404,24 @@ fn commits_follow_one_another_and_what_is_deleted_stays_away(rt: HostRuntime) ->
     Ok(())
 }
 
-/// Why a store isn't opened, and the faults that its disks have counted.
-fn counted(refused: StoreFault<MemDisk, MemDisk>) -> (OpenError, u64, u64) {
-    (
-        refused.fault,
-        refused.journal.faults(),
-        refused.pages.faults(),
-    )
+/// Why a store isn't opened, if it isn't, and the faults that its disks have counted.
+fn counted(left: &Left) -> (Option<OpenError>, u64, u64) {
+    let fault = match &left.held {
+        Ok(_) => None,
+        Err(fault) => Some(*fault),
+    };
+    (fault, left.journal.faults(), left.pages.faults())
 }
 
-/// The faults that the disks of two empty files have counted when they are handed back.
+/// The same of two empty files, whose disks fail at these calls.
 fn faults(
     alloc: Global,
     journal_fails: u64,
     pages_fail: u64,
-) -> Result<(OpenError, u64, u64), NoMemory> {
+) -> Result<(Option<OpenError>, u64, u64), NoMemory> {
     let journal = disk(alloc, b"", journal_fails)?;
     let pages = disk(alloc, b"", pages_fail)?;
-    match open_store(alloc, journal, pages, 1) {
-        Ok(_) => Err(NoMemory),
-        Err(refused) => Ok(counted(refused)),
-    }
+    Ok(counted(&left_by(alloc, journal, pages)))
 }
 
 /// The call of the journal's disk that fails, the one of the pages' disk, and the faults of both. Nine calls of the journal's disk make a new journal, of which two sync it and look at its length, and two are made of the pages'.
@@ -416,7 +443,7 @@ const FAILING: [(u64, u64, (u64, u64)); 11] = [
 fn a_failing_call_of_either_disk_hands_both_back(rt: HostRuntime) -> Result<(), Fail> {
     for &(journal, pages, want) in &FAILING {
         let refused = faults(rt.alloc(), journal, pages)?;
-        let want = (OpenError::DiskFault, want.0, want.1);
+        let want = (Some(OpenError::DiskFault), want.0, want.1);
         assert_eq!(rt; refused, want, "at calls {journal} and {pages}");
     }
     Ok(())
@@ -426,10 +453,9 @@ fn a_failing_call_of_either_disk_hands_both_back(rt: HostRuntime) -> Result<(), 
 fn new_journal(alloc: Global) -> Result<MemDisk, OpenError> {
     let journal = disk(alloc, b"", 0)?;
     let pages = disk(alloc, b"", 0)?;
-    match open_store(alloc, journal, pages, 1) {
-        Ok(store) => Ok(store.journal.into_disk()),
-        Err(refused) => Err(refused.fault),
-    }
+    let left = left_by(alloc, journal, pages);
+    left.held?;
+    Ok(left.journal)
 }
 
 /// Whether each image that a crash in a call of the journal's disk leaves opens as an empty store.

@@ -387,27 +387,39 @@ fn a_change_of_a_name_with_a_zero_is_not_written(rt: HostRuntime) -> Result<(), 
     Ok(())
 }
 
-#[test]
-fn entries_and_pending_commits_are_copied(rt: HostRuntime) -> Result<(), Fail> {
-    let alloc = rt.alloc();
-    let entry = Entry {
-        key: key(alloc, &[1, 1_001], "id")?,
+fn entry(alloc: Global) -> Result<Entry, Fail> {
+    let key = key(alloc, &[1, 1_001], "id")?;
+    Ok(Entry {
+        key,
         chunk: 3,
         last: true,
         bytes: List::from_vec(Vec::from_slice(alloc, b"b7")?),
-    };
+    })
+}
+
+fn is_entry_copied(alloc: Global) -> Result<bool, Fail> {
+    let entry = entry(alloc)?;
     let copy = entry.copy(alloc)?;
-    assert!(rt;
+    Ok(
         copy.key == entry.key
             && copy.chunk == 3
             && copy.last
-            && copy.bytes.as_slice() == b"b7".as_slice()
-    );
+            && copy.bytes.as_slice() == b"b7".as_slice(),
+    )
+}
+
+fn is_pending_copied(alloc: Global) -> Result<bool, Fail> {
     let pending = Pending {
         number: 7,
-        body: entry.bytes,
+        body: List::from_vec(Vec::from_slice(alloc, b"b7")?),
     };
     let copy = pending.copy(alloc)?;
-    assert!(rt; copy.number == 7 && copy.body.as_slice() == b"b7".as_slice());
+    Ok(copy.number == 7 && copy.body.as_slice() == b"b7".as_slice())
+}
+
+#[test]
+fn entries_and_pending_commits_are_copied(rt: HostRuntime) -> Result<(), Fail> {
+    assert!(rt; is_entry_copied(rt.alloc())?);
+    assert!(rt; is_pending_copied(rt.alloc())?);
     Ok(())
 }

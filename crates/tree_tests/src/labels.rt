@@ -151,7 +151,7 @@ const KEPT: [&str; 5] = [
 
 #[test]
 fn a_text_reads_as_the_string_that_it_was_made_of(rt: HostRuntime) -> Result<(), Fail> {
-    for written in KEPT {
+    for &written in &KEPT {
         let found = is_kept(rt.alloc(), written)?;
         agree(&rt, &written, &found, &(true, true));
     }
@@ -190,7 +190,7 @@ fn read_back(alloc: Global, text: &[u8], parent: &[u8]) -> Result<(u32, bool, bo
 
 #[test]
 fn levels_and_parents_go_by_codes(rt: HostRuntime) -> Result<(), Fail> {
-    for (text, level, parent) in LEVELS {
+    for &(text, level, parent) in &LEVELS {
         let found = read_back(rt.alloc(), text, parent)?;
         agree(&rt, &text, &found, &(level, true, true));
     }
@@ -221,7 +221,7 @@ fn leads_to(alloc: Global, above: &[u8], below: &[u8], child: &[u8]) -> Result<b
 
 #[test]
 fn the_child_toward_a_label_lies_below_or_is_none(rt: HostRuntime) -> Result<(), Fail> {
-    for (above, below, child) in CHILDREN_TOWARD {
+    for &(above, below, child) in &CHILDREN_TOWARD {
         let found = leads_to(rt.alloc(), above, below, child)?;
         agree(&rt, &(above, below), &found, &true);
     }
@@ -248,7 +248,7 @@ fn compared(alloc: Global, first: &[u8], second: &[u8]) -> Result<(bool, bool, b
 
 #[test]
 fn a_label_comes_before_its_extensions(rt: HostRuntime) -> Result<(), Fail> {
-    for (first, second, is_ancestor) in IN_ORDER {
+    for &(first, second, is_ancestor) in &IN_ORDER {
         let found = compared(rt.alloc(), first, second)?;
         agree(&rt, &(first, second), &found, &(true, is_ancestor, false));
     }
@@ -265,7 +265,7 @@ fn is_no_label(alloc: Global, divisions: &[u32]) -> Result<bool, Fail> {
 
 #[test]
 fn what_is_no_label_has_no_divisions(rt: HostRuntime) -> Result<(), Fail> {
-    for divisions in NO_LABELS {
+    for &divisions in &NO_LABELS {
         let found = is_no_label(rt.alloc(), divisions)?;
         agree(&rt, &divisions, &found, &true);
     }
@@ -303,7 +303,7 @@ const TEXTS: [(&[u8], Option<u32>); 16] = [
 
 #[test]
 fn a_text_is_refused_behind_its_longest_prefix_of_a_label(rt: HostRuntime) -> Result<(), Fail> {
-    for (text, place) in TEXTS {
+    for &(text, place) in &TEXTS {
         let found = place_of(rt.alloc(), text)?;
         agree(&rt, &text, &found, &place);
     }
@@ -337,7 +337,7 @@ fn place_behind_254(alloc: Global, last: &[u8]) -> Result<Option<u32>, Fail> {
 
 #[test]
 fn the_last_division_that_fits_is_odd(rt: HostRuntime) -> Result<(), Fail> {
-    for (last, place) in LAST_DIVISIONS {
+    for &(last, place) in &LAST_DIVISIONS {
         let found = place_behind_254(rt.alloc(), last)?;
         agree(&rt, &last, &found, &place);
     }

@@ -174,7 +174,7 @@ const SEEN: [(u32, &str); 9] = [
 
 #[test]
 fn a_view_answers_as_the_list_by_hand(rt: HostRuntime) -> Result<(), Fail> {
-    for (last, want) in SEEN {
+    for &(last, want) in &SEEN {
         let found = seen(rt.alloc(), last)?;
         agree(&rt, &last, &found.as_str(), &want);
     }
@@ -224,7 +224,7 @@ const RUNS: [(u32, usize); 6] = [(0, 0), (1, 1), (2, 2), (5, 2), (6, 3), (7, 2)]
 
 #[test]
 fn changes_added_one_by_one_stand_in_few_runs(rt: HostRuntime) -> Result<(), Fail> {
-    for (added, want) in RUNS {
+    for &(added, want) in &RUNS {
         agree(&rt, &added, &runs_of(rt.alloc(), added)?, &want);
     }
     Ok(())
@@ -256,7 +256,7 @@ const STACKED: [(u32, &str); 2] = [(1009, "b2,n,a 4 3"), (1017, ",d,n 4 3")];
 
 #[test]
 fn a_stacked_base_answers_through_its_layers_and_comes_back(rt: HostRuntime) -> Result<(), Fail> {
-    for (last, want) in STACKED {
+    for &(last, want) in &STACKED {
         let found = stacked(rt.alloc(), last)?;
         agree(&rt, &last, &found.as_str(), &want);
     }
@@ -329,7 +329,7 @@ const UNKNOWN: [(u32, Rows, &str); 4] = [
 
 #[test]
 fn a_view_of_a_map_that_isnt_known_answers_or_counts_a_fault(rt: HostRuntime) -> Result<(), Fail> {
-    for (last, answers, want) in UNKNOWN {
+    for &(last, answers, want) in &UNKNOWN {
         let found = unknown(rt.alloc(), last, answers)?;
         agree(&rt, &last, &found.as_str(), &want);
     }
@@ -376,7 +376,7 @@ const MERGED: [(u32, &str); 2] = [(64, "false 36 false"), (65, "true 35 false")]
 
 #[test]
 fn layers_merged_into_their_base_keep_no_deletions(rt: HostRuntime) -> Result<(), Fail> {
-    for (deleted, want) in MERGED {
+    for &(deleted, want) in &MERGED {
         let found = merged(rt.alloc(), deleted)?;
         agree(&rt, &deleted, &found.as_str(), &want);
     }

@@ -126,7 +126,7 @@ fn small_map_around(
 
 #[test]
 fn a_map_answers_as_its_list_by_hand(rt: HostRuntime) -> Result<(), Fail> {
-    for (divisions, name, here, above, below) in AROUND {
+    for &(divisions, name, here, above, below) in &AROUND {
         let found = small_map_around(rt.alloc(), divisions, name, here)?;
         agree(&rt, &(divisions, name), &found, &(true, above, below));
     }

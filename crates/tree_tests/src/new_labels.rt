@@ -51,7 +51,7 @@ const BEFORE_FIRST: [(u32, &[u32]); 2] = [
 #[test]
 fn the_five_hundredth_before_the_first_overflows(rt: HostRuntime) -> Result<(), Fail> {
     let element = element(rt.alloc())?;
-    for (times, want) in BEFORE_FIRST {
+    for &(times, want) in &BEFORE_FIRST {
         let first = before_first(rt.alloc(), &element, times)?;
         agree(&rt, &first, want);
     }

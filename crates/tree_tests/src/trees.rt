@@ -97,7 +97,7 @@ fn places_in_names(alloc: Global, character: char) -> Result<(bool, bool), Fail>
 
 #[test]
 fn names_have_the_characters_of_xml(rt: HostRuntime) -> Result<(), Fail> {
-    for (character, begins, goes_on) in CHARACTERS {
+    for &(character, begins, goes_on) in &CHARACTERS {
         let found = places_in_names(rt.alloc(), character)?;
         agree(&rt, &character, &found, &(begins, goes_on));
     }
@@ -125,7 +125,7 @@ fn is_name_of(alloc: Global, character: char, count: usize) -> Result<bool, Fail
 
 #[test]
 fn names_have_1_to_1024_bytes(rt: HostRuntime) -> Result<(), Fail> {
-    for (character, count, want) in LENGTHS {
+    for &(character, count, want) in &LENGTHS {
         let found = is_name_of(rt.alloc(), character, count)?;
         agree(&rt, &(character, count), &found, &want);
     }
@@ -216,7 +216,7 @@ fn beside(alloc: Global, divisions: &[u32], name: &str) -> Result<(Ordering, Ord
 
 #[test]
 fn a_trees_end_lies_behind_all_of_it(rt: HostRuntime) -> Result<(), Fail> {
-    for (divisions, name, from_start, from_end) in BESIDE {
+    for &(divisions, name, from_start, from_end) in &BESIDE {
         let found = beside(rt.alloc(), divisions, name)?;
         agree(&rt, &(divisions, name), &found, &(from_start, from_end));
     }
@@ -251,7 +251,7 @@ fn is_valid_at(alloc: Global, codes: usize, name: &str) -> Result<bool, Fail> {
 
 #[test]
 fn a_valid_key_has_a_name_or_none_and_level_101_at_most(rt: HostRuntime) -> Result<(), Fail> {
-    for (codes, name, want) in VALID {
+    for &(codes, name, want) in &VALID {
         let found = is_valid_at(rt.alloc(), codes, name)?;
         agree(&rt, &(codes, name), &found, &want);
     }
@@ -281,7 +281,7 @@ fn fitting(alloc: Global, count: usize) -> Result<(bool, bool), Fail> {
 
 #[test]
 fn data_and_values_have_1048576_bytes_at_most(rt: HostRuntime) -> Result<(), Fail> {
-    for (count, want) in FITTING {
+    for &(count, want) in &FITTING {
         let found = fitting(rt.alloc(), count)?;
         agree(&rt, &count, &found, &(want, want));
     }

@@ -16,27 +16,33 @@ fn all_words(alloc: Global, words: &str) -> Result<Vec<String>, AllocError> {
     Ok(all)
 }
 
-/// The command that the words ask for.
-fn command(alloc: Global, words: &str) -> Result<String, Fail> {
-    let words = all_words(alloc, words)?;
-    match read_words(alloc, &words) {
-        Ok(Words { command, .. }) => Ok(format!(in alloc; "{command:?}")?),
-        Err(why) => Ok(format!(in alloc; "{why:?}")?),
-    }
-}
-
-/// The command with the options that the words ask for.
-fn command_over(alloc: Global, words: &str) -> Result<String, Fail> {
-    let words = all_words(alloc, words)?;
-    match read_words(alloc, &words) {
+/// The command that the words ask for, with its options.
+fn command_of(alloc: Global, words: &Vec<String>) -> Result<String, AllocError> {
+    match read_words(alloc, words) {
         Ok(
             Words {
                 command,
                 frames,
                 checkpoint,
             },
-        ) => Ok(format!(in alloc; "{command:?} {frames} {checkpoint}")?),
-        Err(why) => Ok(format!(in alloc; "{why:?}")?),
+        ) => format!(in alloc; "{command:?} {frames} {checkpoint}"),
+        Err(why) => format!(in alloc; "{why:?}"),
+    }
+}
+
+fn command_over(alloc: Global, words: &str) -> Result<String, AllocError> {
+    let words = all_words(alloc, words)?;
+    command_of(alloc, &words)
+}
+
+/// A command without its options, which are the last two words.
+fn without_options(text: &str) -> &str {
+    let Some((before, _checkpoint)) = text.rsplit_once(' ') else {
+        return text;
+    };
+    match before.rsplit_once(' ') {
+        Some((command, _frames)) => command,
+        None => text,
     }
 }
 
@@ -107,9 +113,9 @@ const COMMANDS: [(&str, &str); 58] = [
 
 #[test]
 fn words_ask_for_a_command_or_are_refused(rt: HostRuntime) -> Result<(), Fail> {
-    for (words, want) in COMMANDS {
-        let text = command(rt.alloc(), words)?;
-        assert_eq!(rt; text.as_str(), want, "at {words:?}");
+    for &(words, want) in &COMMANDS {
+        let text = command_over(rt.alloc(), words)?;
+        assert_eq!(rt; without_options(&text), want, "at {words:?}");
     }
     Ok(())
 }
@@ -161,7 +167,7 @@ const WITH_OPTIONS: [(&str, &str); 38] = [
 
 #[test]
 fn every_command_takes_frames_and_checkpoints(rt: HostRuntime) -> Result<(), Fail> {
-    for (words, want) in WITH_OPTIONS {
+    for &(words, want) in &WITH_OPTIONS {
         let text = command_over(rt.alloc(), words)?;
         assert_eq!(rt; text.as_str(), want, "at {words:?}");
     }
@@ -217,7 +223,7 @@ const OPTIONS: [(&str, &str); 19] = [
 
 #[test]
 fn options_are_told_from_plain_words(rt: HostRuntime) -> Result<(), Fail> {
-    for (words, want) in OPTIONS {
+    for &(words, want) in &OPTIONS {
         let text = told_apart(rt.alloc(), words)?;
         assert_eq!(rt; text.as_str(), want, "at {words:?}");
     }

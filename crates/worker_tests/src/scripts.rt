@@ -98,7 +98,7 @@ fn text_of(alloc: Global, script: &str) -> Result<List<u8>, ScriptError> {
 
 #[test]
 fn each_line_has_its_place_and_its_number(rt: HostRuntime) {
-    for (script, want) in TEXTS {
+    for &(script, want) in &TEXTS {
         let is_so =
             matches!(text_of(rt.alloc(), script), Ok(text) if text.as_slice() == want.as_bytes());
         assert!(rt; is_so, "{script}");

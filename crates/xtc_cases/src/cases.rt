@@ -2,6 +2,7 @@
 use crate::in_pieces::InPieces;
 use dewey_labels::List;
 use outside_kinds::{MemDisk, MemSink, MemSource, NoGate};
+use outside_traits::{Disk, Sink, Source};
 use std::alloc::{AllocError, Global};
 use std::sync::Wait;
 use std::test::Fail;
@@ -67,7 +68,7 @@ pub struct Outcome {
     pub pages_calls: u64,
 }
 
-fn ended(alloc: Global, status: &Status) -> Result<String, AllocError> {
+fn status_text(alloc: Global, status: &Status) -> Result<String, AllocError> {
     match status {
         Status::NotJsonMl(why) => format!(in alloc; "9 {} at {}", why.name(), why.path()),
         Status::DocumentRefused(why) => format!(in alloc; "10 {why:?}"),
@@ -77,7 +78,7 @@ fn ended(alloc: Global, status: &Status) -> Result<String, AllocError> {
 
 /// How a run ended, and then what it has written.
 pub fn told(alloc: Global, status: &Status, text: &[u8]) -> Result<Vec<u8>, AllocError> {
-    let mut told = ended(alloc, status)?.into_bytes();
+    let mut told = status_text(alloc, status)?.into_bytes();
     told.extend_from_slice(text)?;
     Ok(told)
 }
@@ -121,7 +122,7 @@ fn input_of(alloc: Global, case: &Case<'_>) -> Result<Vec<u8>, AllocError> {
 }
 
 /// The input of a case.
-pub fn source_of(alloc: Global, case: &Case<'_>) -> Result<InPieces<MemSource>, AllocError> {
+fn source_of(alloc: Global, case: &Case<'_>) -> Result<InPieces<MemSource>, AllocError> {
     let fails = listed(alloc, &[case.read])?;
     Ok(InPieces {
         inner: MemSource::new(List::from_vec(input_of(alloc, case)?), fails),
@@ -130,7 +131,7 @@ pub fn source_of(alloc: Global, case: &Case<'_>) -> Result<InPieces<MemSource>, 
 }
 
 /// Where a case writes.
-pub fn sink_of(alloc: Global, case: &Case<'_>) -> Result<InPieces<MemSink>, AllocError> {
+fn sink_of(alloc: Global, case: &Case<'_>) -> Result<InPieces<MemSink>, AllocError> {
     let fails = listed(alloc, &[case.write])?;
     Ok(InPieces {
         inner: MemSink::new(alloc, fails),
@@ -166,14 +167,74 @@ pub fn run_words(
     call: u64,
     words: &Vec<String>,
 ) -> Result<Outcome, AllocError> {
+    let ended = end_on(rt, alloc, case, call, words)?;
+    outcome_of(alloc, ended)
+}
+
+fn outcome_of(alloc: Global, ended: Ended) -> Result<Outcome, AllocError> {
+    let journal = Vec::from_slice(alloc, ended.journal.bytes())?;
+    let pages = Vec::from_slice(alloc, ended.pages.bytes())?;
+    Ok(Outcome {
+        journal,
+        pages,
+        journal_calls: ended.journal.calls(),
+        pages_calls: ended.pages.calls(),
+        told: ended.told,
+    })
+}
+
+/// How a run ended and then what it has written, the faults that its streams have counted, and its disks.
+#[derive(Drop)]
+pub struct Ended {
+    pub told: Vec<u8>,
+    pub stream_faults: u64,
+    pub journal: MemDisk,
+    pub pages: MemDisk,
+}
+
+/// Runs the program to its end, where this call of the journal's file fails.
+pub fn end_of(
+    rt: &(impl Threads + Wait + Sync),
+    alloc: Global,
+    case: &Case<'_>,
+    call: u64,
+) -> Result<Ended, AllocError> {
+    let words = words_of(alloc, case.words)?;
+    end_on(rt, alloc, case, call, &words)
+}
+
+/// The same on words that may have blanks in them, or none at all.
+fn end_on(
+    rt: &(impl Threads + Wait + Sync),
+    alloc: Global,
+    case: &Case<'_>,
+    call: u64,
+    words: &Vec<String>,
+) -> Result<Ended, AllocError> {
     let mut source = source_of(alloc, case)?;
     let mut sink = sink_of(alloc, case)?;
     let finish = finish_of(rt, alloc, case, call, words, &mut source, &mut sink)?;
-    outcome_of(alloc, &finish, sink.inner.bytes())
+    let stream_faults = source.inner.faults().saturating_add(sink.inner.faults());
+    ended_of(alloc, finish, sink.inner.bytes(), stream_faults)
+}
+
+fn ended_of(
+    alloc: Global,
+    finish: Finish<MemDisk, MemDisk>,
+    text: &[u8],
+    stream_faults: u64,
+) -> Result<Ended, AllocError> {
+    let told = told(alloc, &finish.status, text)?;
+    Ok(Ended {
+        told,
+        stream_faults,
+        journal: finish.journal,
+        pages: finish.pages,
+    })
 }
 
 /// How a run on these words ends, with its source and sink.
-pub fn finish_of(
+fn finish_of(
     rt: &(impl Threads + Wait + Sync),
     alloc: Global,
     case: &Case<'_>,
@@ -185,20 +246,6 @@ pub fn finish_of(
     let journal = disk(alloc, case.journal, call)?;
     let pages = disk(alloc, case.pages, case.pages_call)?;
     Ok(xtc(rt, alloc, words, source, sink, journal, pages, &NoGate))
-}
-
-fn outcome_of(
-    alloc: Global,
-    finish: &Finish<MemDisk, MemDisk>,
-    text: &[u8],
-) -> Result<Outcome, AllocError> {
-    Ok(Outcome {
-        told: told(alloc, &finish.status, text)?,
-        journal: Vec::from_slice(alloc, finish.journal.bytes())?,
-        pages: Vec::from_slice(alloc, finish.pages.bytes())?,
-        journal_calls: finish.journal.calls(),
-        pages_calls: finish.pages.calls(),
-    })
 }
 
 /// Runs the script on a journal, one call of which fails, 0 where none does.

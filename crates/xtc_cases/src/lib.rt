@@ -10,9 +10,8 @@ mod scripts;
 mod session_scripts;
 
 pub use cases::{
-    CUT, Case, NEW, NO_DOCUMENT, Outcome, PLAIN, SIXTY, behind_opening, disk, finish_of, listed,
-    run, run_case, run_case_on, run_cases, run_on, run_words, sink_of, source_of, told, words_of,
-    written_out,
+    CUT, Case, Ended, NEW, NO_DOCUMENT, Outcome, PLAIN, SIXTY, behind_opening, disk, end_of,
+    listed, run, run_case, run_case_on, run_cases, run_on, run_words, told, words_of, written_out,
 };
 pub use in_pieces::InPieces;
 pub use page_files::{in_pages, texts_in_pages, x_in_pages};

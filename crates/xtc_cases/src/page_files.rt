@@ -1,9 +1,8 @@
 //! Page files: those that a store's tree is cut into, and one as docs/FILE_FORMAT.md has it.
 use crate::cases::{Case, PLAIN, disk, run_case};
 use node_pages::{Cut, PAGE_BYTES, Page, cut_pages};
-use outside_kinds::MemDisk;
+use node_seq::NodeRead;
 use overlays::Stacked;
-use paged_seq::PagedSeq;
 use recovery::open_store;
 use std::alloc::{AllocError, Global};
 use std::sync::Wait;
@@ -15,13 +14,16 @@ pub fn in_pages(alloc: Global, journal: &[u8], pages: &[u8]) -> Result<Vec<u8>, 
     let journal = disk(alloc, journal, 0)?;
     let pages = disk(alloc, pages, 0)?;
     match open_store(alloc, journal, pages, 2) {
-        Ok(store) => cut(alloc, Stacked::new(store.base, store.layers), store.number),
+        Ok(store) => {
+            let mut map = Stacked::new(store.base, store.layers);
+            cut(alloc, &mut map, store.number)
+        }
         Err(_refused) => Err(Fail::from("the store isn't opened")),
     }
 }
 
-fn cut(alloc: Global, mut map: Stacked<PagedSeq<MemDisk>>, number: u32) -> Result<Vec<u8>, Fail> {
-    match cut_pages(alloc, &mut map, number)? {
+fn cut<S: NodeRead>(alloc: Global, map: &mut S, number: u32) -> Result<Vec<u8>, Fail> {
+    match cut_pages(alloc, map, number)? {
         Cut::Pages(pages) => Ok(joined(alloc, pages.as_slice())?),
         Cut::TooMany { .. } => Err(Fail::from("the tree has too many pages")),
     }

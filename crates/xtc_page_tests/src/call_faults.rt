@@ -1,15 +1,12 @@
 //! One call of the input, of the replies, of the journal or of the page file fails, each in turn from the opening on: the run ends with that fault,
 //! behind a beginning of its usual text.
-use outside_traits::{Disk, Sink, Source};
+use outside_traits::Disk;
 use std::alloc::{AllocError, Global};
 use std::process::Abort;
 use std::sync::Wait;
 use std::test::Fail;
 use std::thread::Threads;
-use xtc_cases::{
-    Case, NEW, PLAIN, SESSION_SCRIPTS, SIXTY, finish_of, lines_of_row, sink_of, source_of, told,
-    words_of,
-};
+use xtc_cases::{Case, Ended, NEW, PLAIN, SESSION_SCRIPTS, SIXTY, end_of, lines_of_row};
 
 /// Whose call fails.
 #[derive(Clone, Copy)]
@@ -53,49 +50,32 @@ fn failing<'a>(case: &Case<'a>, end: End, call: u64) -> Case<'a> {
     }
 }
 
-/// How a run ends and what it has written, and how many of its calls failed.
-#[derive(Drop)]
-struct Ended {
-    told: Vec<u8>,
-    faults: u64,
-}
-
-fn run_to_end(
-    rt: &(impl Abort + Threads + Wait + Sync),
-    alloc: Global,
-    case: &Case<'_>,
-) -> Result<Ended, AllocError> {
-    let words = words_of(alloc, case.words)?;
-    let mut source = source_of(alloc, case)?;
-    let mut sink = sink_of(alloc, case)?;
-    let finish = finish_of(
-        rt,
-        alloc,
-        case,
-        case.journal_call,
-        &words,
-        &mut source,
-        &mut sink,
-    )?;
-    let of_streams = source.inner.faults().saturating_add(sink.inner.faults());
-    let of_disks = finish
-        .journal
-        .faults()
-        .saturating_add(finish.pages.faults());
-    Ok(Ended {
-        told: told(alloc, &finish.status, sink.inner.bytes())?,
-        faults: of_streams.saturating_add(of_disks),
-    })
+/// How many calls of a run failed.
+fn faults_of(ended: &Ended) -> u64 {
+    let of_disks = ended.journal.faults().saturating_add(ended.pages.faults());
+    ended.stream_faults.saturating_add(of_disks)
 }
 
 /// Whether a run ends as it should: as usual where no call failed, and otherwise with this status behind a beginning of its usual text.
 fn is_right(ended: &Ended, status: &str, usual: &[u8]) -> bool {
-    let is_whole = ended.faults == 0;
+    let is_whole = faults_of(ended) == 0;
     let wanted = if is_whole { "0 " } else { status };
     match ended.told.strip_prefix(wanted.as_bytes()) {
         Some(text) => usual.starts_with(text) && (!is_whole || text.len() == usual.len()),
         None => false,
     }
+}
+
+/// This call of one of them fails: whether the run ends as it should, and whether it made that call.
+fn call_fails(
+    rt: &(impl Abort + Threads + Wait + Sync),
+    alloc: Global,
+    case: &Case<'_>,
+    status: &str,
+    usual: &[u8],
+) -> Result<(bool, bool), AllocError> {
+    let ended = end_of(rt, alloc, case, case.journal_call)?;
+    Ok((is_right(&ended, status, usual), faults_of(&ended) > 0))
 }
 
 /// Each call of one of them fails, until a run has no more of these.
@@ -108,17 +88,25 @@ fn each_call_fails(
     usual: &[u8],
 ) -> Result<(), Fail> {
     for call in 1..=MOST_CALLS {
-        let ended = run_to_end(rt, alloc, &failing(case, end, call))?;
-        assert!(rt;
-            is_right(&ended, status, usual),
-            "{} at call {call}: not {status}",
-            case.words
-        );
-        if ended.faults == 0 {
+        let (is_right, is_made) = call_fails(rt, alloc, &failing(case, end, call), status, usual)?;
+        assert!(rt; is_right, "{} at call {call}: not {status}", case.words);
+        if !is_made {
             return Ok(());
         }
     }
     Err(Fail::from("a run makes more calls than it should"))
+}
+
+fn all_ends_fail(
+    rt: &(impl Abort + Threads + Wait + Sync),
+    alloc: Global,
+    case: &Case<'_>,
+    usual: &[u8],
+) -> Result<(), Fail> {
+    for &(end, status) in &ENDS {
+        each_call_fails(rt, alloc, case, end, status, usual)?;
+    }
+    Ok(())
 }
 
 fn each_end_fails(
@@ -126,14 +114,11 @@ fn each_end_fails(
     alloc: Global,
     case: &Case<'_>,
 ) -> Result<(), Fail> {
-    let whole = run_to_end(rt, alloc, case)?;
-    let Some(usual) = whole.told.strip_prefix(b"0 ") else {
-        return Err(Fail::from("a run of which no call fails doesn't end well"));
-    };
-    for (end, status) in ENDS {
-        each_call_fails(rt, alloc, case, end, status, usual)?;
+    let whole = end_of(rt, alloc, case, case.journal_call)?.told;
+    match whole.strip_prefix(b"0 ") {
+        Some(usual) => all_ends_fail(rt, alloc, case, usual),
+        None => Err(Fail::from("a run of which no call fails doesn't end well")),
     }
-    Ok(())
 }
 
 /// Two transactions that create the documents x and y.

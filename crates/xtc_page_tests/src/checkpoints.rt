@@ -7,8 +7,8 @@ use std::sync::Wait;
 use std::test::Fail;
 use std::thread::Threads;
 use xtc_cases::{
-    Case, NEW, Outcome, PLAIN, SESSION_SCRIPTS, behind_opening, finish_of, in_pages, lines_of_row,
-    run, sink_of, source_of, told, words_of,
+    Case, Ended, NEW, Outcome, PLAIN, SESSION_SCRIPTS, behind_opening, end_of, in_pages,
+    lines_of_row, run,
 };
 
 /// A command on a store without a byte, the same with checkpoints, and how the files then begin: page 0 up to its base, and the journal up to its first
@@ -212,32 +212,34 @@ const SCRIPTS: [Stopped; 2] = [
     },
 ];
 
-/// What each of its commits leaves, from none on, as pages: the first call of the next one fails, where there are no checkpoints.
+/// What so many of its commits leave, as pages: the first call of the next one fails, where there are no checkpoints.
+fn prefix(
+    rt: &(impl Abort + Threads + Wait + Sync),
+    alloc: Global,
+    row: &Stopped,
+    commits: u64,
+) -> Result<Vec<u8>, Fail> {
+    let case = Case {
+        input: row.input,
+        journal: NEW,
+        ..PLAIN
+    };
+    let next = behind_opening(rt, alloc, NEW, commits.saturating_mul(4).saturating_add(1))?;
+    let left = run(rt, alloc, &case, next)?;
+    in_pages(alloc, &left.journal, b"")
+}
+
+/// What each of its commits leaves, from none on.
 fn prefixes(
     rt: &(impl Abort + Threads + Wait + Sync),
     alloc: Global,
     row: &Stopped,
 ) -> Result<Vec<Vec<u8>>, Fail> {
     let mut found = Vec::new(alloc);
-    let case = Case {
-        input: row.input,
-        journal: NEW,
-        ..PLAIN
-    };
     for commits in 0..=row.pieces.len() as u64 {
-        let next = behind_opening(rt, alloc, NEW, commits.saturating_mul(4).saturating_add(1))?;
-        let left = run(rt, alloc, &case, next)?;
-        found.push(in_pages(alloc, &left.journal, b"")?)?;
+        found.push(prefix(rt, alloc, row, commits)?)?;
     }
     Ok(found)
-}
-
-/// How a run ended and what it has written, and its disks.
-#[derive(Drop)]
-struct Left {
-    told: Vec<u8>,
-    journal: MemDisk,
-    pages: MemDisk,
 }
 
 /// A run of which one call of a disk fails, 0 where none does.
@@ -247,7 +249,7 @@ fn left_by(
     row: &Stopped,
     journal_call: u64,
     pages_call: u64,
-) -> Result<Left, AllocError> {
+) -> Result<Ended, AllocError> {
     let case = Case {
         words: row.words,
         input: row.input,
@@ -256,23 +258,7 @@ fn left_by(
         pages_call,
         ..PLAIN
     };
-    let words = words_of(alloc, case.words)?;
-    let mut source = source_of(alloc, &case)?;
-    let mut sink = sink_of(alloc, &case)?;
-    let finish = finish_of(
-        rt,
-        alloc,
-        &case,
-        journal_call,
-        &words,
-        &mut source,
-        &mut sink,
-    )?;
-    Ok(Left {
-        told: told(alloc, &finish.status, sink.inner.bytes())?,
-        journal: finish.journal,
-        pages: finish.pages,
-    })
+    end_of(rt, alloc, &case, journal_call)
 }
 
 /// How many commits are answered in what a run has written before its disk failed, if it is a prefix of these pieces.
@@ -321,6 +307,58 @@ fn alone(alloc: Global, file: &[u8]) -> Result<List<List<u8>>, NoMemory> {
     Ok(files)
 }
 
+/// What a stop in this call of the journal's disk leaves holds, beside these pages.
+fn journals_hold(
+    rt: &(impl Abort + Threads + Wait + Sync),
+    alloc: Global,
+    prefixes: &[Vec<u8>],
+    commits: usize,
+    journal: &MemDisk,
+    call: u64,
+    pages: &[u8],
+) -> Result<(), Fail> {
+    let journals = journal.stop_images(alloc, call)?;
+    let pages = alone(alloc, pages)?;
+    all_hold(
+        rt,
+        alloc,
+        prefixes,
+        commits,
+        journals.as_slice(),
+        pages.as_slice(),
+    )
+}
+
+/// The same of the page file's disk, beside this journal.
+fn pages_hold(
+    rt: &(impl Abort + Threads + Wait + Sync),
+    alloc: Global,
+    prefixes: &[Vec<u8>],
+    commits: usize,
+    pages: &MemDisk,
+    call: u64,
+    journal: &[u8],
+) -> Result<(), Fail> {
+    let pages = pages.stop_images(alloc, call)?;
+    let journal = alone(alloc, journal)?;
+    all_hold(
+        rt,
+        alloc,
+        prefixes,
+        commits,
+        journal.as_slice(),
+        pages.as_slice(),
+    )
+}
+
+/// How many commits a run has answered before its disk failed.
+fn answered_by(row: &Stopped, failed: &Ended) -> Result<usize, Fail> {
+    match answered(row.pieces, &failed.told) {
+        Some(commits) => Ok(commits),
+        None => Err(Fail::from("a failing call of a disk isn't told as it should")),
+    }
+}
+
 /// A stop in a call of the journal's disk, and one behind it where it fails, beside the pages of then.
 fn stop_of_journal(
     rt: &(impl Abort + Threads + Wait + Sync),
@@ -331,28 +369,11 @@ fn stop_of_journal(
     call: u64,
 ) -> Result<(), Fail> {
     let failed = left_by(rt, alloc, row, call, 0)?;
-    let Some(commits) = answered(row.pieces, &failed.told) else {
-        return Err(Fail::from("a failing call of the journal isn't told as it should"));
-    };
-    let pages = alone(alloc, failed.pages.bytes())?;
-    let within = whole.stop_images(alloc, call)?;
-    all_hold(
-        rt,
-        alloc,
-        prefixes,
-        commits,
-        within.as_slice(),
-        pages.as_slice(),
-    )?;
-    let behind = failed.journal.stop_images(alloc, call.saturating_add(1))?;
-    all_hold(
-        rt,
-        alloc,
-        prefixes,
-        commits,
-        behind.as_slice(),
-        pages.as_slice(),
-    )
+    let commits = answered_by(row, &failed)?;
+    let pages = failed.pages.bytes();
+    journals_hold(rt, alloc, prefixes, commits, whole, call, pages)?;
+    let behind = call.saturating_add(1);
+    journals_hold(rt, alloc, prefixes, commits, &failed.journal, behind, pages)
 }
 
 /// The same of the page file's disk, beside the journal of then.
@@ -365,31 +386,30 @@ fn stop_of_pages(
     call: u64,
 ) -> Result<(), Fail> {
     let failed = left_by(rt, alloc, row, 0, call)?;
-    let Some(commits) = answered(row.pieces, &failed.told) else {
-        return Err(Fail::from("a failing call of the page file isn't told as it should"));
-    };
-    let journal = alone(alloc, failed.journal.bytes())?;
-    let within = whole.stop_images(alloc, call)?;
-    all_hold(
-        rt,
-        alloc,
-        prefixes,
-        commits,
-        journal.as_slice(),
-        within.as_slice(),
-    )?;
-    let behind = failed.pages.stop_images(alloc, call.saturating_add(1))?;
-    all_hold(
-        rt,
-        alloc,
-        prefixes,
-        commits,
-        journal.as_slice(),
-        behind.as_slice(),
-    )
+    let commits = answered_by(row, &failed)?;
+    let journal = failed.journal.bytes();
+    pages_hold(rt, alloc, prefixes, commits, whole, call, journal)?;
+    let behind = call.saturating_add(1);
+    pages_hold(rt, alloc, prefixes, commits, &failed.pages, behind, journal)
 }
 
 /// Each call of both disks of a run, those of its opening too.
+fn stops_of(
+    rt: &(impl Abort + Threads + Wait + Sync),
+    alloc: Global,
+    row: &Stopped,
+    prefixes: &[Vec<u8>],
+    whole: &Ended,
+) -> Result<(), Fail> {
+    for call in 1..=whole.journal.calls() {
+        stop_of_journal(rt, alloc, row, prefixes, &whole.journal, call)?;
+    }
+    for call in 1..=whole.pages.calls() {
+        stop_of_pages(rt, alloc, row, prefixes, &whole.pages, call)?;
+    }
+    Ok(())
+}
+
 fn run_stopped(
     rt: &(impl Abort + Threads + Wait + Sync),
     alloc: Global,
@@ -397,13 +417,7 @@ fn run_stopped(
 ) -> Result<(), Fail> {
     let prefixes = prefixes(rt, alloc, row)?;
     let whole = left_by(rt, alloc, row, 0, 0)?;
-    for call in 1..=whole.journal.calls() {
-        stop_of_journal(rt, alloc, row, &prefixes, &whole.journal, call)?;
-    }
-    for call in 1..=whole.pages.calls() {
-        stop_of_pages(rt, alloc, row, &prefixes, &whole.pages, call)?;
-    }
-    Ok(())
+    stops_of(rt, alloc, row, &prefixes, &whole)
 }
 
 #[test]

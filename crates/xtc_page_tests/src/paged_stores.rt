@@ -316,7 +316,7 @@ fn run_damaged(
     damage: &Damage,
 ) -> Result<(), Fail> {
     let pages = damaged(alloc, damage)?;
-    for words in WORDS {
+    for &words in &WORDS {
         let case = Case {
             words,
             input: "[\"b\"]",

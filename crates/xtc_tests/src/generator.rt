@@ -168,7 +168,7 @@ fn got_after(
 
 #[test]
 fn a_failed_disk_ends_it_and_the_commits_before_stay(rt: HostRuntime) -> Result<(), Fail> {
-    for (call, status, text) in FAILING {
+    for &(call, status, text) in &FAILING {
         got_after(&rt, rt.alloc(), call, status, text)?;
     }
     Ok(())
@@ -197,7 +197,7 @@ fn left(
     let mut sink = MemSink::new(alloc, List::new(alloc));
     let journal = MemDisk::new(List::new(alloc), List::new(alloc));
     let pages = MemDisk::new(List::new(alloc), List::new(alloc));
-    let finish = xtc(
+    let journal = xtc(
         rt,
         alloc,
         &words,
@@ -206,8 +206,9 @@ fn left(
         journal,
         pages,
         &NoGate,
-    );
-    Vec::from_slice(alloc, finish.journal.bytes())
+    )
+    .journal;
+    Vec::from_slice(alloc, journal.bytes())
 }
 
 #[test]

@@ -23,19 +23,29 @@ fn run<T: Threads + Wait + Sync>(
 ) -> Result<Vec<u8>, Fail> {
     let words = words_of(rt.alloc(), words)?;
     let mut source = source_of(rt.alloc(), input)?;
-    let mut sink = MemSink::new(rt.alloc(), List::new(rt.alloc()));
+    run_over(rt, threads, &words, &mut source)
+}
+
+fn run_over<T: Threads + Wait + Sync>(
+    rt: &HostRuntime,
+    threads: &T,
+    words: &Vec<String>,
+    source: &mut MemSource,
+) -> Result<Vec<u8>, Fail> {
     let StoreFiles { journal, pages } = StoreFiles::open(rt, &Streams::take(rt)?)?;
-    let finish = xtc(
+    let mut sink = MemSink::new(rt.alloc(), List::new(rt.alloc()));
+    let status = xtc(
         threads,
         rt.alloc(),
-        &words,
-        &mut source,
+        words,
+        source,
         &mut sink,
         journal,
         pages,
         &NoGate,
-    );
-    Ok(told(rt.alloc(), &finish.status, sink.bytes())?)
+    )
+    .status;
+    Ok(told(rt.alloc(), &status, sink.bytes())?)
 }
 
 /// What the journal begins with, and its length.

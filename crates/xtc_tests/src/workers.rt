@@ -153,7 +153,7 @@ fn work(
     let mut sink = MemSink::new(alloc, List::new(alloc));
     let journal = MemDisk::new(List::new(alloc), List::new(alloc));
     let pages = MemDisk::new(List::new(alloc), List::new(alloc));
-    let finish = xtc(
+    let status = xtc(
         rt,
         alloc,
         &words,
@@ -162,8 +162,9 @@ fn work(
         journal,
         pages,
         gate,
-    );
-    told(alloc, &finish.status, sink.bytes())
+    )
+    .status;
+    told(alloc, &status, sink.bytes())
 }
 
 /// Two sessions that read the documents of an empty store and commit.
@@ -252,14 +253,24 @@ fn is_there(
 /// How many calls a commit takes that is written alone: three writes, a sync, the gate, and a sync.
 const CALLS: u64 = 6;
 
+/// Whether a run whose journal's disk fails at a call tells so, and whether the documents x and y are there then.
+fn found_after(
+    rt: &(impl Abort + Threads + Wait + Sync),
+    alloc: Global,
+    call: u64,
+) -> Result<(bool, bool, bool), AllocError> {
+    let outcome = fails_at(rt, alloc, call)?;
+    let failed = outcome.told.as_slice() == b"7 xtc: disk failed".as_slice();
+    let x = is_there(rt, alloc, &outcome.journal, "get x")?;
+    let y = is_there(rt, alloc, &outcome.journal, "get y")?;
+    Ok((failed, x, y))
+}
+
 /// The first commit is durable before the second is written. Of the one whose call failed nothing is known.
 #[test]
 fn a_failed_disk_is_silent_and_leaves_the_first_commits(rt: HostRuntime) -> Result<(), Fail> {
     for call in 1..=2 * CALLS + 1 {
-        let outcome = fails_at(&rt, rt.alloc(), call)?;
-        let failed = outcome.told.as_slice() == b"7 xtc: disk failed".as_slice();
-        let x = is_there(&rt, rt.alloc(), &outcome.journal, "get x")?;
-        let y = is_there(&rt, rt.alloc(), &outcome.journal, "get y")?;
+        let (failed, x, y) = found_after(&rt, rt.alloc(), call)?;
         assert_eq!(rt; failed, call <= 2 * CALLS, "at call {call}");
         assert!(rt; x || (call <= CALLS && !y), "at call {call}");
         assert!(rt; y || failed, "at call {call}");

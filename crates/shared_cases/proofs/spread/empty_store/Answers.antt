@@ -2,7 +2,7 @@ use Rattle.std.proofs.Common.{◌∙◌, ap}
 use Rattle.turn_lock.proofs.Numbers.{all_there}
 use Rattle.turn_lock.specs.Turns.{has_number}
 use Rattle.shared_store.specs.Sessions.{SessionView}
-use Rattle.shared_tests.proofs.spread.empty_store.Goals as goal
+use Rattle.shared_cases.proofs.spread.empty_store.Goals as goal
 
 pub returns-in-Ok-new : goal.returns-in-Ok-new
 returns-in-Ok-new c =

@@ -6,9 +6,9 @@ use Rattle.node_seq.proofs.sorted_seq.SortedSeq.TheSendSync as seq
 use Rattle.shared_store.proofs.Sent.{session_send, store_sync}
 use Rattle.shared_store.specs.Sessions.{SessionView}
 use Rattle.turn_lock.specs.Turns.{merged}
-use Rattle.shared_tests.proofs.Numbers.{come_back}
-use Rattle.shared_tests.proofs.Sent.{op_send}
-use Rattle.shared_tests.proofs.spread.+fn-spread-join+arg2+spread.Goals as goal
+use Rattle.shared_cases.proofs.Numbers.{come_back}
+use Rattle.shared_cases.proofs.Sent.{op_send}
+use Rattle.shared_cases.proofs.spread.+fn-spread-join+arg2+spread.Goals as goal
 
 pub join-rest-requires-send-F : goal.join-rest-requires-send-F
 join-rest-requires-send-F g t c κs within = search (sendable, crosses, heap.the_send, session_send, store_sync, op_send, seq.the_send) depth 20

@@ -1,7 +1,7 @@
 use Rattle.std.proofs.Common.{◌∙◌, ap}
 use Rattle.turn_lock.specs.Turns.{has_number}
 use Rattle.shared_store.specs.Sessions.{SessionView}
-use Rattle.shared_tests.proofs.spread.store_with.Goals as goal
+use Rattle.shared_cases.proofs.spread.store_with.Goals as goal
 
 pub returns : goal.returns
 returns g c =
