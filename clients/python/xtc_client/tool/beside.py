@@ -9,7 +9,9 @@ from importlib.util import module_from_spec, spec_from_loader
 from pathlib import Path
 from typing import Any
 
-FOLDER = Path(__file__).with_name("beside")
+# Of an installed package they stand beside its modules, in the repository in tools/.
+INSTALLED = Path(__file__).with_name("beside")
+FOLDER = INSTALLED if INSTALLED.is_dir() else Path(__file__).resolve().parents[4] / "tools"
 
 
 @functools.cache
