@@ -131,7 +131,7 @@ module _ (empty : StandFor [] [] empty_tree 0) (name : Name) (every : ℕ) (o : 
         ap NotJsonMl (same_error (sym ran.end ∙ asks_none (ran.whole refl)))
     judged (DocumentRefused reason) leaves =
         let ran = ran_new (DocumentRefused reason) leaves in
-        let no : NotJsonMl why ≡ DocumentRefused reason = ap (end_of (put name) new_store) (sym (asks_none (ran.whole refl))) ∙ ran.end in absurd cc
+        let no : NotJsonMl why ≡ DocumentRefused reason = ap (end_of (put name) new_store) (sym (asks_none (ran.whole refl))) ∙ ran.end.end in absurd cc
     judged Usage leaves = absurd (ran_new Usage leaves).end
     judged (Damaged place) leaves = absurd (ran_new (Damaged place) leaves).end
 
