@@ -275,15 +275,17 @@ def text_of(position):
 
 
 class Tree:
-    """A document's tree, with a list of what was looked at: `at node 1.1001`, `at row 1.1001` .."""
+    """A document's tree, with a list of what was looked at, in the order of the first looks: `at node 1.1001`, `at row 1.1001` .."""
 
     def __init__(self, document):
-        self.document, self.looks, self.parents = document, [], {}
+        self.document, self.looks, self.looked, self.parents = document, [], set(), {}
         for node in document.all():
             self.parents.update((child.label, node) for child in node.children)
 
     def look(self, *what):
-        self.looks.append(what)
+        if what not in self.looked:
+            self.looked.add(what)
+            self.looks.append(what)
 
     def around(self, node):
         """The ancestors of a node, its parent first."""
