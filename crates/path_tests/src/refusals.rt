@@ -29,8 +29,8 @@ fn refused_so(alloc: Global, rows: &[(&str, &str)]) -> Result<(), Fail> {
     Ok(())
 }
 
-/// Paths: nothing is refused.
-const PATHS: [(&str, &str); 16] = [
+/// Paths, of which nothing is refused.
+const PATHS: [(&str, &str); 15] = [
     ("/", ""),
     (".", ""),
     ("..", ""),
@@ -43,7 +43,6 @@ const PATHS: [(&str, &str); 16] = [
     ("text()/node()", ""),
     ("a[1and 2]", ""),
     ("a[. = \"it's\"]", ""),
-    ("a[- -1 + +1]", "Syntax 9"),
     ("a[substring(., 1, 2) = concat('x', 'y', 'z')]", ""),
     ("a[count(//b[c]) > sum(@k)]", ""),
     ("a[999999999999999999]", ""),
@@ -191,7 +190,8 @@ fn what_the_profile_leaves_out_of_predicates_is_unsupported(rt: HostRuntime) -> 
 }
 
 /// Predicates that no expression of XPath 1.0 goes on with, and wrong counts of arguments.
-const SYNTAX: [(&str, &str); 28] = [
+const SYNTAX: [(&str, &str); 29] = [
+    ("a[- -1 + +1]", "Syntax 9"),
     ("a[$ x]", "Syntax 2"),
     ("a[b$c]", "Syntax 3"),
     ("a[count(b, c)]", "Syntax 9"),
