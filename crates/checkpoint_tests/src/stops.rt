@@ -207,7 +207,7 @@ type WrongStop = (u64, Result<(u32, u32), OpenError>);
 
 /// The first of all calls of the pages' disk in which a stop leaves another number than 2 beside this journal.
 fn wrong_stop_of_pages(alloc: Global, pages: &MemDisk, journal: &[u8]) -> Option<WrongStop> {
-    for call in 1..=pages.calls().min(100) {
+    for call in 1..=pages.calls() {
         let found = after_pages_stop(alloc, pages, call, journal);
         if found != Ok((2, 2)) {
             return Some((call, found));
@@ -218,7 +218,7 @@ fn wrong_stop_of_pages(alloc: Global, pages: &MemDisk, journal: &[u8]) -> Option
 
 /// The same of the journal's disk, beside these pages.
 fn wrong_stop_of_journal(alloc: Global, journal: &MemDisk, pages: &[u8]) -> Option<WrongStop> {
-    for call in 1..=journal.calls().min(100) {
+    for call in 1..=journal.calls() {
         let found = after_journal_stop(alloc, journal, call, pages);
         if found != Ok((2, 2)) {
             return Some((call, found));
@@ -266,6 +266,8 @@ fn wrong_stop_of_run(alloc: Global, store: &Disks) -> Option<WrongStop> {
 #[test]
 fn a_stop_at_each_call_of_a_checkpoint_leaves_its_tree(rt: HostRuntime) -> Result<(), Fail> {
     let whole = checkpointed(rt.alloc(), 0)?;
+    // Before the first write the pages' disk has one call; three pages are written, and synced.
+    assert_eq!(rt; (whole.journal.calls(), whole.pages.calls()), (20, 5));
     assert_eq!(rt; wrong_stop_of_run(rt.alloc(), &whole), None);
     // The second call of the pages' disk is the first write: where it fails the images are open.
     let unwritten = checkpointed(rt.alloc(), 2)?;
@@ -285,6 +287,8 @@ fn a_stop_at_each_call_of_an_opening_that_finishes_leaves_the_tree(
         unwritten.pages.bytes(),
     )?;
     assert_eq!(rt; finished.store, Ok((2, 4)));
+    // At least a sync, a length, a read and the reset's two calls of the journal; of the pages a sync, a length, three writes and a sync.
+    assert!(rt; finished.journal.calls() >= 5 && finished.pages.calls() >= 6);
     let of_pages = wrong_stop_of_pages(rt.alloc(), &finished.pages, unwritten.journal.bytes());
     assert_eq!(rt; of_pages, None);
     let of_journal = wrong_stop_of_journal(rt.alloc(), &finished.journal, finished.pages.bytes());

@@ -185,23 +185,31 @@ fn is_lawful(left: &Left) -> bool {
         && answers.acknowledged.saturating_add(refused) == ALL
 }
 
-/// More calls of the journal's disk than all commits make.
+/// The first call of the journal's disk behind those that make a new journal.
+const FIRST_OF_COMMITS: u64 = 8;
+
+/// More calls of it than all commits make.
 const MOST_CALLS: u64 = 1_000;
 
-/// Each call of the journal's disk fails in turn, until there is none to fail.
+/// The last call that each run makes: a member's second commit is behind its first, so there are two batches, each of six calls.
+const IN_EACH_RUN: u64 = 19;
+
+/// Each of these calls fails in turn, until there is none to fail.
 #[test]
 fn nothing_acknowledged_is_missing_whichever_call_fails(rt: HostRuntime) {
-    for fails in 1..MOST_CALLS {
-        if let Ok(left) = commit_in_threads(&rt, rt.alloc(), fails) {
-            assert!(rt;
-                is_lawful(&left),
-                "call {fails} fails: {:?} and {} in the file",
-                left.answers,
-                left.numbers.len()
-            );
-            if left.answers.acknowledged == ALL {
-                return;
-            }
+    for fails in FIRST_OF_COMMITS..MOST_CALLS {
+        let Ok(left) = commit_in_threads(&rt, rt.alloc(), fails) else {
+            panic!(rt; "call {fails} fails: what is left isn't opened");
+        };
+        assert!(rt;
+            is_lawful(&left),
+            "call {fails} fails: {:?} and {} in the file",
+            left.answers,
+            left.numbers.len()
+        );
+        if left.answers.acknowledged == ALL {
+            assert!(rt; fails > IN_EACH_RUN, "call {fails} isn't made");
+            return;
         }
     }
     panic!(rt; "a call failed each time");

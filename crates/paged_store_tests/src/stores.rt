@@ -311,29 +311,35 @@ fn disks_of_two(
     Ok((journal, pages))
 }
 
-/// Whether a fault is answered where one disk has counted one, and the other none; or none is where neither has.
-fn is_answered(left: &Left, of_journal: bool) -> bool {
-    let wanted = if of_journal { (1, 0) } else { (0, 1) };
-    let counted = (left.journal.faults(), left.pages.faults());
-    if left.found.is_ok() {
-        counted == (0, 0)
-    } else {
-        left.found == Err(OpenError::DiskFault) && counted == wanted
-    }
-}
-
-/// Whether an opening with one failing call of a disk is answered as a fault, or made no such call.
-fn answers_fault(alloc: Global, of_journal: bool, call: u64) -> Result<bool, NoMemory> {
+/// What a store whose disks have one failing call, of the journal's or of the pages', opens as, and the faults that each disk counts.
+fn with_a_failing_call(
+    alloc: Global,
+    of_journal: bool,
+    call: u64,
+) -> Result<(Result<(u32, usize), OpenError>, u64, u64), NoMemory> {
     let (first, second) = if of_journal { (call, 0) } else { (0, call) };
     let (journal, pages) = disks_of_two(alloc, first, second)?;
-    Ok(is_answered(&left_by(alloc, journal, pages), of_journal))
+    let left = left_by(alloc, journal, pages);
+    Ok((left.found, left.journal.faults(), left.pages.faults()))
 }
+
+/// Whether the disk is the journal's, how many calls of it an opening makes (of the pages its sync, their length, page 0 for the base, and the three pages),
+/// and what is counted where one of them fails.
+const CALLS: [(bool, u64, (u64, u64)); 2] = [(true, 4, (1, 0)), (false, 6, (0, 1))];
 
 #[test]
 fn a_failing_call_of_either_disk_is_answered_as_a_fault(rt: HostRuntime) -> Result<(), Fail> {
-    for call in 1..12 {
-        assert_eq!(rt; answers_fault(rt.alloc(), true, call), Ok(true));
-        assert_eq!(rt; answers_fault(rt.alloc(), false, call), Ok(true));
+    for &(of_journal, calls, (journal, pages)) in &CALLS {
+        for call in 1..=calls {
+            let found = with_a_failing_call(rt.alloc(), of_journal, call)?;
+            assert_eq!(rt;
+                found,
+                (Err(OpenError::DiskFault), journal, pages),
+                "at call {call}"
+            );
+        }
+        let all = with_a_failing_call(rt.alloc(), of_journal, calls.saturating_add(1))?;
+        assert_eq!(rt; all, (Ok((2, 4)), 0, 0), "behind all");
     }
     Ok(())
 }

@@ -417,6 +417,9 @@ fn run_stopped(
 ) -> Result<(), Fail> {
     let prefixes = prefixes(rt, alloc, row)?;
     let whole = left_by(rt, alloc, row, 0, 0)?;
+    // A commit makes six calls of the journal's disk; of the pages' an opening looks at the length, and a checkpoint writes and syncs.
+    let of_commits = row.pieces.len().saturating_mul(6) as u64;
+    assert!(rt; whole.journal.calls() >= of_commits && whole.pages.calls() >= 3);
     stops_of(rt, alloc, row, &prefixes, &whole)
 }
 
