@@ -1,6 +1,6 @@
 -- What the clauses of `xtc` say of a whole script over two empty files.
-use Rattle.std.proofs.Common.{◌≡◌, ◌⊎◌, Bool, true≢false, inl, inr, ℕ, ◌+◌, ◌≤◌, List, [], ◌++◌, length, take, drop, Option, Some, None, Result, Ok, Err, refl, sym, ap, subst, ◌∙◌, arith}
-use Rattle.std.specs.Prelude.{IfSome, is_some, true}
+use Rattle.std.proofs.Common.{◌≡◌, ◌⊎◌, Bool, inl, inr, ℕ, ◌+◌, ◌≤◌, List, [], ◌++◌, length, take, drop, Option, Some, None, Result, Ok, Err, refl, sym, ap, subst, ◌∙◌, arith}
+use Rattle.std.specs.Prelude.{IfSome}
 use Rattle.std.specs.Option.{option_map}
 use Rattle.std.proofs.lemmas.List.{append-nil, append_assoc, take_all, take-take, take-append-drop, length-take}
 use Rattle.std.proofs.lemmas.Option.{same_Some}
@@ -13,9 +13,7 @@ use Rattle.tree_model.specs.Entries.{Entries}
 use Rattle.tree_model.specs.Tree.{Tree, empty_tree, map_of}
 use Rattle.tree_model.proofs.SameMaps.{same_tree}
 use Rattle.node_records.specs.declared.open_error.Place.{Place}
-use Rattle.journal.specs.Appends.{groups_read}
 use Rattle.journal.specs.Journals.{read}
-use Rattle.journal.specs.declared.group.Groups.{Groups}
 use Rattle.store_contents.specs.Contents.{Contents, contents_of_files}
 use Rattle.recovery.specs.Openings.{RefusesPages}
 use Rattle.store_contents.specs.StoredTrees.{StandFor, StoodFor}
