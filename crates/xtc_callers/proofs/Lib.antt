@@ -1,2 +1,3 @@
 pub mod NewDocumentLaws
 pub mod NewStoreLaws
+pub mod NewWorkersLaws

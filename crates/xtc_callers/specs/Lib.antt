@@ -1,2 +1,3 @@
 pub mod NewDocuments
 pub mod NewStores
+pub mod NewWorkers
