@@ -1,3 +1,4 @@
 pub mod NewDocumentLaws
 pub mod NewStoreLaws
 pub mod NewWorkersLaws
+pub mod NewGeneratedLaws

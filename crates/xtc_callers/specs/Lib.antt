@@ -1,3 +1,4 @@
 pub mod NewDocuments
 pub mod NewStores
 pub mod NewWorkers
+pub mod NewGenerated
