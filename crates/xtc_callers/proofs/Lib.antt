@@ -2,3 +2,4 @@ pub mod NewDocumentLaws
 pub mod NewStoreLaws
 pub mod NewWorkersLaws
 pub mod NewGeneratedLaws
+pub mod QueriesLaws

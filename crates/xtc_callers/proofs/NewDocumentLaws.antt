@@ -65,15 +65,15 @@ same_error : {e f : FragmentError} → no_asks e ≡ no_asks f → e ≡ f
 same_error is = cc
 
 -- what was asked
-abbrev asked_in : Result (List (Asked StoreCall)) Status → List (Asked StoreCall)
+abbrev pub asked_in : Result (List (Asked StoreCall)) Status → List (Asked StoreCall)
 asked_in (Ok asked) = asked
 asked_in (Err why) = []
 
-none_is_no_reason : (r : Option Reason) (why : Reason) → r ≡ None → r ≡ Some why → ⊥
+pub none_is_no_reason : (r : Option Reason) (why : Reason) → r ≡ None → r ≡ Some why → ⊥
 none_is_no_reason r why none some = let no : None ≡ Some why = sym none ∙ some in cc
 
 -- no reason was found where it ends well
-no_reason : (r : Option Reason) → end_by r ≡ Done → r ≡ None
+pub no_reason : (r : Option Reason) → end_by r ≡ Done → r ≡ None
 no_reason None is = refl
 no_reason (Some why) is = absurd cc
 

@@ -2,3 +2,4 @@ pub mod NewDocuments
 pub mod NewStores
 pub mod NewWorkers
 pub mod NewGenerated
+pub mod Queries
