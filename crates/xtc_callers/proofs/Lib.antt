@@ -1,3 +1,4 @@
+pub mod InPagesLaws
 pub mod NewDocumentLaws
 pub mod NewStoreLaws
 pub mod NewWorkersLaws

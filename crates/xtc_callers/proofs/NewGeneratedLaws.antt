@@ -1,11 +1,12 @@
 -- What the clauses of `xtc` say of the generator's script over two empty files.
-use Rattle.std.proofs.Common.{◌≡◌, ℕ, ◌+◌, ◌≤◌, List, [], length, take, Option, Some, None, Result, Ok, Err, refl, sym, ap, subst, ◌∙◌, arith}
+use Rattle.std.proofs.Common.{◌≡◌, IsTrue, ℕ, ◌+◌, ◌≤◌, List, [], length, take, Option, Some, None, Result, Ok, Err, refl, sym, ap, subst, ◌∙◌, arith}
 use Rattle.std.proofs.lemmas.List.{take_all}
 use Rattle.std.proofs.lemmas.Option.{same_Some}
 use Rattle.outside_traits.specs.DiskPairs.{Pair}
 use Rattle.tree_model.specs.Tree.{Tree, empty_tree}
 use Rattle.store_contents.specs.StoredTrees.{StandFor}
 use Rattle.call_contract.specs.Books.{Book, IsSerial, commits}
+use Rattle.call_contract.specs.States.{start}
 use Rattle.call_contract.specs.SerialRuns.{serial}
 use Rattle.command_lines.specs.declared.command.StoreCall.{StoreCall}
 use Rattle.command_words.specs.Commands.{Command, gen}
@@ -16,11 +17,14 @@ use Rattle.session_driver.specs.Progress.{Progress}
 use Rattle.store_calls.specs.StoreCalls.{store_meaning}
 use Rattle.workload_gen.specs.Scripts.{script}
 use Rattle.xtc.specs.Book.{after_asked}
+use Rattle.xtc.specs.Checkpoints.{AreMade, is_positive}
 use Rattle.xtc.specs.Documents.{end_by}
 use Rattle.xtc.specs.Generated.{generated}
 use Rattle.xtc.specs.TopCall.{DocumentRan, Leaves, OpenAfterAsked, OpenedStoreLeaves, Outcome, tx_limit}
 use Rattle.xtc.specs.declared.status.Status.{Status}
 use Rattle.xtc.specs.declared.status.Status.TheVariants.{Done, DocumentRefused}
+use Rattle.xtc_callers.specs.InPages.{HoldAllWhereDue}
+use Rattle.xtc_callers.proofs.InPagesLaws.{held_by_gen}
 use Rattle.xtc_callers.specs.NewGenerated.{GenDone, GenRefused, generated_new}
 use Rattle.xtc_callers.specs.NewStores.{StandForCommits, new_store}
 use Rattle.xtc_callers.proofs.NewStoreLaws.{alone, took_all}
@@ -56,7 +60,21 @@ module _ (empty : StandFor [] [] empty_tree 0) (seed count : ℕ) (every : ℕ) 
       let is = alone empty leaves.tree leaves.number stood in
       subst (λ (x : Tree × ℕ). DocumentRan x.0 x.1 tx_limit (gen seed count) status leaves.opening o) (λ i. (is.0 i, is.1 i)) leaves.ran
 
-  module _ (opening : Pair) (ran : DocumentRan empty_tree 0 tx_limit (gen seed count) Done opening o) where
+  -- what it has at its end, by a tree and a number
+  record Generating (t : Tree) (n : ℕ) (opening : Pair) : Type 0 where
+    ran : DocumentRan t n tx_limit (gen seed count) Done opening o
+    made : IsTrue (is_positive every) → AreMade (Some (gen seed count)) every t n (after_asked (start t n tx_limit) ran.asked).book o.new.journal.now.reads o.new.pages.now.reads
+
+  done_new : (leaves : OpenedStoreLeaves tx_limit (Some (gen seed count)) every Done o) → Generating empty_tree 0 leaves.opening
+  done_new leaves =
+      let stood : StandFor [] [] leaves.tree leaves.number =
+      subst (λ (x : List ℕ × List ℕ). StandFor x.0 x.1 leaves.tree leaves.number) (λ i. (journal i, pages i)) leaves.stood in
+      let is = alone empty leaves.tree leaves.number stood in
+      let found : Generating leaves.tree leaves.number leaves.opening = record { ran = leaves.ran; made = λ asked. leaves.made refl asked } in
+      subst (λ (x : Tree × ℕ). Generating x.0 x.1 leaves.opening) (λ i. (is.0 i, is.1 i)) found
+
+  module _ (opening : Pair) (ran : DocumentRan empty_tree 0 tx_limit (gen seed count) Done opening o)
+      (made : IsTrue (is_positive every) → AreMade (Some (gen seed count)) every empty_tree 0 (after_asked new_store ran.asked).book o.new.journal.now.reads o.new.pages.now.reads) where
     asked_all : ran.asked ≡ generated (script seed count)
     asked_all = sym (ap asks_in ran.end.0)
 
@@ -66,18 +84,21 @@ module _ (empty : StandFor [] [] empty_tree 0) (seed count : ℕ) (every : ℕ) 
     stand : (j p : List ℕ) → OpenAfterAsked empty_tree 0 tx_limit ran.answered ran.asked j p → StandForCommits (generated_new seed count).book j p
     stand j p after = subst (λ (d : Progress StoreCall). StandForCommits d.book j p) did (all_stand ran.asked ran.answered j p (omega (arith, ran.all_but)) after)
 
-    all_done : GenDone seed count text o.new.journal o.new.pages
+    all_done : GenDone every seed count text o.new.journal o.new.pages
     all_done = record {
       answered = took_all o text before now _ ran.wrote;
       serial = subst (λ (d : Progress StoreCall). IsSerial store_meaning empty_tree 0 tx_limit d.book) did ran.sound.book.serial;
       stored = stand o.new.journal.now.reads o.new.pages.now.reads ran.reads;
       durable = λ j p of_journal of_pages. stand j p (ran.left j p of_journal of_pages);
+      in_pages = subst (λ (d : Progress StoreCall). HoldAllWhereDue every d.book o.new.pages.now.reads) did
+          (held_by_gen every (after_asked new_store ran.asked).book o.new.journal.now.reads o.new.pages.now.reads seed count made);
     }
 
-  pub gen_done : (command : Option Command) (status : Status) → command ≡ Some (gen seed count) → status ≡ Done → Leaves tx_limit command every status o → GenDone seed count text o.new.journal o.new.pages
+  pub gen_done : (command : Option Command) (status : Status) → command ≡ Some (gen seed count) → status ≡ Done → Leaves tx_limit command every status o → GenDone every seed count text o.new.journal o.new.pages
   gen_done command status named is leaves_so =
       let leaves : OpenedStoreLeaves tx_limit (Some (gen seed count)) every Done o = subst (λ (x : Option Command × Status). Leaves tx_limit x.0 every x.1 o) (λ i. (named i, is i)) leaves_so in
-      all_done leaves.opening (ran_new Done leaves)
+      let new = done_new leaves in
+      all_done leaves.opening new.ran new.made
 
   pub gen_refused : (command : Option Command) (status : Status) (why : Reason) → command ≡ Some (gen seed count) → status ≡ DocumentRefused why → Leaves tx_limit command every status o
       → GenRefused seed count why text o.new.journal o.new.pages

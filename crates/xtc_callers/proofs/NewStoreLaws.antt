@@ -1,6 +1,6 @@
 -- What the clauses of `xtc` say of a whole script over two empty files.
 use Rattle.std.proofs.Common.{◌≡◌, ◌⊎◌, Bool, inl, inr, ℕ, ◌+◌, ◌≤◌, List, [], ◌++◌, length, take, drop, Option, Some, None, Result, Ok, Err, refl, sym, ap, subst, ◌∙◌, arith}
-use Rattle.std.specs.Prelude.{IfSome}
+use Rattle.std.specs.Prelude.{IfSome, IsTrue}
 use Rattle.std.specs.Option.{option_map}
 use Rattle.std.proofs.lemmas.List.{append-nil, append_assoc, take_all, take-take, take-append-drop, length-take}
 use Rattle.std.proofs.lemmas.Option.{same_Some}
@@ -27,9 +27,11 @@ use Rattle.session_driver.specs.Progress.{Progress}
 use Rattle.store_calls.specs.StoreCalls.{store_meaning}
 use Rattle.xtc.specs.Book.{script_of, replies_text}
 use Rattle.command_words.specs.Commands.{Command, run}
+use Rattle.xtc.specs.Checkpoints.{AreMade, is_positive}
 use Rattle.xtc.specs.TopCall.{Outcome, Leaves, OpenAfterLines, OpenedStoreLeaves, UnopenedStoreLeaves, ScriptRan, IsSilent, slack, tx_limit}
 use Rattle.xtc.specs.declared.status.Status.{Status}
 use Rattle.xtc.specs.declared.status.Status.TheVariants.{Done, Usage, LineTooLong, Damaged, ReadFault, WriteFault, DiskFault, NoMemory, NotJsonMl, DocumentRefused}
+use Rattle.xtc_callers.proofs.InPagesLaws.{held_by_run}
 use Rattle.xtc_callers.specs.NewStores.{new_store, ScriptDone, ScriptBegun, IfAnswered, StandForCommits}
 
 abbrev number_read : Result Contents Place → ℕ
@@ -72,10 +74,16 @@ all_commits least lines done journal pages whole is after =
     let count : 0 + length (commits (script_of new_store (take after.count lines)).book) ≡ length (commits done.book) = omega (arith, ap (λ (p : Progress StoreCall). length (commits p.book)) all) in
     subst (λ (x : Book StoreCall × ℕ). StandFor journal pages (serial store_meaning (commits x.0) empty_tree).tree x.1) (λ i. ((all i).book, count i)) after.opens
 
+-- what a run to the end of its script has, by a tree and a number
+record Scripted (t : Tree) (n every : ℕ) (opening : Pair) (o : Outcome) : Type 0 where
+  ran : ScriptRan t n tx_limit Done opening o
+  made : IsTrue (is_positive every) → AreMade (Some run) every t n ran.script.book o.new.journal.now.reads o.new.pages.now.reads
+
 -- a run to the end of its script from the empty tree on
-done_from_empty : (o : Outcome) (opening : Pair) (script text : List ℕ) → o.read ≡ script → o.before ≡ Some [] → o.now ≡ Some text
-    → ScriptRan empty_tree 0 tx_limit Done opening o → ScriptDone script text o.new.journal o.new.pages
-done_from_empty o opening script text read before now ran =
+done_from_empty : (every : ℕ) (o : Outcome) (opening : Pair) (script text : List ℕ) → o.read ≡ script → o.before ≡ Some [] → o.now ≡ Some text
+    → Scripted empty_tree 0 every opening o → ScriptDone every script text o.new.journal o.new.pages
+done_from_empty every o opening script text read before now did =
+    let ran = did.ran in
     let lines : List (List ℕ) = take (ran.done + ran.further) ran.lines in
     let all : lines ≡ ran.lines = take_all (ran.done + ran.further) ran.lines (omega (arith, ran.exact.0)) in
     let lines_are : ran.lines ≡ lines_of script = ran.exact.1 ∙ ap lines_of read in
@@ -87,21 +95,23 @@ done_from_empty o opening script text read before now ran =
       sound = ran.sound;
       stored = all_commits ran.done lines ran.script o.new.journal.now.reads o.new.pages.now.reads whole ran.is ran.reads;
       durable = λ journal pages of_journal of_pages. all_commits ran.done lines ran.script journal pages whole ran.is (ran.left journal pages of_journal of_pages);
+      in_pages = held_by_run every ran.script.book o.new.journal.now.reads o.new.pages.now.reads did.made;
     }
 
 -- over two empty files
 pub script_done : StandFor [] [] empty_tree 0 → (o : Outcome) (command : Option Command) (status : Status) (every : ℕ) (script text : List ℕ) (left_before : Option (List ℕ))
     → command ≡ Some run → status ≡ Done → Leaves tx_limit command every status o → left_before ≡ Some script → Gave left_before o.left o.read → IfSome o.left (λ rest. rest ≡ [])
     → o.before ≡ Some [] → o.now ≡ Some text → o.old.journal.now.reads ≡ [] → o.old.pages.now.reads ≡ []
-    → ScriptDone script text o.new.journal o.new.pages
+    → ScriptDone every script text o.new.journal o.new.pages
 script_done empty o command status every script text left_before named done leaves_so script_is gave_so whole before now journal pages =
     let leaves : OpenedStoreLeaves tx_limit (Some run) every Done o = subst (λ (x : Option Command × Status). Leaves tx_limit x.0 every x.1 o) (λ i. (named i, done i)) leaves_so in
     let gave : Gave (Some script) o.left o.read = subst (λ (l : Option (List ℕ)). Gave l o.left o.read) script_is gave_so in
     let stood : StandFor [] [] leaves.tree leaves.number =
     subst (λ (x : List ℕ × List ℕ). StandFor x.0 x.1 leaves.tree leaves.number) (λ i. (journal i, pages i)) leaves.stood in
     let is = alone empty leaves.tree leaves.number stood in
-    done_from_empty o leaves.opening script text (all_read script o.read o.left gave whole) before now
-    (subst (λ (x : Tree × ℕ). ScriptRan x.0 x.1 tx_limit Done leaves.opening o) (λ i. (is.0 i, is.1 i)) leaves.ran)
+    let found : Scripted leaves.tree leaves.number every leaves.opening o = record { ran = leaves.ran; made = λ asked. leaves.made refl asked } in
+    done_from_empty every o leaves.opening script text (all_read script o.read o.left gave whole) before now
+    (subst (λ (x : Tree × ℕ). Scripted x.0 x.1 every leaves.opening o) (λ i. (is.0 i, is.1 i)) found)
 
 -- ---- a script that was begun
 

@@ -1,25 +1,23 @@
 -- What the clauses of `xtc` say of the workers of a script over two empty files.
-use Rattle.std.proofs.Common.{◌≡◌, ◌&&◌, Bool, true, false, IsTrue, nat_le, ℕ, zero, suc, ◌+◌, ◌≤◌, List, [], length, take, Option, Some, Ok, refl, sym, ap, subst, ◌∙◌, arith, eq-eqb, le-leb}
+use Rattle.std.proofs.Common.{◌≡◌, true, false, IsTrue, ℕ, ◌+◌, List, [], length, take, Option, Some, Ok, refl, sym, ap, subst, ◌∙◌, arith}
 use Rattle.std.specs.Prelude.{IfSome, is_some}
 use Rattle.std.proofs.lemmas.List.{take_all}
 use Rattle.outside_traits.specs.Bytes.{Gave}
 use Rattle.outside_traits.specs.DiskPairs.{Pair}
 use Rattle.outside_traits.specs.Disks.{DiskState}
 use Rattle.outside_traits.specs.Moments.{History}
-use Rattle.tree_model.specs.Tree.{Tree, empty_tree, map_of}
+use Rattle.tree_model.specs.Tree.{Tree, empty_tree}
 use Rattle.journal.specs.Groups.{only_commits}
 use Rattle.journal.specs.Journals.{read}
 use Rattle.journal.specs.declared.group.Groups.{Groups}
 use Rattle.recovery.specs.Openings.{HasImages}
 use Rattle.store_contents.specs.StoredTrees.{StandFor}
-use Rattle.checkpoint.specs.Checkpoints.{cut_of_tree, made_of}
-use Rattle.checkpoint.specs.declared.made.Made.TheVariants.{Yes}
 use Rattle.call_contract.specs.Books.{Book, commits}
 use Rattle.call_contract.specs.SerialRuns.{Committed, serial}
 use Rattle.command_lines.specs.declared.command.StoreCall.{StoreCall}
 use Rattle.command_words.specs.Commands.{Command, workers}
 use Rattle.store_calls.specs.StoreCalls.{store_meaning}
-use Rattle.xtc.specs.Checkpoints.{AreMade, MadeBehind, fits, is_made, is_positive, last_made, last_of_command, made_or, tree_after, tried_in}
+use Rattle.xtc.specs.Checkpoints.{AreMade, is_positive}
 use Rattle.xtc.specs.TopCall.{Leaves, OpenAfterCommits, OpenedStoreLeaves, Outcome, WorkersRan, tx_limit}
 use Rattle.xtc.specs.declared.status.Status.{Status}
 use Rattle.xtc.specs.declared.status.Status.TheVariants.{Done}
@@ -27,7 +25,8 @@ use Rattle.workers_text.specs.Entries.{entries_of}
 use Rattle.workers_text.specs.Limits.{too_long}
 use Rattle.workers_text.specs.Shown.{IsShownBy, lines_in}
 use Rattle.xtc_callers.specs.NewStores.{StandForCommits}
-use Rattle.xtc_callers.specs.NewWorkers.{HoldAllCommits, WorkersDone, tree_of_commits}
+use Rattle.xtc_callers.specs.NewWorkers.{WorkersDone}
+use Rattle.xtc_callers.proofs.InPagesLaws.{held_by_workers}
 use Rattle.xtc_callers.proofs.NewStoreLaws.{all_read, alone, took_all}
 
 -- files that stand for the tree after all of a book's commits
@@ -36,46 +35,6 @@ all_stand book journal pages after =
     let all : take after.count (commits book) ≡ commits book = take_all after.count (commits book) after.enough in
     let count : 0 + after.count ≡ length (commits book) = omega (arith, after.enough, after.within) in
     subst (λ (x : List (Committed StoreCall) × ℕ). StandFor journal pages (serial store_meaning x.0 empty_tree).tree x.1) (λ i. (all i, count i)) after.opens
-
--- ---- the last checkpoint
-
--- where one is tried behind this commit, and fits, it is the last one
-last_here : (tried : ℕ → Bool) (t : Tree) (n : ℕ) (book : Book StoreCall) (k : ℕ) → 1 ≤ k → tried k ≡ true → fits (tree_after t book k) (n + k) ≡ true
-    → last_made tried t n book k ≡ Some k
-last_here tried t n book zero positive due fit = absurd (omega (arith, positive))
-last_here tried t n book (suc k) positive due fit =
-    let both : (tried (suc k) && fits (tree_after t book (suc k)) (n + suc k)) ≡ true = ap (λ (b : Bool). b && fits (tree_after t book (suc k)) (n + suc k)) due ∙ fit in
-    ap (λ (b : Bool). made_or b (suc k) (last_made tried t n book k)) both
-
--- workers try one behind the last commit, where there are as many
-due_behind_all : (every all : ℕ) → every ≤ all → tried_in (Some workers) every all all ≡ true
-due_behind_all every all enough = ap (λ (b : Bool). b && nat_le every all) (eq-eqb all all refl) ∙ le-leb every all enough
-
-module _ (every : ℕ) (book : Book StoreCall) (journal pages : List ℕ) where
-  abbrev count : ℕ
-  count = length (commits book)
-
-  all_taken : tree_after empty_tree book count ≡ tree_of_commits book
-  all_taken = ap (λ (cs : List (Committed StoreCall)). (serial store_meaning cs empty_tree).tree) (take_all count (commits book) (omega arith))
-
-  counted : 0 + count ≡ count
-  counted = omega arith
-
-  made_behind : every ≤ count → 1 ≤ count → made_of (cut_of_tree count (tree_of_commits book)) ≡ Yes → AreMade (Some workers) every empty_tree 0 book journal pages → MadeBehind empty_tree 0 book journal pages count
-  made_behind enough some fitting made =
-      let fit : fits (tree_after empty_tree book count) (0 + count) ≡ true = (λ i. fits (all_taken i) (counted i)) ∙ ap is_made fitting in
-      let last : last_of_command (Some workers) every empty_tree 0 book ≡ Some count
-      = last_here (tried_in (Some workers) every count) empty_tree 0 book count some (due_behind_all every count enough) fit in
-      subst (λ (r : Option ℕ). IfSome r (MadeBehind empty_tree 0 book journal pages)) last made
-
-  held_all : (IsTrue (is_positive every) → AreMade (Some workers) every empty_tree 0 book journal pages) → HoldAllCommits every book pages
-  held_all made positive enough fitting =
-      let behind = made_behind enough (omega (arith, positive, enough)) fitting (made (is_some_number every positive)) in
-      behind.hold ∙ (λ i. Ok (map_of (all_taken i), counted i))
-    where
-      is_some_number : (k : ℕ) → 1 ≤ k → IsTrue (is_positive k)
-      is_some_number zero positive = absurd (omega (arith, positive))
-      is_some_number (suc k) positive = refl
 
 -- ---- over two empty files
 
@@ -110,7 +69,7 @@ worked every o opening script text read before now did unasked =
       answered = took_all o text before now _ output.wrote;
       stored = all_stand ran.book o.new.journal.now.reads o.new.pages.now.reads ran.reads;
       durable = λ journal pages of_journal of_pages. all_stand ran.book journal pages (ran.left journal pages of_journal of_pages);
-      in_pages = held_all every ran.book o.new.journal.now.reads o.new.pages.now.reads did.made;
+      in_pages = held_by_workers every ran.book o.new.journal.now.reads o.new.pages.now.reads did.made;
       unasked = unasked;
     }
 

@@ -1,3 +1,4 @@
+pub mod InPages
 pub mod NewDocuments
 pub mod NewStores
 pub mod NewWorkers

@@ -17,6 +17,7 @@ use Rattle.workload_gen.specs.Scripts.{script}
 use Rattle.xtc.specs.Book.{after_asked}
 use Rattle.xtc.specs.Generated.{generated, summary_line}
 use Rattle.xtc.specs.TopCall.{tx_limit}
+use Rattle.xtc_callers.specs.InPages.{HoldAllWhereDue}
 use Rattle.xtc_callers.specs.NewStores.{StandForCommits, new_store}
 
 -- so it is where the words are `gen SEED COUNT`
@@ -32,12 +33,14 @@ abbrev pub generated_new : (seed count : ℕ) → Progress StoreCall
 generated_new seed count = after_asked new_store (generated (script seed count))
 
 -- The generator's script was done over a new store: this text is the line of its summary, and the files stand for the tree after its commits.
-pub record GenDone (seed count : ℕ) (text : List ℕ) (journal pages : History) : Type 0 where
+pub record GenDone (every seed count : ℕ) (text : List ℕ) (journal pages : History) : Type 0 where
   pub answered : text ≡ summary_line new_store seed count
   pub serial : IsSerial store_meaning empty_tree 0 tx_limit (generated_new seed count).book
   -- as they read and as a crash leaves them
   pub stored : StandForCommits (generated_new seed count).book journal.now.reads pages.now.reads
   pub durable : PairsHave (StandForCommits (generated_new seed count).book) (pair_of journal pages)
+  -- behind a checkpoint that is due at the end
+  pub in_pages : HoldAllWhereDue every (generated_new seed count).book pages.now.reads
 
 -- It was refused: it was done up to the first begin or commit that is refused, and that for this reason. Nothing is written, and all commits before that are there.
 pub record GenRefused (seed count : ℕ) (why : Reason) (text : List ℕ) (journal pages : History) : Type 0 where

@@ -16,6 +16,7 @@ use Rattle.xtc.specs.Book.{script_of, replies_text}
 use Rattle.xtc.specs.TopCall.{IsSound, OpenAfterLines, slack, tx_limit}
 use Rattle.xtc.specs.declared.status.Status.{Status}
 use Rattle.xtc.specs.declared.status.Status.TheVariants.{Done, LineTooLong, ReadFault}
+use Rattle.xtc_callers.specs.InPages.{HoldAllWhereDue}
 use Rattle.xtc_callers.specs.declared.new_store.MemRun.{MemRun}
 
 -- the sessions of a new store, at the empty tree
@@ -40,7 +41,7 @@ file_reads disk = (history_of disk).now.reads
 
 -- A script was done over a new store: this text is what it was answered, and these are the files now.
 -- All of it is said by what the script's lines do to the sessions: the book that they make, and their replies.
-pub record ScriptDone (script text : List ℕ) (journal pages : History) : Type 0 where
+pub record ScriptDone (every : ℕ) (script text : List ℕ) (journal pages : History) : Type 0 where
   pub done : Progress StoreCall
   -- of the script's lines, in sessions that begin with the empty tree
   pub of_lines : done ≡ script_of new_store (lines_of script)
@@ -50,6 +51,8 @@ pub record ScriptDone (script text : List ℕ) (journal pages : History) : Type 
   -- the files stand for the tree after the commits, as they read and as a crash leaves them
   pub stored : StandForCommits done.book journal.now.reads pages.now.reads
   pub durable : PairsHave (StandForCommits done.book) (pair_of journal pages)
+  -- behind a checkpoint that is due at the end
+  pub in_pages : HoldAllWhereDue every done.book pages.now.reads
 
 -- so it is where each line that was done has its replies written
 abbrev pub IfAnswered : Status → Type 0 → Type 0

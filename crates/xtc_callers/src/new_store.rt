@@ -3,6 +3,7 @@ ghost use Rattle.std.specs.Prelude.{◌≡◌, ◌≢◌, ◌⊎◌, [], None, S
 ghost use Rattle.node_records.specs.declared.open_error.Place.{Place};
 ghost use Rattle.outside_kinds.specs.MemoryDisks.{history_of, start};
 ghost use Rattle.command_words.specs.Commands.{command_of, run};
+ghost use Rattle.xtc_callers.specs.InPages.{every_in};
 ghost use Rattle.xtc_callers.specs.NewStores.{OfRun, ScriptDone, ScriptBegun};
 
 use dewey_labels::List;
@@ -25,7 +26,8 @@ pub struct MemRun {
 
 /// Runs a script over the two empty files of a new store, where the words are `run`.
 /// At Done what the script's lines do to the sessions has the replies that were written and a book that is sound, whose transactions are serial,
-/// and the files stand for the tree after them, as they read and as a crash leaves them. At another status some first lines were done.
+/// and the files stand for the tree after them, as they read and as a crash leaves them;
+/// where a checkpoint is due at the end, and this tree fits, the pages alone hold it. At another status some first lines were done.
 pub fn run_new_store<R: Threads + Wait + Sync>(
     rt: &R,
     alloc: Global,
@@ -33,7 +35,7 @@ pub fn run_new_store<R: Threads + Wait + Sync>(
     script: List<u8>,
 ) -> MemRun
     ensures done { command_of words.now.items ≡ Some run → result.status ≡ Status.Done
-        → OfRun result (ScriptDone script) }
+        → OfRun result (ScriptDone (every_in words.now.items) script) }
     ensures begun { command_of words.now.items ≡ Some run → result.status ≢ Status.Usage
         → OfRun result (ScriptBegun result.status script) }
     ensures not_damaged { (place : Place) → result.status ≢ Status.Damaged place }

@@ -1,8 +1,9 @@
 // A caller of `xtc` over memory: the workers of a script over the two empty files of a new store.
 ghost use Rattle.std.specs.Prelude.{◌≡◌, Some};
 ghost use Rattle.command_words.specs.Commands.{command_of, workers};
+ghost use Rattle.xtc_callers.specs.InPages.{every_in};
 ghost use Rattle.xtc_callers.specs.NewStores.{OfRun};
-ghost use Rattle.xtc_callers.specs.NewWorkers.{WorkersDone, every_in};
+ghost use Rattle.xtc_callers.specs.NewWorkers.{WorkersDone};
 
 use crate::new_store::MemRun;
 use dewey_labels::List;
