@@ -12,11 +12,10 @@ use Rattle.path_model.specs.declared.path.Op.TheVariants as op
 use Rattle.xpath_parser.specs.declared.lex.Kind.{Kind}
 use Rattle.xpath_parser.specs.declared.lex.Kind.TheVariants as k
 use Rattle.xpath_parser.specs.declared.words.Function.{Function}
-use Rattle.xpath_parser.specs.declared.words.TheConstants.{FUNCTIONS}
 use Rattle.xpath_parser.specs.Grammar.{sign_operator, operator, of_level, number_of}
 use Rattle.xpath_parser.specs.Input.{kind, sees_word}
 use Rattle.xpath_parser.specs.Lex.{Text}
-use Rattle.xpath_parser.specs.Words.{find_word, function_row, function_named}
+use Rattle.xpath_parser.specs.Words.{find_word, function_rows, function_named}
 
 -- ---- operators
 
@@ -127,7 +126,7 @@ word_found : {A : Type 0} (q : A → Bool) (name : List ℕ) (rows : List (List 
 word_found q name [] h = tt
 word_found q name (r ∷ rows) h = let p = and_parts (q r.1) _ h in if_found (λ a. q a ≡ true) (bytes_eq r.0 name) r.1 (find_word name rows) p.0 (word_found q name rows p.1)
 
-all_agree : list_all (λ r. agrees r.1) (map (λ row. function_row row.0.now row.1 row.2 row.3 row.4) FUNCTIONS) ≡ true
+all_agree : list_all (λ r. agrees r.1) function_rows ≡ true
 all_agree = refl
 
 sound_if : (m : Option Function) → IfFound (λ f. agrees f ≡ true) m → IfFound Sound m
@@ -135,7 +134,7 @@ sound_if None h = tt
 sound_if (Some f) h = sound f h
 
 pub function_sound : (name : List ℕ) → IfFound Sound (function_named name)
-function_sound name = sound_if (function_named name) (word_found agrees name (map (λ row. function_row row.0.now row.1 row.2 row.3 row.4) FUNCTIONS) all_agree)
+function_sound name = sound_if (function_named name) (word_found agrees name function_rows all_agree)
 
 -- ---- numbers
 

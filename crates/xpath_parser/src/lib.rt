@@ -17,7 +17,9 @@ mod refusal;
 mod tokens;
 mod words;
 
-pub use laws::{parsed_paths_are_lawful, texts_of_paths_are_read_as_them};
+pub use laws::{
+    parsed_paths_are_lawful, texts_of_paths_are_read_as_them, words_are_those_of_the_profile,
+};
 pub use path_error::PathError;
 pub use path_model::{Axis, Expr, NodeTest, Op, Step, XPath};
 pub use reading::parse;
