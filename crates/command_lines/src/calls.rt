@@ -1,6 +1,7 @@
 //! The words that lines ask by, and the keys of each.
 ghost use Rattle.std.specs.Prelude.{◌≡◌, map};
-ghost use Rattle.command_lines.specs.Calls.{call_named, find_call};
+ghost use Rattle.command_lines.specs.Calls.{call_named, calls, find_call};
+ghost use Rattle.command_lines.specs.declared.calls.TheConstants.{CALLS};
 
 /// What a line asks for.
 #[derive(Drop, Clone, Copy)]
@@ -144,6 +145,11 @@ pub const CALLS: [(&str, Word); 38] = [
     ("normalize", Word::Dom(DomWord::At(AtCall::Normalize))),
     ("set_text", Word::Dom(DomWord::AtData(AtDataCall::SetText))),
 ];
+
+/// The table is that of the calls: no word more, none less, and each asks for its own call.
+pub fn words_are_those_of_the_calls()
+    ensures { map (λ row. (row.0.now, row.1)) CALLS ≡ calls }
+{}
 
 /// What a word asks for.
 pub(crate) fn call_named(name: &str) -> Option<Word>

@@ -19,7 +19,10 @@ mod words;
 mod writing;
 
 pub use bad_line::BadLine;
-pub use calls::{AtCall, AtDataCall, AtNameCall, AtRangeCall, CALLS, DomWord, OfNameCall, Word};
+pub use calls::{
+    AtCall, AtDataCall, AtNameCall, AtRangeCall, CALLS, DomWord, OfNameCall, Word,
+    words_are_those_of_the_calls,
+};
 pub use command::{Command, StoreCall, What};
 pub use crossing::crosses;
 pub use key::Key;
