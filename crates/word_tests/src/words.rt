@@ -121,7 +121,7 @@ fn words_ask_for_a_command_or_are_refused(rt: HostRuntime) -> Result<(), Fail> {
 }
 
 /// Words, and the command and the options that they ask for: frames, and the commits between two checkpoints.
-const WITH_OPTIONS: [(&str, &str); 38] = [
+const WITH_OPTIONS: [(&str, &str); 40] = [
     ("run", "Run 256 0"),
     ("gen 7 1", "Gen { seed: 7, count: 1 } 256 0"),
     ("run --frames 1", "Run 1 0"),
@@ -163,6 +163,14 @@ const WITH_OPTIONS: [(&str, &str); 38] = [
     ("run --checkpoint -1", "Usage"),
     ("run --checkpoint 1 --checkpoint 1", "Usage"),
     ("run --checkpoint 00000000001", "Usage"),
+    (
+        "gen --frames 1 --checkpoint 2 -- 7 1",
+        "Gen { seed: 7, count: 1 } 1 2",
+    ),
+    (
+        "query --frames 1 --checkpoint 2 -- x -1",
+        "Query(\"x\", \"-1\") 1 2",
+    ),
 ];
 
 #[test]
