@@ -20,7 +20,7 @@ use Rattle.dewey_labels.specs.Labels.{Label}
 use Rattle.path_model.specs.Finds.{found_at}
 use Rattle.path_model.specs.PlainPaths.{plain_path}
 use Rattle.path_model.specs.declared.path.XPath.{XPath}
-use Rattle.store_calls.specs.StoreCalls.{store_meaning, store_reply}
+use Rattle.store_calls.specs.StoreCalls.{store_meaning, store_reply, KnowsFind}
 
 pub reading_leaves : (c : DomCall) (t : Tree) → is_reading c ≡ true → (dom c t).1 ≡ t
 reading_leaves call.Docs t reads = refl
@@ -91,3 +91,14 @@ pub find_only_answers : {E : Type 0} (told : Option Entries) (x : StoreCall) (at
 find_only_answers told x at path (Err e) is replies = tt
 find_only_answers told x at path (Ok known) is replies = λ t stands.
     subst (λ o. IfSome o (OnlyAnswers store_meaning x t)) (sym (replies t stands)) (record { reply = ap (λ y. store_reply y t) is; changes = find_changes_nothing x at path t is stands.valid })
+
+-- of a DOM call nothing is asked
+pub dom_knows : {E : Type 0} (told : Option Entries) (x : StoreCall) (c : DomCall) (r : Result (Option Reply) E) → Dom c ≡ x → OnTree told r (KnowsFind x)
+dom_knows told x c (Err e) is = tt
+dom_knows told x c (Ok known) is = λ t stands. subst (λ y. KnowsFind y t known) is tt
+
+-- a find whose reply is known is answered at once
+pub find_knows : {E : Type 0} (told : Option Entries) (x : StoreCall) (at : Label) (path : XPath) (r : Result (Option Reply) E) → Find at path ≡ x
+    → OnTree told r (λ t known. known ≡ Some (found_at at (plain_path path) t)) → OnTree told r (KnowsFind x)
+find_knows told x at path (Err e) is replies = tt
+find_knows told x at path (Ok known) is replies = λ t stands. subst (λ y. KnowsFind y t known) is (replies t stands)

@@ -1,5 +1,5 @@
 -- Calls on the store's tree by their kinds, and what they mean.
-use Rattle.std.specs.Prelude.{Bool, true, List, IsTrue}
+use Rattle.std.specs.Prelude.{◌≡◌, Bool, true, List, Option, Some, IsTrue}
 use Rattle.dewey_labels.specs.Labels.{Label, IsLabel}
 use Rattle.lock_resources.specs.declared.request.Request.{Request}
 use Rattle.tree_model.specs.DomCalls.{dom}
@@ -36,6 +36,11 @@ store_after (Find at path) t = t
 
 abbrev pub store_meaning : CallMeaning StoreCall
 store_meaning = record { requests = store_requests; reply = store_reply; after = store_after }
+
+-- a find is answered by the time that all it asks for is known, so its path is evaluated once
+abbrev pub KnowsFind : StoreCall → Tree → Option Reply → Type 0
+KnowsFind (Dom call) t known = Unit {0}
+KnowsFind (Find at path) t known = known ≡ Some (found_at at (plain_path path) t)
 
 -- ---- valid calls
 

@@ -7,5 +7,5 @@ mod line_call;
 mod parts;
 mod store_op;
 
-pub use laws::serial_runs_are_plain;
+pub use laws::{requests_are_rows, serial_runs_are_plain};
 pub use store_op::StoreOp;

@@ -86,7 +86,13 @@ fn tell_call(call: &StoreCall)
 }
 
 impl TreeCall for StoreOp {
-    ghost use Rattle.store_calls.specs.StoreCalls.{store_meaning, IsValidStoreCall};
+    ghost use Rattle.std.specs.Prelude.{IfSome};
+    ghost use Rattle.std.specs.List.{AllByRecursion};
+    ghost use Rattle.lock_resources.specs.Resources.{Fits};
+    ghost use Rattle.outside_traits.specs.Faults.{HasCause};
+    ghost use Rattle.node_seq.specs.Trees.{OnTree};
+    ghost use Rattle.call_contract.specs.Calls.{OnlyAnswers};
+    ghost use Rattle.store_calls.specs.StoreCalls.{store_meaning, IsValidStoreCall, KnowsFind};
     ghost use Rattle.store_calls.specs.inside.KindLaws.{laws_of_kinds};
 
     ghost meaning = { store_meaning };
@@ -98,7 +104,16 @@ impl TreeCall for StoreOp {
         alloc: Global,
         seq: &mut S,
         out: &mut List<Request>,
-    ) -> Result<Option<Reply>, SeqError> {
+    ) -> Result<Option<Reply>, SeqError>
+        ensures value { OnTree (S.contents seq.old) result (λ t _. out.new ≡ out.old ++ store_meaning.requests self.now t) }
+        ensures known { OnTree (S.contents seq.old) result (λ t known. IfSome known (OnlyAnswers store_meaning self.now t)) }
+        ensures find { OnTree (S.contents seq.old) result (KnowsFind self.now) }
+        ensures fits { AllByRecursion Fits out.old → AllByRecursion Fits out.new }
+        ensures err { OnErr result (out.new ≡ out.old) }
+        ensures valid { IsValidStoreCall self.now }
+        ensures unchanged { S.unchanged seq.old seq.new }
+        ensures cause { HasCause SeqError.DiskFault (S.count seq.old) (S.count seq.new) result }
+    {
         match self.call() {
             StoreCall::Dom(call) => dom_requests(alloc, call, seq, out),
             StoreCall::Find { at, path } => path_requests(alloc, path, at, seq, out),
