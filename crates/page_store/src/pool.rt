@@ -76,8 +76,8 @@ impl Pool {
         ensures filled { OnOk result (IsFilled page self.old self.new) }
         // The others stay, in their order. Only where the page has to be read and all frames are in use the last one goes, also if that fails.
         ensures after { IsAfterAnswer page self.old result self.new }
-        // What is kept is found without a read.
-        ensures kept_suffices { IsTrue (is_kept page self.old) → IsOk result }
+        // What is kept is found without a call of the disk.
+        ensures kept_suffices { IsTrue (is_kept page self.old) → IsOk result × (disk.new ≡ disk.old) }
         ensures same { IsTrue P.is_known → P.history disk.new ≡ P.history disk.old }
         ensures cause { HasCause DiskFault (P.faults disk.old) (P.faults disk.new) result }
     {
@@ -97,6 +97,8 @@ impl Pool {
         ensures kept { (file : List ℕ) → ArePagesOf file self.old.kept → ArePagesOf file self.new.kept }
         ensures most { self.new.most ≡ self.old.most }
         ensures reads { self.new.reads ≡ self.old.reads }
+        // Where all are in use it takes no memory.
+        ensures used_again { length self.old.kept ≡ self.old.most → IsOk result }
     {
         if self.frames.len() == self.frames.cap().get() {
             if let Some((_, frame)) = self.frames.pop_lru() {
@@ -130,8 +132,8 @@ impl Pool {
         requires pages { IsTrue P.is_known → ArePagesOf (P.history disk.old).now.reads self.old.kept }
         ensures* after { sem 𝓛 (EndsSo the_row self.entry
             (HasLent P.is_known page (P.history disk.old).now.reads self.old result)) }
-        // What is kept is answered without a read, memory or fault.
-        ensures kept_suffices { IsTrue (is_kept page self.old) → IsOk result }
+        // What is kept is answered without a call of the disk, and without memory.
+        ensures kept_suffices { IsTrue (is_kept page self.old) → IsOk result × (disk.new ≡ disk.old) }
         ensures value { IfOk result (λ bytes. IsTrue P.is_known → bytes.now ≡ page_of page (P.history disk.old).now.reads) }
         ensures length { IfOk result (λ bytes. length bytes.now ≡ 8_192) }
         ensures same { IsTrue P.is_known → P.history disk.new ≡ P.history disk.old }

@@ -11,7 +11,7 @@ returns g c =
       (refl, λ _. tt, (c.fill.ensures.after.asked, search rules, kept, c.in_ok-fill.ensures.after.pages)),
       record {
         after = tt;
-        kept_suffices = λ _. refl;
+        kept_suffices = λ kept. (refl, (c.fill.ensures.kept_suffices kept).1);
         value = λ known. c.in-Some.ensures.page file (kept known);
         length = c.in-Some.ensures.length;
         same = c.fill.ensures.same;
