@@ -2,6 +2,8 @@
 #![tactic(auto)]
 
 #[cfg(test)]
+mod costs;
+#[cfg(test)]
 mod damage;
 #[cfg(test)]
 mod files;
