@@ -1,18 +1,25 @@
 -- A call of a session: the turn is taken, something is done to the list, and the turn is given.
 use Rattle.std.proofs.Common.{◌≡◌, ℕ, Bool, true, false, List, [], ◌∷◌, ◌++◌, length, sym, refl, ap, ◌∙◌, subst, arith}
-use Rattle.std.specs.Prelude.{Some, IfSome, nat_lt, if◌then◌else◌}
+use Rattle.std.specs.Prelude.{Option, Some, IfSome, nat_lt, if◌then◌else◌}
 use Rattle.std.proofs.lemmas.Bool.{true≢false}
 use Rattle.std.proofs.lemmas.List.{append-nil}
-use Rattle.call_contract.specs.Books.{Book}
+use Rattle.std.specs.declared.alloc.Global.{Global}
+use Rattle.std.specs.declared.vec.Vec.{Vec}
+use Rattle.tree_model.specs.Entries.{Entries}
+use Rattle.tree_model.specs.Tree.{Tree}
+use Rattle.node_seq.specs.Trees.{StandsFor}
+use Rattle.call_contract.specs.Books.{Book, IsBookFrom}
+use Rattle.call_contract.specs.Calls.{CallMeaning}
 use Rattle.tx_core.specs.Cores.{CoreView}
 use Rattle.turn_lock.specs.Turns.{AreForeign, GoesOn, GrewBy, HasAll, having_seen, having_turn, longer, PassView, has_number}
-use Rattle.shared_store.specs.Lists.{base_in, book_of, drained_from, drained_in, is_opened, limit_in, list_of, number_in, number_of, opening_in, SessionsFit}
+use Rattle.shared_store.specs.Lists.{base_in, book_of, drained_from, drained_in, HasLegalBook, is_opened, limit_in, list_of, number_in, number_of, opening_in, SessionsFit}
 use Rattle.shared_store.specs.Sessions.{HasDone, IsOpenedAs, SessionView}
 use Rattle.shared_store.specs.declared.desk.Drain.{Drain}
 use Rattle.shared_store.specs.declared.desk.Entry.{Entry}
 use Rattle.shared_store.specs.declared.desk.Entry.TheVariants as kind
-use Rattle.shared_store.specs.inside.Desks.{AddsUnder, IsSession}
+use Rattle.shared_store.specs.inside.Desks.{AddsUnder, IsDesk, IsSession}
 use Rattle.shared_store.proofs.Desks.{grew}
+use Rattle.shared_store.proofs.Weaves.{list_book}
 
 module _ {C B : Type 0} where
   abbrev pub seen_as : PassView (Entry C B) → ℕ → SessionView C B
@@ -34,17 +41,26 @@ module _ {C B : Type 0} where
         did = subst (λ (z : ℕ × List (Entry C B)). does z.0 before z.1) (λ i. ((view i).under, sym seen i)) did;
       }
 
-  pub session_stays : (a b c : PassView (Entry C B)) (under : ℕ) (before after : List (Entry C B)) → IsSession a under → b ≡ having_turn true (having_seen before a) → c ≡ having_turn false (having_seen after b) → is_opened after ≡ true → IsSession c under
-  session_stays a b c under before after is took gave opened =
+  pub session_stays : {is_valid : C → Type 0} {m : CallMeaning C} {told : B → Option Entries} (a b c : PassView (Entry C B)) (under : ℕ) (before after : List (Entry C B)) → IsSession is_valid m told a under → b ≡ having_turn true (having_seen before a)
+      → c ≡ having_turn false (having_seen after b) → is_opened after ≡ true → HasLegalBook is_valid m told after → IsSession is_valid m told c under
+  session_stays {is_valid} {m} {told} a b c under before after is took gave opened legal =
       let all : c ≡ having_turn false (having_seen after (having_turn true (having_seen before a))) = gave ∙ ap (λ (x : PassView (Entry C B)). having_turn false (having_seen after x)) took in
-      subst (λ (x : PassView (Entry C B)). IsSession x under) (sym all) (record { turn = refl; own = is.own; small = is.small; opened = opened })
+      subst (λ (x : PassView (Entry C B)). IsSession is_valid m told x under) (sym all) (record { turn = refl; own = is.own; small = is.small; opened = opened; legal = legal })
 
-  pub longer_opened : (xs ys : List (Entry C B)) → is_opened xs ≡ true → is_opened ys ≡ true → is_opened (longer xs ys) ≡ true
-  longer_opened xs ys a b = go (nat_lt (length xs) (length ys))
+  -- what holds of two lists holds of the longer one
+  pub of_longer : (P : List (Entry C B) → Type 0) (xs ys : List (Entry C B)) → P xs → P ys → P (longer xs ys)
+  of_longer P xs ys a b = go (nat_lt (length xs) (length ys))
     where
-      go : (x : Bool) → is_opened (if x then ys else xs) ≡ true
+      go : (x : Bool) → P (if x then ys else xs)
       go true = b
       go false = a
+
+  -- the list of a core with a legal book tells one
+  pub legal_list : (is_valid : C → Type 0) (m : CallMeaning C) (told : B → Option Entries) (unchanged : B → B → Type 0) (core first : CoreView C B) (drains : Vec Drain Global) → IsDesk unchanged core first drains
+      → ((t : Tree) → StandsFor (told core.opening) t → IsBookFrom is_valid m t core.number core.limit core.book) → HasLegalBook is_valid m told (list_of first core.book drains.items)
+  legal_list is_valid m told unchanged core first drains desk legal t opens =
+      subst (λ (b : Book C). IsBookFrom is_valid m t first.number first.limit b) (sym (list_book first core.book drains.items desk.rise))
+      (subst (λ (z : ℕ × ℕ). IsBookFrom is_valid m t z.0 z.1 core.book) (λ i. (desk.number i, desk.limit i)) (legal t (subst (λ (o : B). StandsFor (told o) t) (sym desk.opening) opens)))
 
   -- ---- closing
 

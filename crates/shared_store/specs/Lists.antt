@@ -3,7 +3,7 @@ use Rattle.std.specs.Prelude.{ℕ, ◌-◌, ◌≤◌, Bool, true, false, List, 
 use Rattle.tree_model.specs.Entries.{Entries}
 use Rattle.tree_model.specs.Tree.{Tree}
 use Rattle.node_seq.specs.Trees.{StandsFor}
-use Rattle.call_contract.specs.Books.{Book, last}
+use Rattle.call_contract.specs.Books.{Book, IsBookFrom, IsSerial, last}
 use Rattle.call_contract.specs.Calls.{CallMeaning}
 use Rattle.call_contract.specs.States.{State, start}
 use Rattle.tx_core.specs.Cores.{CoreView}
@@ -75,6 +75,14 @@ module _ {C B : Type 0} where
   -- the state that its book comes to from there
   abbrev pub state_in : CallMeaning C → Tree → List (Entry C B) → State C
   state_in m t es = last m (start t (number_in es) (limit_in es)) (book_of es)
+
+  -- what it tells is a legal book of valid calls, from each tree that its opening stands for
+  abbrev pub HasLegalBook : (C → Type 0) → CallMeaning C → (B → Option Entries) → List (Entry C B) → Type 0
+  HasLegalBook is_valid m told es = (t : Tree) → OpensFrom told es t → IsBookFrom is_valid m t (number_in es) (limit_in es) (book_of es)
+
+  -- and a serial one
+  abbrev pub HasSerialBook : CallMeaning C → (B → Option Entries) → List (Entry C B) → Type 0
+  HasSerialBook m told es = (t : Tree) → OpensFrom told es t → IsSerial m t (number_in es) (limit_in es) (book_of es)
 
   -- it begins with an opening
   abbrev pub is_opened : List (Entry C B) → Bool

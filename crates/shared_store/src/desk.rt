@@ -5,7 +5,7 @@ ghost use Rattle.tx_core.specs.Queues.{times};
 ghost use Rattle.shared_store.specs.Calls.{HasAborted, HasBegun, HasCommitted, HasDrained, HasTried, HasTriedAgain};
 ghost use Rattle.tree_model.specs.Tree.{Tree};
 ghost use Rattle.shared_store.specs.Bodies.{HasBodies, HaveLastBodies};
-ghost use Rattle.shared_store.specs.Lists.{book_of, drained_in, OpensFrom, SessionsFit};
+ghost use Rattle.shared_store.specs.Lists.{book_of, drained_in, HasLegalBook, OpensFrom, SessionsFit};
 ghost use Rattle.shared_store.specs.inside.Desks.{AddsUnder, as_again, as_called, as_ended, list_in};
 
 use crate::errors::StoreError;
@@ -158,6 +158,13 @@ impl<C: TreeCall + Drop, B: NodeRead + Drop> Desk<C, B> {
     {
         let Desk { core, .. } = self;
         core
+    }
+
+    /// The list tells a legal book.
+    pub fn is_legal(&self)
+        ensures { HasLegalBook C.is_valid C.meaning B.contents (list_in self.now) }
+    {
+        self.core.is_legal();
     }
 
     pub fn begin(&mut self, alloc: Global, session: u32) -> Result<u32, StoreError>

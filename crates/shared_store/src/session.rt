@@ -8,7 +8,7 @@ ghost use Rattle.tree_model.specs.Tree.{Tree};
 ghost use Rattle.shared_store.specs.Bodies.{HasBodies, HaveLastBodies};
 ghost use Rattle.shared_store.specs.Calls.{HasAborted, HasBegun, HasCommitted, HasDrained, HasTried, HasTriedAgain};
 ghost use Rattle.shared_store.specs.Waits.{HasCalled, HasCalledAgain};
-ghost use Rattle.shared_store.specs.Lists.{book_of, drained_in, is_opened, list_of, number_of, OpensFrom, SessionsFit};
+ghost use Rattle.shared_store.specs.Lists.{book_of, drained_in, HasLegalBook, HasSerialBook, is_opened, list_of, number_of, OpensFrom, SessionsFit};
 ghost use Rattle.shared_store.specs.Sessions.{HasDone, having_seen, IsOpenedAs, joined_session, session_without};
 
 use crate::desk::Desk;
@@ -66,7 +66,7 @@ impl<C: TreeCall + Drop, B: NodeRead + Drop> Model for Session<C, B> {
 
     ghost view = { λ s. record { lock = s.pass.lock; seen = s.pass.seen; has = s.pass.has; under = s.number } };
 
-    ghost invariant = { λ s. IsSession s.pass s.number };
+    ghost invariant = { λ s. IsSession C.is_valid C.meaning B.contents s.pass s.number };
 }
 
 impl<C: TreeCall + Drop, B: NodeRead + Drop> Session<C, B> {
@@ -87,6 +87,15 @@ impl<C: TreeCall + Drop, B: NodeRead + Drop> Session<C, B> {
         self.number
     }
 
+    /// What it has seen is a legal book of valid calls from the tree of the opening's map, and so a serial one, while other sessions go on.
+    pub fn is_legal(&self)
+        ensures book { HasLegalBook C.is_valid C.meaning B.contents self.now.seen }
+        ensures serial { HasSerialBook C.meaning B.contents self.now.seen }
+    {
+        // The invariant is read off the pass.
+        let _pass = &self.pass;
+    }
+
     /// Begins a transaction, and answers how many the session's number has begun.
     pub fn begin<R: Wait>(
         &mut self,
@@ -100,6 +109,7 @@ impl<C: TreeCall + Drop, B: NodeRead + Drop> Session<C, B> {
     {
         let mut turn = store.lock.take(rt, &mut self.pass);
         let result = turn.value.begin(alloc, self.number);
+        turn.value.is_legal();
         store.lock.give(&mut self.pass, turn);
         result
     }
@@ -117,6 +127,7 @@ impl<C: TreeCall + Drop, B: NodeRead + Drop> Session<C, B> {
     {
         let mut turn = store.lock.take(rt, &mut self.pass);
         let result = turn.value.try_call(alloc, self.number, call);
+        turn.value.is_legal();
         store.lock.give(&mut self.pass, turn);
         result
     }
@@ -133,6 +144,7 @@ impl<C: TreeCall + Drop, B: NodeRead + Drop> Session<C, B> {
     {
         let mut turn = store.lock.take(rt, &mut self.pass);
         let result = turn.value.try_again(alloc, self.number);
+        turn.value.is_legal();
         store.lock.give(&mut self.pass, turn);
         result
     }
@@ -198,6 +210,7 @@ impl<C: TreeCall + Drop, B: NodeRead + Drop> Session<C, B> {
     {
         let mut turn = store.lock.take(rt, &mut self.pass);
         let result = turn.value.commit(alloc, self.number);
+        turn.value.is_legal();
         store.lock.give(&mut self.pass, turn);
         result
     }
@@ -210,6 +223,7 @@ impl<C: TreeCall + Drop, B: NodeRead + Drop> Session<C, B> {
     {
         let mut turn = store.lock.take(rt, &mut self.pass);
         let result = turn.value.abort(self.number);
+        turn.value.is_legal();
         store.lock.give(&mut self.pass, turn);
         result
     }
@@ -223,6 +237,7 @@ impl<C: TreeCall + Drop, B: NodeRead + Drop> Session<C, B> {
     {
         let mut turn = store.lock.take(rt, &mut self.pass);
         let result = turn.value.drain(alloc);
+        turn.value.is_legal();
         store.lock.give(&mut self.pass, turn);
         result
     }
@@ -268,6 +283,7 @@ impl<C: TreeCall + Drop, B: NodeRead + Drop> Store<C, B> {
             Ok(desk) => desk,
             Err(core) => return Err(NoStore { core }),
         };
+        desk.is_legal();
         match TurnLock::new(alloc, desk) {
             Ok((lock, pass)) => Ok((Store { lock }, Session { pass, number })),
             Err(NoTurn { value }) => Err(NoStore {

@@ -2,6 +2,8 @@
 use Rattle.std.specs.Prelude.{◌≡◌, true, false, ◌≤◌, ◌<◌, ◌+◌, ℕ, List, [], ◌∷◌, ◌++◌, length, vec_capacity, Option, Some, Result, Ok, Err}
 use Rattle.std.specs.declared.alloc.Global.{Global}
 use Rattle.std.specs.declared.vec.Vec.{Vec}
+use Rattle.tree_model.specs.Entries.{Entries}
+use Rattle.call_contract.specs.Calls.{CallMeaning}
 use Rattle.call_contract.specs.Sessions.{commits_in}
 use Rattle.call_contract.specs.declared.events.Answer.{Answer}
 use Rattle.tx_core.specs.Cores.{CoreView}
@@ -10,7 +12,7 @@ use Rattle.tx_core.specs.declared.errors.CallError.TheVariants as call_error
 use Rattle.tx_core.specs.declared.errors.SessionError.{SessionError}
 use Rattle.tx_core.specs.declared.errors.SessionError.TheVariants as session_error
 use Rattle.turn_lock.specs.Turns.{PassView, has_number}
-use Rattle.shared_store.specs.Lists.{is_opened, list_of, number_of, SessionsFit}
+use Rattle.shared_store.specs.Lists.{HasLegalBook, is_opened, list_of, number_of, SessionsFit}
 use Rattle.shared_store.specs.declared.desk.Drain.{Drain}
 use Rattle.shared_store.specs.declared.desk.Entry.{Entry}
 use Rattle.shared_store.specs.declared.errors.StoreError.{StoreError}
@@ -80,9 +82,10 @@ as_again (Err e) = Err (as_error e)
 
 -- ---- sessions
 
--- the session holds no turn, has the number that it works under, and has seen the opening
-pub record IsSession {C B : Type 0} (pass : PassView (Entry C B)) (under : ℕ) : Type 0 where
+-- the session holds no turn, has the number that it works under, and has seen the opening and a legal book behind it
+pub record IsSession {C B : Type 0} (is_valid : C → Type 0) (m : CallMeaning C) (told : B → Option Entries) (pass : PassView (Entry C B)) (under : ℕ) : Type 0 where
   pub turn : pass.turn ≡ false
   pub own : has_number pass.has under ≡ true
   pub small : under < 65
   pub opened : is_opened pass.seen ≡ true
+  pub legal : HasLegalBook is_valid m told pass.seen

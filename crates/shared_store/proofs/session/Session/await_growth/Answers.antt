@@ -5,7 +5,7 @@ use Rattle.shared_store.proofs.Done.{seen_as}
 use Rattle.shared_store.proofs.session.Session.await_growth.Goals as goal
 
 pub invariant_of-self : goal.invariant_of-self
-invariant_of-self g c = subst (λ (p : PassView _). IsSession p c.self.inside.number) (sym c.await_growth.ensures.pass) c.self.invariant
+invariant_of-self g c = subst (λ (p : PassView _). IsSession g.C.TreeCall.is_valid g.C.TreeCall.meaning g.B.NodeRead.contents p c.self.inside.number) (sym c.await_growth.ensures.pass) c.self.invariant
 
 pub returns-clause-same : goal.returns-clause-same
 returns-clause-same g c = ap (λ (p : PassView _). seen_as p c.self.inside.number) c.await_growth.ensures.pass ∙ c.self.view_is

@@ -8,7 +8,7 @@ pub give-requires-clause-grew : goal.give-requires-clause-grew
 give-requires-clause-grew g c = grew_at c.self.inside.pass c.take-turn.new.pass c.self.inside.number _ _ c.take-turn.ensures.pass c.self.invariant.own c.commit-result.ensures.under
 
 pub invariant_of-self : goal.invariant_of-self
-invariant_of-self g c = session_stays c.self.inside.pass c.take-turn.new.pass c.give.new.pass c.self.inside.number _ _ c.self.invariant c.take-turn.ensures.pass c.give.ensures.pass refl
+invariant_of-self g c = session_stays c.self.inside.pass c.take-turn.new.pass c.give.new.pass c.self.inside.number _ _ c.self.invariant c.take-turn.ensures.pass c.give.ensures.pass refl c.is_legal.ensures
 
 pub returns-clause-done : goal.returns-clause-done
 returns-clause-done g c =

@@ -11,7 +11,7 @@ pub give-requires-clause-grew : goal.give-requires-clause-grew
 give-requires-clause-grew g c = grew_at c.self.inside.pass c.take-turn.new.pass 0 _ _ c.take-turn.ensures.pass (ap (λ (p : SessionView _ _). has_number p.has 0) c.self.view_is ∙ c.requires.number) c.drain-result.ensures.under
 
 pub invariant_of-self : goal.invariant_of-self
-invariant_of-self g c = session_stays c.self.inside.pass c.take-turn.new.pass c.give.new.pass c.self.inside.number _ _ c.self.invariant c.take-turn.ensures.pass c.give.ensures.pass refl
+invariant_of-self g c = session_stays c.self.inside.pass c.take-turn.new.pass c.give.new.pass c.self.inside.number _ _ c.self.invariant c.take-turn.ensures.pass c.give.ensures.pass refl c.is_legal.ensures
 
 pub returns-clause-done : goal.returns-clause-done
 returns-clause-done g c =

@@ -1,18 +1,19 @@
-use Rattle.std.proofs.Common.{◌≡◌, sym, ap, subst}
+use Rattle.std.proofs.Common.{◌≡◌, true, sym, ap, subst}
 use Rattle.turn_lock.specs.Turns.{GoesOn, longer, PassView}
-use Rattle.shared_store.specs.Lists.{number_of}
+use Rattle.shared_store.specs.Lists.{HasLegalBook, is_opened, number_of}
 use Rattle.shared_store.specs.Sessions.{SessionView}
 use Rattle.shared_store.specs.inside.Desks.{IsSession}
-use Rattle.shared_store.proofs.Done.{longer_opened}
+use Rattle.shared_store.proofs.Done.{of_longer}
 use Rattle.shared_store.proofs.session.Session.meet.Goals as goal
 
 pub invariant_of-self : goal.invariant_of-self
 invariant_of-self g c =
-    subst (λ (p : PassView _). IsSession p c.self.inside.number) (sym c.meet.ensures.pass) (record {
+    subst (λ (p : PassView _). IsSession g.C.TreeCall.is_valid g.C.TreeCall.meaning g.B.NodeRead.contents p c.self.inside.number) (sym c.meet.ensures.pass) (record {
       turn = c.self.invariant.turn;
       own = c.self.invariant.own;
       small = c.self.invariant.small;
-      opened = longer_opened c.self.inside.pass.seen c.other.inside.pass.seen c.self.invariant.opened c.other.invariant.opened;
+      opened = of_longer (λ es. is_opened es ≡ true) c.self.inside.pass.seen c.other.inside.pass.seen c.self.invariant.opened c.other.invariant.opened;
+      legal = of_longer (HasLegalBook g.C.TreeCall.is_valid g.C.TreeCall.meaning g.B.NodeRead.contents) c.self.inside.pass.seen c.other.inside.pass.seen c.self.invariant.legal c.other.invariant.legal;
     })
 
 pub returns-clause-goes_on : goal.returns-clause-goes_on

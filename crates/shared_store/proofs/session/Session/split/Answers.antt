@@ -13,20 +13,22 @@ split-pass-requires-clause-another g c = (
 
 pub invariant_of-self : goal.invariant_of-self
 invariant_of-self g c =
-    subst (λ (p : PassView _). IsSession p c.self.inside.number) (sym c.split-pass.ensures.kept) (record {
+    subst (λ (p : PassView _). IsSession g.C.TreeCall.is_valid g.C.TreeCall.meaning g.B.NodeRead.contents p c.self.inside.number) (sym c.split-pass.ensures.kept) (record {
       turn = c.self.invariant.turn;
       own = get_or-set_other c.self.inside.pass.has c.args.number c.self.inside.number false false (subst (λ (k : ℕ). k ≢ c.args.number) (sym (ap (λ (p : SessionView _ _). p.under) c.self.view_is)) c.requires.number.1) ∙ c.self.invariant.own;
       small = c.self.invariant.small;
       opened = c.self.invariant.opened;
+      legal = c.self.invariant.legal;
     })
 
 pub invariant_of-result : goal.invariant_of-result
 invariant_of-result g c =
-    subst (λ (p : PassView _). IsSession p c.args.number) (sym c.split-pass.ensures.given) (record {
+    subst (λ (p : PassView _). IsSession g.C.TreeCall.is_valid g.C.TreeCall.meaning g.B.NodeRead.contents p c.args.number) (sym c.split-pass.ensures.given) (record {
       turn = c.self.invariant.turn;
       own = get_or-set_same no_numbers c.args.number true false c.split-pass.ensures.fits;
       small = c.split-pass.ensures.fits;
       opened = c.self.invariant.opened;
+      legal = c.self.invariant.legal;
     })
 
 pub returns-clause-kept : goal.returns-clause-kept

@@ -1,19 +1,20 @@
-use Rattle.std.proofs.Common.{◌≡◌, ap, sym, subst, ◌∙◌}
+use Rattle.std.proofs.Common.{◌≡◌, true, ap, sym, subst, ◌∙◌}
 use Rattle.turn_lock.specs.Turns.{GoesOn, longer, PassView}
-use Rattle.shared_store.specs.Lists.{number_of}
+use Rattle.shared_store.specs.Lists.{HasLegalBook, is_opened, number_of}
 use Rattle.shared_store.specs.Sessions.{SessionView}
 use Rattle.turn_lock.proofs.Numbers.{merged_at, or_left}
 use Rattle.shared_store.specs.inside.Desks.{IsSession}
-use Rattle.shared_store.proofs.Done.{longer_opened}
+use Rattle.shared_store.proofs.Done.{of_longer}
 use Rattle.shared_store.proofs.session.Store.join.Goals as goal
 
 pub invariant_of-session : goal.invariant_of-session
 invariant_of-session g c =
-    subst (λ (p : PassView _). IsSession p c.session.inside.number) (sym c.join.ensures.pass) (record {
+    subst (λ (p : PassView _). IsSession g.C.TreeCall.is_valid g.C.TreeCall.meaning g.B.NodeRead.contents p c.session.inside.number) (sym c.join.ensures.pass) (record {
       turn = c.session.invariant.turn;
       own = merged_at c.session.inside.pass.has c.other.inside.pass.has c.session.inside.number ∙ or_left _ _ c.session.invariant.own;
       small = c.session.invariant.small;
-      opened = longer_opened c.session.inside.pass.seen c.other.inside.pass.seen c.session.invariant.opened c.other.invariant.opened;
+      opened = of_longer (λ es. is_opened es ≡ true) c.session.inside.pass.seen c.other.inside.pass.seen c.session.invariant.opened c.other.invariant.opened;
+      legal = of_longer (HasLegalBook g.C.TreeCall.is_valid g.C.TreeCall.meaning g.B.NodeRead.contents) c.session.inside.pass.seen c.other.inside.pass.seen c.session.invariant.legal c.other.invariant.legal;
     })
 
 pub returns-clause-goes_on : goal.returns-clause-goes_on
