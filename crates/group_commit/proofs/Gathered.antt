@@ -1,5 +1,5 @@
 -- What is handed out once the session that drains has met another.
-use Rattle.std.proofs.Common.{◌≡◌, ◌⊎◌, inl, inr, ℕ, ◌+◌, ◌≤◌, Bool, true, List, [], ◌∷◌, ◌++◌, length, sym, ap, ◌∙◌, subst, lit<, arith}
+use Rattle.std.proofs.Common.{◌≡◌, ◌≢◌, ◌⊎◌, inl, inr, ℕ, ◌+◌, ◌≤◌, Bool, true, List, [], ◌∷◌, ◌++◌, length, sym, ap, ◌∙◌, subst, lit<, arith}
 use Rattle.std.proofs.lemmas.List.{append-nil}
 use Rattle.node_records.specs.Pending.{FollowOn}
 use Rattle.node_records.specs.declared.pending.Pending.{Pending}
@@ -30,7 +30,7 @@ module _ {C B : Type 0} where
   left : (before after : List (Entry C B)) (bodies : List Pending) → is_opened before ≡ true → HasDrained before bodies after → IsGathered before after bodies
   left before after bodies o h = go h.list
     where
-      go : (((bodies ≡ []) × (after ≡ before)) ⊎ (after ≡ before ++ kind.Drained (number_in before + commits_in (book_of before)) ∷ [])) → IsGathered before after bodies
+      go : (((bodies ≡ []) × (after ≡ before)) ⊎ ((bodies ≢ []) × (after ≡ before ++ kind.Drained (number_in before + commits_in (book_of before)) ∷ []))) → IsGathered before after bodies
       go (inl (none, same)) =
           let all : drained_in before ≡ last_commit before = (let a = h.all in let n : length bodies ≡ 0 = ap length none in omega (arith, a, n)) in
           record {
@@ -39,7 +39,7 @@ module _ {C B : Type 0} where
             all = h.all ∙ ap last_commit (sym same);
             drained = ap drained_in same ∙ (all ∙ ap last_commit (sym same));
           }
-      go (inr is) =
+      go (inr (some, is)) =
           let k = last_commit before in
           let last : last_commit after ≡ last_commit before = ap last_commit is ∙ drain_adds before k o in
           record {

@@ -14,13 +14,11 @@ use dewey_labels::List;
 use node_records::Pending;
 use node_seq::NodeRead;
 use shared_store::{Session, Store};
-use std::alloc::Global;
 use std::sync::Wait;
 
 /// Hands out the commits that are visible and weren't handed out yet. The one that the session has made last is among them, or among those handed out before.
 pub fn gather<C: TreeCall + Drop, B: NodeRead + Drop, R: Wait>(
     rt: &R,
-    alloc: Global,
     store: &Store<C, B>,
     drainer: &mut Session<C, B>,
     session: &mut Session<C, B>,
@@ -39,5 +37,5 @@ pub fn gather<C: TreeCall + Drop, B: NodeRead + Drop, R: Wait>(
     // Called for their contract: both lists begin with the opening.
     let _numbers = (drainer.number(), session.number());
     drainer.meet(store, session);
-    drainer.drain(rt, alloc, store)
+    drainer.drain(rt, store)
 }

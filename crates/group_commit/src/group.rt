@@ -122,26 +122,23 @@ impl<C: TreeCall + Drop, B: NodeRead + Drop, J: Disk> GroupCommit<C, B, J> {
         let mut turn = self.lock.take(rt, &mut member.pass);
         let result = turn
             .value
-            .settle(rt, alloc, &self.store, &mut member.session, number);
+            .settle(rt, &self.store, &mut member.session, number);
         member.durable = turn.value.durable();
         self.lock.give(&mut member.pass, turn);
         result
     }
 
-    /// Makes all commits durable that the member has seen, with all others that are visible by now. Where all are, it makes no call of the disk.
+    /// Makes all commits durable that the member has seen, with all others that are visible by now. Where all are, it makes no call of the disk. It takes no memory.
     pub fn make_durable<R: Wait>(
         &self,
         rt: &R,
-        alloc: Global,
         member: &mut Member<C, B, J>,
     ) -> Result<(), StoreError>
         requires { IsOf self.now member.old }
         ensures { HasMadeDurable member.old member.new result }
     {
         let mut turn = self.lock.take(rt, &mut member.pass);
-        let result = turn
-            .value
-            .settle_all(rt, alloc, &self.store, &mut member.session);
+        let result = turn.value.settle_all(rt, &self.store, &mut member.session);
         member.durable = turn.value.durable();
         self.lock.give(&mut member.pass, turn);
         result

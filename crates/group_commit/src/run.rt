@@ -92,7 +92,6 @@ fn open<C: TreeCall + LineCall + Drop, B: NodeRead + Drop, J: Disk>(
 /// The replies, once all commits are durable that the member has seen; or why these aren't.
 fn once_durable<R: Wait, C: TreeCall + LineCall + Drop, B: NodeRead + Drop, J: Disk>(
     rt: &R,
-    alloc: Global,
     group: &GroupCommit<C, B, J>,
     main: &mut Member<C, B, J>,
     replies: Result<List<LineReply>, PortFault>,
@@ -104,7 +103,7 @@ fn once_durable<R: Wait, C: TreeCall + LineCall + Drop, B: NodeRead + Drop, J: D
     ensures durable { IfOk result (λ _. AreReached main.new.pass.seen (last_commit main.new.session.seen) × (failure_in main.new.pass.seen ≡ None)) }
 {
     let replies = replies?;
-    match group.make_durable(rt, alloc, main) {
+    match group.make_durable(rt, main) {
         Ok(()) => Ok(replies),
         Err(why) => Err(fault_of(why)),
     }
@@ -145,7 +144,7 @@ fn work<
     keep(&mut ports, StorePort::new(group, main, own));
     let Worked { ports, replies } = run_workers(rt, alloc, List::from_vec(ports), lines, gate);
     let mut main = join_all(group, ports);
-    let replies = once_durable(rt, alloc, group, &mut main, replies);
+    let replies = once_durable(rt, group, &mut main, replies);
     (main, replies)
 }
 

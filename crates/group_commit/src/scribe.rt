@@ -18,7 +18,6 @@ use node_records::Pending;
 use node_seq::NodeRead;
 use outside_traits::Disk;
 use shared_store::{Session, Store, StoreError};
-use std::alloc::Global;
 use std::marker::Model;
 use std::snapshot::Snapshot;
 use std::sync::Wait;
@@ -122,7 +121,6 @@ impl<C: TreeCall + Drop, B: NodeRead + Drop, J: Disk> Scribe<C, B, J> {
     pub fn settle<R: Wait>(
         &mut self,
         rt: &R,
-        alloc: Global,
         store: &Store<C, B>,
         session: &mut Session<C, B>,
         number: u32,
@@ -139,7 +137,7 @@ impl<C: TreeCall + Drop, B: NodeRead + Drop, J: Disk> Scribe<C, B, J> {
         if number <= self.durable {
             return Ok(number);
         }
-        self.settle_all(rt, alloc, store, session)?;
+        self.settle_all(rt, store, session)?;
         Ok(number)
     }
 
@@ -147,7 +145,6 @@ impl<C: TreeCall + Drop, B: NodeRead + Drop, J: Disk> Scribe<C, B, J> {
     pub fn settle_all<R: Wait>(
         &mut self,
         rt: &R,
-        alloc: Global,
         store: &Store<C, B>,
         session: &mut Session<C, B>,
     ) -> Result<(), StoreError>
@@ -164,14 +161,13 @@ impl<C: TreeCall + Drop, B: NodeRead + Drop, J: Disk> Scribe<C, B, J> {
                 faults: failed.faults,
             });
         }
-        self.write(rt, alloc, store, session)
+        self.write(rt, store, session)
     }
 
     // Writes all commits that are visible by now.
     fn write<R: Wait>(
         &mut self,
         rt: &R,
-        alloc: Global,
         store: &Store<C, B>,
         session: &mut Session<C, B>,
     ) -> Result<(), StoreError>
@@ -184,7 +180,7 @@ impl<C: TreeCall + Drop, B: NodeRead + Drop, J: Disk> Scribe<C, B, J> {
     {
         // Called for its contract: between two calls of the journal all is synced.
         self.journal.is_usable();
-        let commits = gather(rt, alloc, store, &mut self.drainer, session);
+        let commits = gather(rt, store, &mut self.drainer, session);
         if commits.is_empty() {
             return Ok(());
         }

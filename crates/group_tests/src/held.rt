@@ -78,7 +78,7 @@ fn clear_during_sync<R: Wait>(
         return false;
     }
     hold.free();
-    group.make_durable(rt, alloc, &mut member).is_ok()
+    group.make_durable(rt, &mut member).is_ok()
 }
 
 /// Begins a transaction that clears each of these labels.

@@ -66,7 +66,6 @@ struct InTurn {
 /// Asks for all commits that a member has seen to be durable, if it is to.
 fn ask_for_all<R: Wait>(
     rt: &R,
-    alloc: Global,
     group: &Group<MemDisk>,
     member: &mut One<MemDisk>,
     asks: bool,
@@ -75,7 +74,7 @@ fn ask_for_all<R: Wait>(
     ensures { HasSeenMore member.old member.new }
 {
     if asks {
-        group.make_durable(rt, alloc, member)
+        group.make_durable(rt, member)
     } else {
         Ok(())
     }
@@ -85,7 +84,7 @@ fn commit_in_turn<R: Wait>(rt: &R, alloc: Global, asks: bool) -> Result<InTurn, 
     let (group, mut member) = group_of(alloc, journal_on(alloc, &[])?)?;
     let first = commit_next(rt, alloc, &group, &mut member);
     let beside = commit_beside(rt, alloc, &group, &mut member);
-    let asked = ask_for_all(rt, alloc, &group, &mut member, asks);
+    let asked = ask_for_all(rt, &group, &mut member, asks);
     let (_core, journal) = group.close(member);
     let disk = journal.into_disk();
     Ok(InTurn {
@@ -144,7 +143,7 @@ fn commit_on_a_failing_disk<R: Wait>(
     let _ordinal = two.begin(rt, alloc, group.store());
     let first = commit_next(rt, alloc, &group, &mut member);
     let second = group.commit(rt, alloc, &mut two);
-    let asked = group.make_durable(rt, alloc, &mut two);
+    let asked = group.make_durable(rt, &mut two);
     let begun = member.begin(rt, alloc, group.store());
     Ok(OnFault {
         first,

@@ -1,5 +1,5 @@
 -- What the calls of the core do to the list behind the turn.
-use Rattle.std.proofs.Common.{◌≡◌, ℕ, Bool, true, false, List, [], ◌∷◌, ◌++◌, ◌⊎◌, ◌+◌, ◌<◌, ◌≤◌, length, sym, refl, ap, ◌∙◌, subst, inl, inr, arith}
+use Rattle.std.proofs.Common.{◌≡◌, ◌≢◌, ℕ, Bool, true, false, List, [], ◌∷◌, ◌++◌, ◌⊎◌, ◌+◌, ◌<◌, ◌≤◌, length, sym, refl, ap, ◌∙◌, subst, inl, inr, arith}
 use Rattle.std.specs.Prelude.{Option, Some, None, Result, Ok, Err, IfOk, IfErr, OnErr, nat_lt, vec_capacity, if◌then◌else◌}
 use Rattle.std.proofs.lemmas.List.{append-nil, length-append}
 use Rattle.std.specs.declared.alloc.Global.{Global}
@@ -458,7 +458,7 @@ module _ {C B : Type 0} (unchanged : B → B → Type 0) (first v w : CoreView C
   Old = list_of first v.book drains.items
 
   handed_out : (bodies : List Pending) (after : List (Entry C B)) → FollowOn v.undrained.after bodies → v.undrained.after + length bodies ≡ v.number + commits_in v.book
-      → (((bodies ≡ []) × (after ≡ Old)) ⊎ (after ≡ Old ++ kind.Drained (first.number + commits_in (book_of Old)) ∷ [])) → HasDrained Old bodies after
+      → (((bodies ≡ []) × (after ≡ Old)) ⊎ ((bodies ≢ []) × (after ≡ Old ++ kind.Drained (first.number + commits_in (book_of Old)) ∷ []))) → HasDrained Old bodies after
   handed_out bodies after follow all list = record {
     follow = subst (λ (k : ℕ). FollowOn k bodies) (sym from_old) follow;
     all = (λ i. from_old i + length bodies) ∙ all ∙ to_now;
@@ -466,11 +466,11 @@ module _ {C B : Type 0} (unchanged : B → B → Type 0) (first v w : CoreView C
   }
 
   pub some_drained : (bodies : List Pending) (d : Drain) → FollowOn v.undrained.after bodies → v.undrained.after + length bodies ≡ v.number + commits_in v.book → w.book ≡ v.book → others.items ≡ drains.items ++ d ∷ [] → d.at ≡ length v.book
-      → d.number ≡ v.number + commits_in v.book → HasDrained Old bodies (list_of first w.book others.items) × AddsUnder 0 Old (list_of first w.book others.items)
-  some_drained bodies d follow all book items at number =
+      → d.number ≡ v.number + commits_in v.book → bodies ≢ [] → HasDrained Old bodies (list_of first w.book others.items) × AddsUnder 0 Old (list_of first w.book others.items)
+  some_drained bodies d follow all book items at number some =
       let list : list_of first w.book others.items ≡ Old ++ kind.Drained (first.number + commits_in (book_of Old)) ∷ [] =
       (λ i. list_of first (book i) (items i)) ∙ list_drained first v.book drains.items desk.rise d at ∙ ap (λ (k : ℕ). Old ++ kind.Drained k ∷ []) (number ∙ to_now) in
-      (handed_out bodies (list_of first w.book others.items) follow all (inr list), (kind.Drained (first.number + commits_in (book_of Old)) ∷ [], list, (refl, tt)))
+      (handed_out bodies (list_of first w.book others.items) follow all (inr (some, list)), (kind.Drained (first.number + commits_in (book_of Old)) ∷ [], list, (refl, tt)))
 
   pub none_drained : (bodies : List Pending) → FollowOn v.undrained.after bodies → v.undrained.after + length bodies ≡ v.number + commits_in v.book → w.book ≡ v.book → others.items ≡ drains.items → bodies ≡ []
       → HasDrained Old bodies (list_of first w.book others.items) × AddsUnder 0 Old (list_of first w.book others.items)

@@ -137,4 +137,4 @@ module _ {C B : Type 0} where
   pub record HasDrained (before : List (Entry C B)) (bodies : List Pending) (after : List (Entry C B)) : Type 0 where
     pub follow : FollowOn (drained_in before) bodies
     pub all : drained_in before + length bodies ≡ number_in before + commits_in (book_of before)
-    pub list : ((bodies ≡ []) × (after ≡ before)) ⊎ (after ≡ before ++ kind.Drained (number_in before + commits_in (book_of before)) ∷ [])
+    pub list : ((bodies ≡ []) × (after ≡ before)) ⊎ ((bodies ≢ []) × (after ≡ before ++ kind.Drained (number_in before + commits_in (book_of before)) ∷ []))

@@ -214,13 +214,13 @@ impl<C: TreeCall + Drop, B: NodeRead + Drop> Desk<C, B> {
     }
 
     /// Hands out the commits that weren't handed out yet.
-    pub fn drain(&mut self, alloc: Global) -> List<Pending>
+    pub fn drain(&mut self) -> List<Pending>
         ensures told { HasDrained (list_in self.old) result (list_in self.new) }
         ensures bodies { (t : Tree) → OpensFrom B.contents (list_in self.new) t → HaveLastBodies C.meaning t (book_of (list_in self.new)) result }
         ensures under { AddsUnder 0 (list_in self.old) (list_in self.new) }
     {
         let at = self.core.book().len();
-        let bodies = self.core.drain(alloc);
+        let bodies = self.core.drain(*self.drains.allocator());
         if !bodies.is_empty() {
             let number = self.core.drained();
             self.drains.push_reserved(Drain { at, number });

@@ -229,14 +229,14 @@ impl<C: TreeCall + Drop, B: NodeRead + Drop> Session<C, B> {
     }
 
     /// Hands out what the commits since the last such call have left to be made durable, in their order. It takes no memory.
-    pub fn drain<R: Wait>(&mut self, rt: &R, alloc: Global, store: &Store<C, B>) -> List<Pending>
+    pub fn drain<R: Wait>(&mut self, rt: &R, store: &Store<C, B>) -> List<Pending>
         requires store { self.old.lock ≡ store.now }
         requires number { has_number self.old.has 0 ≡ true }
         ensures done { HasDone self.old self.new (λ before after. HasDrained before result after) }
         ensures bodies { (t : Tree) → OpensFrom B.contents self.new.seen t → HaveLastBodies C.meaning t (book_of self.new.seen) result }
     {
         let mut turn = store.lock.take(rt, &mut self.pass);
-        let result = turn.value.drain(alloc);
+        let result = turn.value.drain();
         turn.value.is_legal();
         store.lock.give(&mut self.pass, turn);
         result

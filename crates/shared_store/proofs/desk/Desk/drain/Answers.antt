@@ -42,7 +42,7 @@ returns-then-not-is_empty-clause-told g c =
     let is = c.drain-bodies.ensures in
     subst (λ (z : DeskView _ _). HasDrained (list_in z) c.drain-bodies.result (list_of d.first.value w.book ds.items)) c.self.view_is
     (some_drained g.B.NodeRead.unchanged d.first.value d.core w d.drains ds c.self.invariant.0 c.drain-bodies.result note is.follow is.last (ap (λ (v : CoreView _ _). v.book) is.none_waits) more (ap length c.book-at.ensures.book)
-    (c.drained-number.ensures ∙ ap (λ (v : CoreView _ _). v.undrained.after) is.none_waits)).0
+    (c.drained-number.ensures ∙ ap (λ (v : CoreView _ _). v.undrained.after) is.none_waits) (λ e. true≢false (sym (c.is_empty.ensures.1 e) ∙ c.if-not-is_empty.true))).0
 
 pub returns-then-not-is_empty-clause-under : goal.returns-then-not-is_empty-clause-under
 returns-then-not-is_empty-clause-under g c =
@@ -54,7 +54,7 @@ returns-then-not-is_empty-clause-under g c =
     let is = c.drain-bodies.ensures in
     subst (λ (z : DeskView _ _). AddsUnder 0 (list_in z) (list_of d.first.value w.book ds.items)) c.self.view_is
     (some_drained g.B.NodeRead.unchanged d.first.value d.core w d.drains ds c.self.invariant.0 c.drain-bodies.result note is.follow is.last (ap (λ (v : CoreView _ _). v.book) is.none_waits) more (ap length c.book-at.ensures.book)
-    (c.drained-number.ensures ∙ ap (λ (v : CoreView _ _). v.undrained.after) is.none_waits)).1
+    (c.drained-number.ensures ∙ ap (λ (v : CoreView _ _). v.undrained.after) is.none_waits) (λ e. true≢false (sym (c.is_empty.ensures.1 e) ∙ c.if-not-is_empty.true))).1
 
 pub returns-else-not-is_empty-clause-told : goal.returns-else-not-is_empty-clause-told
 returns-else-not-is_empty-clause-told g c =
