@@ -22,7 +22,7 @@ use Rattle.shared_store.specs.Bodies.{bodies_of}
 use Rattle.shared_store.specs.Lists.{OpensFrom, book_of, number_in}
 use Rattle.shared_store.specs.Sessions.{IsOpenedAs, SessionView}
 use Rattle.shared_store.specs.declared.desk.Entry.{Entry}
-use Rattle.group_commit.specs.Closings.{AreOthers as HasNone}
+use Rattle.group_commit.specs.Closings.{AreOthers as HasNone, IsFailed}
 use Rattle.group_commit.specs.Marks.{durable_in, failure_in, last_commit, opening_in}
 use Rattle.group_commit.specs.Members.{GroupView, MemberView}
 use Rattle.group_commit.specs.Written.{HaveBodies, HoldsFirst}
@@ -87,8 +87,8 @@ module _ {C B : Type 0} (m : CallMeaning C) (told : B → Option Entries) (is_kn
         go : (o : Option ℕ) → failure_in out.marks ≡ o → out.as_told.first.faults ≤ journal.faults
         go None e = let same = (out.as_told.unfailed e).faults in omega (arith, same)
         go (Some f) e =
-            let h : FaultCounted out.as_told.first.faults f × (f ≤ journal.faults) = subst (λ (o : Option ℕ). IfSome o (λ k. FaultCounted out.as_told.first.faults k × (k ≤ journal.faults))) e out.as_told.failed in
-            counted_below out.as_told.first.faults f journal.faults small h.0 h.1
+            let h : IsFailed out.as_told.first f journal = subst (λ (o : Option ℕ). IfSome o (λ k. IsFailed out.as_told.first k journal)) e out.as_told.failed in
+            counted_below out.as_told.first.faults f journal.faults small h.above h.below
 
     wrote_least : (least : ℕ) → least ≤ durable_in out.marks - last_commit out.as_told.session.seen → WroteFirst m told is_known is.journal least core journal
     wrote_least least le =

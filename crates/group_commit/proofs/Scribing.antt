@@ -221,9 +221,9 @@ module _ {C B : Type 0} where
           }
 
       -- it failed
-      pub halted : (by faults : ℕ) → by < 65 → FaultCounted v.journal.faults j.faults → faults ≡ j.faults → (IsTrue known → IsImage j.history.now j.history.now.reads)
+      pub halted : (by faults : ℕ) → by < 65 → FaultCounted v.journal.faults j.faults → faults ≡ j.faults → (IsTrue known → IsImage j.history.now j.history.now.reads) → j.failed ≡ true
           → IsScribe meaning contents known (with_parts v j d v.written v.durable (Some (record { by = by; faults = faults })))
-      halted by faults small rose is_now reads =
+      halted by faults small rose is_now reads unusable =
           let now : IsTrue known → (image : List ℕ) → IsImage j.history.now image → HoldsFirst v.opening (going.commits ++ ps) v.written image =
           λ is_known image at. subst (λ (k : ℕ). HoldsFirst v.opening (going.commits ++ ps) k image) least
           (now_of (groups_in v.opening.history) (HoldsFirst v.opening (going.commits ++ ps) (length going.commits)) v.journal.history j.history
@@ -237,6 +237,7 @@ module _ {C B : Type 0} where
               by = small;
               above = subst (λ (f : ℕ × ℕ). FaultCounted f.0 f.1) (λ i. (going.faults i, sym is_now i)) rose;
               below = subst (λ (k : ℕ). k ≤ j.faults) (sym is_now) (omega arith);
+              unusable = unusable;
               holds = record {
                 commits = going.commits ++ ps;
                 numbers = numbers;

@@ -9,7 +9,6 @@ use Rattle.call_contract.specs.Books.{Book}
 use Rattle.call_contract.specs.Sessions.{commits_in}
 use Rattle.call_contract.specs.Calls.{CallMeaning}
 use Rattle.outside_traits.specs.CrashImages.{IsImage}
-use Rattle.outside_traits.specs.Faults.{FaultCounted}
 use Rattle.outside_traits.specs.Moments.{IsAllSynced}
 use Rattle.outside_traits.proofs.MomentLaws.{leaves_all}
 use Rattle.journal.specs.Appends.{groups_in}
@@ -21,7 +20,7 @@ use Rattle.shared_store.specs.Bodies.{bodies_of}
 use Rattle.shared_store.specs.Lists.{book_of, OpensFrom}
 use Rattle.shared_store.specs.Sessions.{SessionView}
 use Rattle.tx_core.specs.Cores.{CoreView}
-use Rattle.group_commit.specs.Closings.{AreOthers, IsAsTold}
+use Rattle.group_commit.specs.Closings.{AreOthers, IsAsTold, IsFailed}
 use Rattle.group_commit.specs.Marks.{durable_in, durables, failure_in, failures, last_commit, marked_by, opening_in}
 use Rattle.group_commit.specs.Members.{Marks}
 use Rattle.group_commit.specs.Written.{HaveBodies, HoldsFirst}
@@ -159,7 +158,7 @@ module _ {C B : Type 0} (meaning : CallMeaning C) (contents : B → Option Entri
             let m = is.made in
             (omega (arith, e, l), omega (arith, e, m, made))
 
-        failed : (o : Option ℕ) → failure_in seen ≡ o → IfSome o (λ faults. FaultCounted s.opening.faults faults × (faults ≤ s.journal.faults))
+        failed : (o : Option ℕ) → failure_in seen ≡ o → IfSome o (λ faults. IsFailed s.opening faults s.journal)
         failed None e = tt
         failed (Some f) e = let no : ◌≡◌ {A = Option ℕ} None (Some f) = sym (ap (λ (x : Option Failed). failure_in (failures {S = SessionView C B} {J = JournalView} x)) none) ∙ failure_seen f e in cc
 
@@ -196,11 +195,11 @@ module _ {C B : Type 0} (meaning : CallMeaning C) (contents : B → Option Entri
             let no : ◌≡◌ {A = Option ℕ} None (Some f.faults) = sym later ∙ (sym (failure_append seen rest none) ∙ (sym (ap failure_in goes.1) ∙ (told_failure s ∙ fails))) in
             cc
 
-        failed : (o : Option ℕ) → failure_in seen ≡ o → IfSome o (λ faults. FaultCounted s.opening.faults faults × (faults ≤ s.journal.faults))
+        failed : (o : Option ℕ) → failure_in seen ≡ o → IfSome o (λ faults. IsFailed s.opening faults s.journal)
         failed None e = tt
         failed (Some g) e =
             let same : f.faults ≡ g = some_same f.faults g (sym fails ∙ failure_seen g e) in
-            subst (λ (k : ℕ). FaultCounted s.opening.faults k × (k ≤ s.journal.faults)) same (halted.above, halted.below)
+            subst (λ (k : ℕ). IsFailed s.opening k s.journal) same (record { above = halted.above; below = halted.below; unusable = halted.unusable })
 
     pub as_told : IsAsTold meaning contents known seen core s.journal
     as_told = go s.failure refl is.stands

@@ -1,5 +1,5 @@
 -- What is promised of a journal when its group commit is closed.
-use Rattle.std.specs.Prelude.{◌≡◌, ◌≢◌, ℕ, ◌+◌, ◌-◌, ◌≤◌, Bool, [], ◌∷◌, ◌++◌, Option, Some, None, IfSome}
+use Rattle.std.specs.Prelude.{◌≡◌, ◌≢◌, ℕ, ◌+◌, ◌-◌, ◌≤◌, Bool, true, [], ◌∷◌, ◌++◌, Option, Some, None, IfSome}
 use Rattle.outside_traits.specs.Faults.{FaultCounted}
 use Rattle.tree_model.specs.Entries.{Entries}
 use Rattle.tree_model.specs.Tree.{Tree}
@@ -25,6 +25,12 @@ pub record IsUnfailed (first : JournalView) (least most : ℕ) (journal : Journa
   pub faults : journal.faults ≡ first.faults
   pub last : IfSome journal.last (λ number. (least ≤ number) × (number ≤ most))
 
+-- a call of the journal failed since, at this count of its disk's faults, and it takes no more
+pub record IsFailed (first : JournalView) (faults : ℕ) (journal : JournalView) : Type 0 where
+  pub above : FaultCounted first.faults faults
+  pub below : faults ≤ journal.faults
+  pub unusable : journal.failed ≡ true
+
 -- What a list behind the journal's turn tells of the journal that is handed out with this core. Its commits are the core's, each under its number with its body.
 pub record IsAsTold {C B : Type 0} (m : CallMeaning C) (told : B → Option Entries) (is_known : Bool) (marks : Marks C B) (core : CoreView C B) (journal : JournalView) : Type 0 where
   pub session : SessionView C B
@@ -35,4 +41,4 @@ pub record IsAsTold {C B : Type 0} (m : CallMeaning C) (told : B → Option Entr
   -- and nothing was noted under the number 0 since
   pub idle : (added : Book C) × (core.book ≡ book_of session.seen ++ added) × AreOthers 0 added
   pub unfailed : failure_in marks ≡ None → IsUnfailed first (last_commit session.seen + (durable_in marks - last_commit session.seen)) (core.number + commits_in core.book) journal
-  pub failed : IfSome (failure_in marks) (λ faults. FaultCounted first.faults faults × (faults ≤ journal.faults))
+  pub failed : IfSome (failure_in marks) (λ faults. IsFailed first faults journal)

@@ -126,6 +126,7 @@ module _ {C B : Type 0} (m : CallMeaning C) (told : B → Option Entries) where
     pub by : failed.by < 65
     pub above : FaultCounted v.opening.faults failed.faults
     pub below : failed.faults ≤ v.journal.faults
+    pub unusable : v.journal.failed ≡ true
     pub holds : HasWritten is_known v.opening (began_after v) v.written (last_commit v.drainer.seen) v.journal
     pub bodies : AreMade v holds.commits
 

@@ -1,5 +1,5 @@
 use Rattle.std.proofs.Common.{◌≡◌, ◌<◌, ◌+◌, ℕ, IsTrue, List, ap, sym, subst, ◌∙◌, refl}
-use Rattle.std.specs.Prelude.{None, Option, Some, Ok, Err, OnOk, length}
+use Rattle.std.specs.Prelude.{None, Option, Some, Ok, Err, OnErr, OnOk, length, true}
 use Rattle.tree_model.specs.Tree.{Tree}
 use Rattle.node_records.specs.declared.pending.Pending.{Pending}
 use Rattle.shared_store.specs.Bodies.{HaveLastBodies}
@@ -115,6 +115,7 @@ invariant_of-self-in-Err g c =
     let j = c.append_groups-appended.new.self in
     let rose = c.append_groups-appended.ensures.cause.failed c.in-Err.is in
     halted g.C.TreeCall.meaning g.B.NodeRead.contents g.J.Disk.is_known v c.self.invariant none d ps e.drainer got lasts j (λ is_known. c.append_groups-appended.ensures.any_moment is_known) (λ is_known. c.is_usable.ensures.settled is_known (takes g.C.TreeCall.meaning g.B.NodeRead.contents g.J.Disk.is_known v c.self.invariant none d ps e.drainer got lasts).unfailed) c.number-by.result c.faults-faults.result (subst (λ (k : ℕ). k < 65) (sym c.number-by.ensures.number) c.number-by.ensures.small) rose c.faults-faults.ensures.count c.faults-faults.ensures.reads_an_image
+    (subst (λ r. OnErr r (j.failed ≡ true)) c.in-Err.is c.append_groups-appended.ensures.err)
 
 pub returns-in-Ok-clause-answer : goal.returns-in-Ok-clause-answer
 returns-in-Ok-clause-answer g c =
@@ -148,7 +149,8 @@ returns-clause-answer g c =
     let lasts : (t : Tree) → OpensFrom g.B.NodeRead.contents d.seen t → HaveLastBodies g.C.TreeCall.meaning t (book_of d.seen) ps = λ t opens. subst (λ (l : List Pending). HaveLastBodies g.C.TreeCall.meaning t (book_of d.seen) l) (sym c.as_slice-pending.ensures) (e.bodies t opens) in
     let j = c.append_groups-appended.new.self in
     let rose = c.append_groups-appended.ensures.cause.failed c.in-Err.is in
-    let above = (halted g.C.TreeCall.meaning g.B.NodeRead.contents g.J.Disk.is_known v c.self.invariant none d ps e.drainer got lasts j (λ is_known. c.append_groups-appended.ensures.any_moment is_known) (λ is_known. c.is_usable.ensures.settled is_known (takes g.C.TreeCall.meaning g.B.NodeRead.contents g.J.Disk.is_known v c.self.invariant none d ps e.drainer got lasts).unfailed) c.number-by.result c.faults-faults.result (subst (λ (k : ℕ). k < 65) (sym c.number-by.ensures.number) c.number-by.ensures.small) rose c.faults-faults.ensures.count c.faults-faults.ensures.reads_an_image).stands.above in
+    let above = (halted g.C.TreeCall.meaning g.B.NodeRead.contents g.J.Disk.is_known v c.self.invariant none d ps e.drainer got lasts j (λ is_known. c.append_groups-appended.ensures.any_moment is_known) (λ is_known. c.is_usable.ensures.settled is_known (takes g.C.TreeCall.meaning g.B.NodeRead.contents g.J.Disk.is_known v c.self.invariant none d ps e.drainer got lasts).unfailed) c.number-by.result c.faults-faults.result (subst (λ (k : ℕ). k < 65) (sym c.number-by.ensures.number) c.number-by.ensures.small) rose c.faults-faults.ensures.count c.faults-faults.ensures.reads_an_image
+    (subst (λ r. OnErr r (j.failed ≡ true)) c.in-Err.is c.append_groups-appended.ensures.err)).stands.above in
     subst (λ (x : ScribeView _ _). IsMadeDurable (marks_in x) c.args.session.now.under (last_commit c.args.session.now.seen) (Err DiskFault) (marks_in (with_parts v j d s.written s.durable (Some (record { by = c.number-by.result; faults = c.faults-faults.result }))))) c.self.view_is
     (subst (λ (u : ℕ). IsMadeDurable (marks_in v) u (last_commit c.args.session.now.seen) (Err DiskFault) (marks_in (with_parts v j d s.written s.durable (Some (record { by = c.number-by.result; faults = c.faults-faults.result })))))
     (c.number-by.ensures.number ∙ ap (λ (x : SessionView _ _). x.under) e.session) (made_err g.C.TreeCall.meaning g.B.NodeRead.contents g.J.Disk.is_known v c.self.invariant none d ps e.drainer got lasts j c.number-by.result (last_commit c.args.session.now.seen) c.faults-faults.result above))
