@@ -8,7 +8,7 @@ ghost use Rattle.turn_lock.specs.Turns.{has_number, only_number};
 ghost use Rattle.shared_store.specs.Bodies.{HasBodies};
 ghost use Rattle.shared_store.specs.Lists.{book_of, SessionsFit};
 ghost use Rattle.shared_store.specs.Sessions.{having_seen};
-ghost use Rattle.shared_callers.specs.Known.{IsAfter, IsKnown, IsMade};
+ghost use Rattle.shared_callers.specs.Known.{BeginsWith, HasReadBehind, HasReadIn, IsAfter, IsKnown, IsMade, KnowsBoth};
 
 use call_contract::TreeCall;
 use node_seq::NodeRead;
@@ -18,15 +18,17 @@ use std::sync::Wait;
 use std::thread::{Threads, join};
 use tx_core::Core;
 
-/// Whether two sessions made their calls, and the core afterwards.
+/// Whether two sessions made their calls, what a third read of them, and the core afterwards.
 #[derive(Drop)]
 pub struct BothMade<C: TreeCall + Drop, B: NodeRead + Drop> {
     pub first: bool,
     pub second: bool,
+    /// None where the third one's call or commit was refused or failed.
+    pub read: Option<Ended>,
     pub core: Core<C, B>,
 }
 
-/// A transaction of one call. After an Err it may be live.
+/// A transaction of one call. After an Err it may be live. Where it is committed it has read what the commits before it made, those that the session had seen among them.
 fn make_call<C: TreeCall + Drop, B: NodeRead + Drop, R: Wait>(
     rt: &R,
     alloc: Global,
@@ -37,10 +39,14 @@ fn make_call<C: TreeCall + Drop, B: NodeRead + Drop, R: Wait>(
     requires { (session.old.lock ≡ store.now) × (session.old.under ≢ 0) }
     ensures same { session.new ≡ having_seen session.new.seen session.old }
     ensures made { IfOk result (λ e. IsMade session.old.under call e (book_of session.new.seen)) }
+    ensures grown { BeginsWith session.old.seen session.new.seen }
+    ensures read { IfOk result (λ e. HasReadBehind C.meaning B.contents session.old call e session.new) }
 {
     session.begin(rt, alloc, store)?;
     let ended = session.call(rt, alloc, store, call)?;
     session.commit(rt, alloc, store)?;
+    // Called for its contract: while the store is open what the session has seen is serial.
+    session.is_legal();
     Ok(ended)
 }
 
@@ -103,17 +109,20 @@ fn make_both<C: TreeCall + Drop + Send, B: NodeRead + Drop + Send, R: Threads + 
     )
 }
 
-/// Two sessions each make a transaction of one call in a thread of their own, and a third meets both before the store is closed.
-/// Where a session made its call, that stands in the core's book with its answer and its commit, and the book is serial. None where there was no memory for a store.
+/// Two sessions each make a transaction of one call in a thread of their own. A third meets both, and makes one too while the store is open; then the store is closed.
+/// Where a session made its call, that stands in the core's book with its answer and its commit, and the book is serial.
+/// The third one's calls were answered on the tree that the commits before its own make, those of the other two among them.
+/// None where there was no memory for a store.
 pub fn call_in_two_threads<
     C: TreeCall + Drop + Send,
     B: NodeRead + Drop + Send,
     R: Threads + Wait + Sync,
->(rt: &R, alloc: Global, core: Core<C, B>, first: C, second: C) -> Option<BothMade<C, B>>
+>(rt: &R, alloc: Global, core: Core<C, B>, first: C, second: C, read: C) -> Option<BothMade<C, B>>
     requires sessions { SessionsFit core.book }
     requires bodies { HasBodies C.meaning B.contents core }
     ensures first { IfSome result (λ r. r.first ≡ true → IsKnown 1 first r.core.book) }
     ensures second { IfSome result (λ r. r.second ≡ true → IsKnown 2 second r.core.book) }
+    ensures read { IfSome result (λ r. HasReadIn C.meaning B.contents (KnowsBoth r.first first r.second second) 3 read r.read r.core) }
     ensures serial { IfSome result (λ r. (t : Tree) → StandsFor (B.contents r.core.opening) t
         → IsSerial C.meaning t r.core.number r.core.limit r.core.book) }
 {
@@ -127,6 +136,9 @@ pub fn call_in_two_threads<
     );
     third.meet(&store, &mut one);
     third.meet(&store, &mut two);
+    let read = make_call(rt, alloc, &store, &mut third, read).ok();
+    // Called for its contract: what it has seen begins with the opening.
+    let _number = third.number();
     store.join(&mut third, one);
     store.join(&mut third, two);
     let core = store.close(third);
@@ -135,6 +147,7 @@ pub fn call_in_two_threads<
     Some(BothMade {
         first,
         second,
+        read,
         core,
     })
 }
