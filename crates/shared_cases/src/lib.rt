@@ -7,9 +7,11 @@ mod moves;
 mod plain;
 mod rows;
 mod spread;
+mod waits;
 
 pub use book::book_after;
 pub use line::{Here, Port, Trouble, Way};
 pub use moves::sums_after;
 pub use rows::{again, in_two_threads, replies_to};
 pub use spread::{cut, store_with};
+pub use waits::{Replies, one_waits, two_wait};

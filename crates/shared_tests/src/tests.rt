@@ -1,7 +1,10 @@
 //! Sessions in threads: worked scripts, amounts that are moved, and the core afterwards.
 ghost use Rattle.std.specs.Prelude.{◌≡◌};
 
-use shared_cases::{Trouble, Way, again, cut, in_two_threads, replies_to, store_with, sums_after};
+use shared_cases::{
+    Trouble, Way, again, cut, in_two_threads, one_waits, replies_to, store_with, sums_after,
+    two_wait,
+};
 use std::alloc::Global;
 use std::sync::Wait;
 use std::thread::Threads;
@@ -26,6 +29,21 @@ const COMMIT_2: &str = "{\"s\":2,\"call\":\"commit\"}";
 const CHILDREN_1: &str = "{\"s\":1,\"call\":\"children\",\"at\":\"1.1001.1001\"}";
 
 const CHILDREN_64: &str = "{\"s\":64,\"call\":\"children\",\"at\":\"1.1001.1001\"}";
+
+const CHILDREN_3: &str = "{\"s\":3,\"call\":\"children\",\"at\":\"1.1001.1001\"}";
+
+const BELOW_1: &str = "{\"s\":1,\"call\":\"children\",\"at\":\"1.1001.1001.1001\"}";
+
+const BEGIN_3: &str = "{\"s\":3,\"call\":\"begin\"}";
+
+const COMMIT_3: &str = "{\"s\":3,\"call\":\"commit\"}";
+
+const APPEND_3: &str = "{\"s\":3,\"call\":\"append\",\"at\":\"1.1001.1001.1001\",\"tree\":[\"c\"]}";
+
+/// The ends of replies that have to wait.
+const BY_2: &str = "\"by\":[2],\"on\":\"node 1.1001\"}}\n";
+
+const BY_2_AND_3: &str = "\"by\":[2,3],\"on\":\"node 1.1001\"}}\n";
 
 const APPEND_2: &str = "{\"s\":2,\"call\":\"append\",\"at\":\"1.1001.1001\",\"tree\":[\"c\"]}";
 
@@ -143,7 +161,7 @@ fn a_call_that_waits_is_answered_once_the_other_commits(rt: HostRuntime) {
     );
 }
 
-/// The replies of two sessions in threads, where a call of the second has to wait until the first has done its lines.
+/// The replies of two sessions in threads, where a call of the second waits for the first, which goes on once it does.
 fn wait_in_a_thread<R: Threads + Wait + Sync>(
     rt: &R,
     alloc: Global,
@@ -152,6 +170,7 @@ fn wait_in_a_thread<R: Threads + Wait + Sync>(
     let (store, mut rest) = store_with(rt, alloc, &[BEGIN, CREATE_ONE, COMMIT])?;
     let mut one = cut(&store, &mut rest, 1);
     let two = cut(&store, &mut rest, 2);
+    let probe = cut(&store, &mut rest, 4);
     let _replies = replies_to(
         rt,
         alloc,
@@ -160,18 +179,16 @@ fn wait_in_a_thread<R: Threads + Wait + Sync>(
         Way::Once,
         &[BEGIN_1, CHILDREN_1],
     );
-    let (one, two) = in_two_threads(
+    let (first, second) = one_waits(
         rt,
         alloc,
         &store,
         one,
         two,
-        Way::UntilEnded,
-        lines,
-        &[BEGIN_2, APPEND_2, COMMIT_2],
+        probe,
+        BY_2,
+        (lines, &[BEGIN_2, APPEND_2, COMMIT_2]),
     );
-    let (_one, first) = one;
-    let (_two, second) = two;
     two_of(first, second)
 }
 
@@ -182,7 +199,7 @@ fn two_of(
     Ok((first?, second?))
 }
 
-/// With each number of calls the commit comes at another moment of the wait: before the call, as it lies down, or while it sleeps.
+/// The second's call was attempted and waits before the first commits, which with each number of calls comes at another moment of the wait: as it lies down, or while it sleeps.
 #[test]
 fn a_call_in_a_thread_waits_for_the_other_s_commit(rt: HostRuntime) {
     for round in 0usize..60 {
@@ -198,6 +215,67 @@ fn a_call_in_a_thread_waits_for_the_other_s_commit(rt: HostRuntime) {
         assert_eq!(rt;
             second.as_str(),
             "{\"ok\":1,\"s\":2}\n{\"ok\":\"1.1001.1001.1003\",\"s\":2}\n{\"ok\":3,\"s\":2}\n"
+        );
+    }
+}
+
+/// The replies of three sessions in threads: the second's call waits for the first and the third, and the third's for the first, which commits once both wait.
+fn wait_in_two_threads<R: Threads + Wait + Sync>(
+    rt: &R,
+    alloc: Global,
+) -> Result<(String, String, String), Trouble> {
+    let (store, mut rest) = store_with(rt, alloc, &[BEGIN, CREATE_ONE, COMMIT])?;
+    let mut one = cut(&store, &mut rest, 1);
+    let two = cut(&store, &mut rest, 2);
+    let mut three = cut(&store, &mut rest, 3);
+    let probe = cut(&store, &mut rest, 4);
+    let _replies = replies_to(
+        rt,
+        alloc,
+        &store,
+        &mut one,
+        Way::Once,
+        &[BEGIN_1, CHILDREN_1, BELOW_1],
+    );
+    let _replies = replies_to(
+        rt,
+        alloc,
+        &store,
+        &mut three,
+        Way::Once,
+        &[BEGIN_3, CHILDREN_3],
+    );
+    let (first, (second, third)) = two_wait(
+        rt,
+        alloc,
+        &store,
+        (one, two, three),
+        probe,
+        BY_2_AND_3,
+        (
+            &[COMMIT_1],
+            &[BEGIN_2, APPEND_2, COMMIT_2],
+            &[APPEND_3, COMMIT_3],
+        ),
+    );
+    three_of(first, second, third)
+}
+
+/// Where the first's commit woke one of them alone, and that was the second, which is barred as before, all would sleep for ever.
+#[test]
+fn a_commit_wakes_all_whose_calls_wait(rt: HostRuntime) {
+    for _ in 0..40 {
+        let Ok((first, second, third)) = wait_in_two_threads(&rt, rt.alloc()) else {
+            panic!(rt; "no memory");
+        };
+        assert_eq!(rt; first.as_str(), "{\"ok\":2,\"s\":1}\n");
+        assert_eq!(rt;
+            third.as_str(),
+            "{\"ok\":\"1.1001.1001.1001.1001\",\"s\":3}\n{\"ok\":3,\"s\":3}\n"
+        );
+        assert_eq!(rt;
+            second.as_str(),
+            "{\"ok\":1,\"s\":2}\n{\"ok\":\"1.1001.1001.1003\",\"s\":2}\n{\"ok\":4,\"s\":2}\n"
         );
     }
 }
