@@ -5,6 +5,10 @@ use Rattle.command_lines.specs.declared.command.What.TheVariants as what
 use Rattle.session_driver.specs.declared.doing.Doing.{Doing}
 use Rattle.session_driver.specs.declared.doing.Doing.TheVariants as doing
 
+-- a call as books, states, lines and workers speak of it: the one that a line names, with nothing beside it
+abbrev pub BookCall : Type 0
+BookCall = StoreCall
+
 module _ {C : Type 0} (made : StoreCall → C) where
   -- what a command asks of its session, where this call is made of one that it names
   abbrev pub doing_of : What → Doing C

@@ -14,7 +14,7 @@ use Rattle.tree_changes.proofs.ChangeLists.{no_differences}
 use Rattle.node_seq.specs.Trees.{OnTree}
 use Rattle.dom_reads.specs.Reading.{is_reading}
 use Rattle.call_contract.specs.Calls.{OnlyAnswers, changes_of}
-use Rattle.command_lines.specs.declared.command.StoreCall.{StoreCall}
+use Rattle.session_driver.specs.Asking.{BookCall}
 use Rattle.command_lines.specs.declared.command.StoreCall.TheVariants.{Dom, Find}
 use Rattle.dewey_labels.specs.Labels.{Label}
 use Rattle.path_model.specs.Finds.{found_at}
@@ -62,11 +62,11 @@ pub reading_changes_nothing : (c : DomCall) (t : Tree) → IsValidTree t → is_
 reading_changes_nothing c t w reads = ap (λ u. differences (map_of t) (map_of u)) (reading_leaves c t reads) ∙ no_differences (map_of t) (map_sorted t w)
 
 -- a call of the store that reads alone has no changes
-pub dom_changes_nothing : (x : StoreCall) (c : DomCall) (t : Tree) → Dom c ≡ x → IsValidTree t → is_reading c ≡ true → changes_of store_meaning x t ≡ []
+pub dom_changes_nothing : (x : BookCall) (c : DomCall) (t : Tree) → Dom c ≡ x → IsValidTree t → is_reading c ≡ true → changes_of store_meaning x t ≡ []
 dom_changes_nothing x c t is w reads = subst (λ y. changes_of store_meaning y t ≡ []) is (reading_changes_nothing c t w reads)
 
 -- and so has a find, whatever the path
-pub find_changes_nothing : (x : StoreCall) (at : Label) (path : XPath) (t : Tree) → Find at path ≡ x → IsValidTree t → changes_of store_meaning x t ≡ []
+pub find_changes_nothing : (x : BookCall) (at : Label) (path : XPath) (t : Tree) → Find at path ≡ x → IsValidTree t → changes_of store_meaning x t ≡ []
 find_changes_nothing x at path t is w = subst (λ y. changes_of store_meaning y t ≡ []) is (no_differences (map_of t) (map_sorted t w))
 
 -- what holds of every answer holds of an answer that came
@@ -75,7 +75,7 @@ of_every_answer (Ok x) P all = all x
 of_every_answer (Err e) P all = tt
 
 -- the reply of a call that reads alone is all that the call does
-pub only_answers : {E : Type 0} (told : Option Entries) (x : StoreCall) (c : DomCall) (r : Result (Option Reply) E) → Dom c ≡ x
+pub only_answers : {E : Type 0} (told : Option Entries) (x : BookCall) (c : DomCall) (r : Result (Option Reply) E) → Dom c ≡ x
     → OnTree told r (λ t known. IfSome known (λ answer. answer ≡ (dom c t).0)) → IfOk r (λ known. IsSome known → IsTrue (is_reading c))
     → OnTree told r (λ t known. IfSome known (OnlyAnswers store_meaning x t))
 only_answers told x c (Err e) is replies reads = tt
@@ -86,19 +86,19 @@ only_answers told x c (Ok (Some answer)) is replies reads = λ t stands. record 
 }
 
 -- so is that of a find
-pub find_only_answers : {E : Type 0} (told : Option Entries) (x : StoreCall) (at : Label) (path : XPath) (r : Result (Option Reply) E) → Find at path ≡ x
+pub find_only_answers : {E : Type 0} (told : Option Entries) (x : BookCall) (at : Label) (path : XPath) (r : Result (Option Reply) E) → Find at path ≡ x
     → OnTree told r (λ t known. known ≡ Some (found_at at (plain_path path) t)) → OnTree told r (λ t known. IfSome known (OnlyAnswers store_meaning x t))
 find_only_answers told x at path (Err e) is replies = tt
 find_only_answers told x at path (Ok known) is replies = λ t stands.
     subst (λ o. IfSome o (OnlyAnswers store_meaning x t)) (sym (replies t stands)) (record { reply = ap (λ y. store_reply y t) is; changes = find_changes_nothing x at path t is stands.valid })
 
 -- of a DOM call nothing is asked
-pub dom_knows : {E : Type 0} (told : Option Entries) (x : StoreCall) (c : DomCall) (r : Result (Option Reply) E) → Dom c ≡ x → OnTree told r (KnowsFind x)
+pub dom_knows : {E : Type 0} (told : Option Entries) (x : BookCall) (c : DomCall) (r : Result (Option Reply) E) → Dom c ≡ x → OnTree told r (KnowsFind x)
 dom_knows told x c (Err e) is = tt
 dom_knows told x c (Ok known) is = λ t stands. subst (λ y. KnowsFind y t known) is tt
 
 -- a find whose reply is known is answered at once
-pub find_knows : {E : Type 0} (told : Option Entries) (x : StoreCall) (at : Label) (path : XPath) (r : Result (Option Reply) E) → Find at path ≡ x
+pub find_knows : {E : Type 0} (told : Option Entries) (x : BookCall) (at : Label) (path : XPath) (r : Result (Option Reply) E) → Find at path ≡ x
     → OnTree told r (λ t known. known ≡ Some (found_at at (plain_path path) t)) → OnTree told r (KnowsFind x)
 find_knows told x at path (Err e) is replies = tt
 find_knows told x at path (Ok known) is replies = λ t stands. subst (λ y. KnowsFind y t known) is (replies t stands)

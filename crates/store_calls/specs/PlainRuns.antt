@@ -9,6 +9,7 @@ use Rattle.path_model.specs.Finds.{found_at}
 use Rattle.path_model.specs.PlainPaths.{plain_path}
 use Rattle.call_contract.specs.SerialRuns.{Committed}
 use Rattle.command_lines.specs.declared.command.StoreCall.{StoreCall}
+use Rattle.session_driver.specs.Asking.{BookCall}
 use Rattle.command_lines.specs.declared.command.StoreCall.TheVariants.{Dom, Find}
 
 -- a call's reply, and the tree after it
@@ -27,5 +28,5 @@ plain_serial [] t = record { replies = []; tree = t }
 plain_serial (calls ∷ more) t = and_then (run_calls calls t).replies (plain_serial more (run_calls calls t).tree)
 
 -- the calls of committed transactions
-abbrev pub calls_of : List (Committed StoreCall) → List (List StoreCall)
+abbrev pub calls_of : List (Committed BookCall) → List (List StoreCall)
 calls_of ds = map (λ d. map (λ a. a.call) d.calls) ds

@@ -15,6 +15,7 @@ use Rattle.path_model.specs.PlainPaths.{plain_path}
 use Rattle.xpath_plans.specs.Finds.{find_requests}
 use Rattle.call_contract.specs.Calls.{CallMeaning}
 use Rattle.command_lines.specs.declared.command.StoreCall.{StoreCall}
+use Rattle.session_driver.specs.Asking.{BookCall}
 use Rattle.command_lines.specs.declared.command.StoreCall.TheVariants.{Dom, Find}
 
 -- ---- what a call means
@@ -34,11 +35,11 @@ abbrev pub store_after : StoreCall → Tree → Tree
 store_after (Dom call) t = (dom call t).1
 store_after (Find at path) t = t
 
-abbrev pub store_meaning : CallMeaning StoreCall
+abbrev pub store_meaning : CallMeaning BookCall
 store_meaning = record { requests = store_requests; reply = store_reply; after = store_after }
 
 -- a find is answered by the time that all it asks for is known, so its path is evaluated once
-abbrev pub KnowsFind : StoreCall → Tree → Option Reply → Type 0
+abbrev pub KnowsFind : BookCall → Tree → Option Reply → Type 0
 KnowsFind (Dom call) t known = Unit {0}
 KnowsFind (Find at path) t known = known ≡ Some (found_at at (plain_path path) t)
 
@@ -49,7 +50,7 @@ pub record IsLawfulFind (at : Label) (path : XPath) : Type 0 where
   pub label : IsLabel at
   pub lawful : IsTrue (is_lawful path)
 
-abbrev pub IsValidStoreCall : StoreCall → Type 0
+abbrev pub IsValidStoreCall : BookCall → Type 0
 IsValidStoreCall (Dom call) = IsValidCall call
 IsValidStoreCall (Find at path) = IsLawfulFind at path
 

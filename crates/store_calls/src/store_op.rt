@@ -26,13 +26,13 @@ pub struct StoreOp {
 }
 
 impl Model for StoreOp {
-    ghost use Rattle.command_lines.specs.declared.command.StoreCall.{StoreCall};
+    ghost use Rattle.session_driver.specs.Asking.{BookCall};
     ghost use Rattle.tree_model.specs.contracts.fragment.Fragment as fragment;
     ghost use Rattle.path_model.specs.contracts.path.XPath as path;
     ghost use Rattle.std.specs.Coded.{codes};
     ghost use Rattle.store_calls.specs.StoreCalls.{KeepsItself};
 
-    ghost Value = { StoreCall };
+    ghost Value = { BookCall };
 
     ghost coded = { Prim.hlevel (codes, fragment.the_row.coded, path.the_row.coded) };
 

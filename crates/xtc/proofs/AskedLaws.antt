@@ -7,7 +7,7 @@ use Rattle.call_contract.specs.SerialRuns.{serial}
 use Rattle.call_contract.specs.States.{State, start}
 use Rattle.call_contract.proofs.BookLaws.{sound as states_sound, serial_book}
 use Rattle.call_contract.proofs.SessionBooks.{number_told}
-use Rattle.command_lines.specs.declared.command.StoreCall.{StoreCall}
+use Rattle.session_driver.specs.Asking.{BookCall}
 use Rattle.store_calls.specs.StoreCalls.{store_meaning, IsValidStoreCall}
 use Rattle.store_calls.proofs.StoreCallLaws.{store_laws}
 use Rattle.session_driver.specs.Lines.{Asked}
@@ -24,11 +24,11 @@ use Rattle.xtc.proofs.SoundBooks.{sound_book}
 
 -- ---- valid lines from a valid tree
 
-module _ (t : Tree) (n limit : ℕ) (formed : IsValidTree t) (asked : List (Asked StoreCall)) (valid : AreValidAsks asked) where
-  abbrev opened : State StoreCall
+module _ (t : Tree) (n limit : ℕ) (formed : IsValidTree t) (asked : List (Asked BookCall)) (valid : AreValidAsks asked) where
+  abbrev opened : State BookCall
   opened = start t n limit
 
-  abbrev progress : Progress StoreCall
+  abbrev progress : Progress BookCall
   progress = after_asked opened asked
 
   legal : IsBookFrom IsValidStoreCall store_meaning t n limit progress.book
@@ -50,9 +50,9 @@ module _ (t : Tree) (n limit : ℕ) (formed : IsValidTree t) (asked : List (Aske
   -- files that hold what is committed in the state after them stand for the tree and the number after the commits of their book
   pub opens_after_asked : (journal pages : List ℕ) → HoldState progress.state journal pages → OpenAfter t n progress.book journal pages
   opens_after_asked journal pages holds =
-      let tree_is : (serial store_meaning (commits progress.book) t).tree ≡ progress.state.tree = serial_is.tree ∙ ap (λ (u : State StoreCall). u.tree) state_of_book in
+      let tree_is : (serial store_meaning (commits progress.book) t).tree ≡ progress.state.tree = serial_is.tree ∙ ap (λ (u : State BookCall). u.tree) state_of_book in
       let number_is : n + length (commits progress.book) ≡ progress.state.number
-      = ap (λ (k : ℕ). n + k) (commits_counted store_meaning opened progress.book legal.legal.run) ∙ number_told store_meaning opened progress.book legal.legal.run ∙ ap (λ (u : State StoreCall). u.number) state_of_book in
+      = ap (λ (k : ℕ). n + k) (commits_counted store_meaning opened progress.book legal.legal.run) ∙ number_told store_meaning opened progress.book legal.legal.run ∙ ap (λ (u : State BookCall). u.number) state_of_book in
       record {
         is_valid_tree = subst IsValidTree (sym serial_is.tree) (states_sound IsValidStoreCall store_meaning store_laws t n limit progress.book legal).valid_tree;
         opens = holds ∙ (λ i. Ok (record { entries = map_of (sym tree_is i); number = sym number_is i }));

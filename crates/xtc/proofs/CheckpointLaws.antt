@@ -16,7 +16,7 @@ use Rattle.call_contract.specs.Sessions.{commits_in}
 use Rattle.call_contract.specs.States.{Live, of_session, start}
 use Rattle.call_contract.proofs.Appends.{commits_append}
 use Rattle.call_contract.proofs.SessionBooks.{number_told}
-use Rattle.command_lines.specs.declared.command.StoreCall.{StoreCall}
+use Rattle.session_driver.specs.Asking.{BookCall}
 use Rattle.durable_sessions.specs.Asked.{GrowsByOne, TakesNext}
 use Rattle.store_calls.specs.StoreCalls.{IsValidStoreCall, store_meaning}
 use Rattle.tx_core.specs.Cores.{state_from}
@@ -41,11 +41,11 @@ module _ {C : Type 0} where
       ap (λ (z : List (Committed C)). c ++ z) (commits_on (open_after ts n) ns ys) ∙ sym (append_assoc c (commits_after (open_after ts n) ns) (commits_after (open_behind (open_after ts n) ns) ys))
 
 -- the tree after the first commits stays what it was
-tree_on : (t : Tree) (xs ys : Book StoreCall) (k : ℕ) → k ≤ length (commits xs) → tree_after t (xs ++ ys) k ≡ tree_after t xs k
-tree_on t xs ys k le = ap (λ (cs : List (Committed StoreCall)). (serial store_meaning cs t).tree) (ap (take k) (commits_on [] xs ys) ∙ take-append-le k (commits xs) (commits_after (open_behind [] xs) ys) le)
+tree_on : (t : Tree) (xs ys : Book BookCall) (k : ℕ) → k ≤ length (commits xs) → tree_after t (xs ++ ys) k ≡ tree_after t xs k
+tree_on t xs ys k le = ap (λ (cs : List (Committed BookCall)). (serial store_meaning cs t).tree) (ap (take k) (commits_on [] xs ys) ∙ take-append-le k (commits xs) (commits_after (open_behind [] xs) ys) le)
 
 -- and so does which of them the last checkpoint was made behind
-pub made_on : (tried : ℕ → Bool) (t : Tree) (n : ℕ) (xs ys : Book StoreCall) (Q : ℕ → Tree → Type 0) (k : ℕ) → k ≤ length (commits xs)
+pub made_on : (tried : ℕ → Bool) (t : Tree) (n : ℕ) (xs ys : Book BookCall) (Q : ℕ → Tree → Type 0) (k : ℕ) → k ≤ length (commits xs)
     → IfSome (last_made tried t n xs k) (λ m. Q m (tree_after t xs m)) → IfSome (last_made tried t n (xs ++ ys) k) (λ m. Q m (tree_after t (xs ++ ys) m))
 made_on tried t n xs ys Q zero le h = tt
 made_on tried t n xs ys Q (suc k) le h =
@@ -59,7 +59,7 @@ made_on tried t n xs ys Q (suc k) le h =
     subst (λ (x : Tree). IfSome (made_or (tried (suc k) && fits x (n + suc k)) (suc k) (last_made tried t n (xs ++ ys) k)) (λ m. Q m (tree_after t (xs ++ ys) m))) (sym same)
     (go (tried (suc k) && fits (tree_after t xs (suc k)) (n + suc k)) h)
 
-module _ (t : Tree) (n limit : ℕ) (book : Book StoreCall) (legal : IsBookFrom IsValidStoreCall store_meaning t n limit book) where
+module _ (t : Tree) (n limit : ℕ) (book : Book BookCall) (legal : IsBookFrom IsValidStoreCall store_meaning t n limit book) where
   -- there are as many committed transactions as commits
   pub committed_counted : length (commits book) ≡ commits_in book
   committed_counted = commits_counted store_meaning (start t n limit) book legal.legal.run
@@ -68,7 +68,7 @@ module _ (t : Tree) (n limit : ℕ) (book : Book StoreCall) (legal : IsBookFrom 
   pub all_committed : tree_after t book (commits_in book) ≡ (last store_meaning (start t n limit) book).tree
   all_committed =
       ap (λ (k : ℕ). tree_after t book k) (sym committed_counted)
-      ∙ ap (λ (cs : List (Committed StoreCall)). (serial store_meaning cs t).tree) (take_all (length (commits book)) (commits book) (omega arith))
+      ∙ ap (λ (cs : List (Committed BookCall)). (serial store_meaning cs t).tree) (take_all (length (commits book)) (commits book) (omega arith))
       ∙ (sound_book t n limit book legal).serial.tree
 
   pub last_number : n + commits_in book ≡ (last store_meaning (start t n limit) book).number
@@ -111,7 +111,7 @@ module _ {P : Type 0} (is_known : Bool) (history : P → History) (faults : P �
       let count : length (commits old.core.book) ≡ commits_in old.core.book = committed_counted t old.core.number old.core.limit old.core.book (before.legal t then) in
       let held = before.made known some t then in
       let Q : ℕ → Tree → Type 0 = λ m u. contents_is m u (base_pages history old.core.base).now.reads in
-      subst (λ (x : ℕ × Book StoreCall × History). IfSome (last_made (is_tried old.checkpoints.every) t x.0 x.1 old.checkpoints.seen) (λ m. HoldFirst t x.0 x.1 m x.2.now.reads)) (λ i. (sym grown.number i, sym grown.book i, sym (still known) i))
+      subst (λ (x : ℕ × Book BookCall × History). IfSome (last_made (is_tried old.checkpoints.every) t x.0 x.1 old.checkpoints.seen) (λ m. HoldFirst t x.0 x.1 m x.2.now.reads)) (λ i. (sym grown.number i, sym grown.book i, sym (still known) i))
       (made_on (is_tried old.checkpoints.every) t old.core.number old.core.book grown.more Q old.checkpoints.seen (omega (arith, count, rested.all)) held)
     where
       contents_is : ℕ → Tree → List ℕ → Type 0

@@ -20,7 +20,7 @@ use Rattle.tree_model.proofs.WholeTree.{catalogue_entries, documents_above}
 use Rattle.node_seq.specs.Reads.{key_above}
 use Rattle.call_contract.specs.Books.{Book}
 use Rattle.call_contract.specs.States.{State}
-use Rattle.command_lines.specs.declared.command.StoreCall.{StoreCall}
+use Rattle.session_driver.specs.Asking.{BookCall}
 use Rattle.command_lines.specs.declared.line_reply.LineReply.{LineReply}
 use Rattle.session_driver.specs.Lines.{Asked, IsValidDoing, after_line as after_asked_line}
 use Rattle.session_driver.specs.declared.doing.Doing.TheVariants.{Commit}
@@ -53,17 +53,17 @@ use Rattle.xtc.specs.inside.Counting.{AskedLine, Made}
 pub generated_on : (xs ys : List Line) → generated (xs ++ ys) ≡ generated xs ++ generated ys
 generated_on [] ys = refl
 generated_on (x ∷ xs) ys =
-    ap (λ (l : List (Asked StoreCall)). generated_line x ++ l) (generated_on xs ys) ∙ sym (append_assoc (generated_line x) (generated xs) (generated ys))
+    ap (λ (l : List (Asked BookCall)). generated_line x ++ l) (generated_on xs ys) ∙ sym (append_assoc (generated_line x) (generated xs) (generated ys))
 
 pub generated_one : (front : List Line) (line : Line) → generated (front ++ line ∷ []) ≡ generated front ++ generated_line line
-generated_one front line = generated_on front (line ∷ []) ∙ ap (λ (l : List (Asked StoreCall)). generated front ++ l) (append-nil (generated_line line))
+generated_one front line = generated_on front (line ∷ []) ∙ ap (λ (l : List (Asked BookCall)). generated front ++ l) (append-nil (generated_line line))
 
-pub counted_on : (s : State StoreCall) (before : Summary) (xs ys : List Line) → counted s before (xs ++ ys) ≡ counted (after s (generated xs)) (counted s before xs) ys
+pub counted_on : (s : State BookCall) (before : Summary) (xs ys : List Line) → counted s before (xs ++ ys) ≡ counted (after s (generated xs)) (counted s before xs) ys
 counted_on s before [] ys = refl
 counted_on s before (x ∷ xs) ys =
     let first : Summary = after_line before x.step (said s (generated_line x)) in
     counted_on (after s (generated_line x)) first xs ys
-    ∙ ap (λ (u : State StoreCall). counted u (counted (after s (generated_line x)) first xs) ys) (sym (after_on store_meaning s (generated_line x) (generated xs)))
+    ∙ ap (λ (u : State BookCall). counted u (counted (after s (generated_line x)) first xs) ys) (sym (after_on store_meaning s (generated_line x) (generated xs)))
 
 -- ---- one line
 
@@ -73,7 +73,7 @@ line_asks line read is = ap asked_in is
 
 module _ {B : Type 0} (contents : B → Option Entries) where
   -- something is
-  pub made_one : (is_known : Bool) (s : State StoreCall) (a : Asked StoreCall) → IsValidDoing IsValidStoreCall a.doing → (old new : History) → (a.doing ≢ Commit → new ≡ old) → (core : CoreView StoreCall B) (now : List LineReply)
+  pub made_one : (is_known : Bool) (s : State BookCall) (a : Asked BookCall) → IsValidDoing IsValidStoreCall a.doing → (old new : History) → (a.doing ≢ Commit → new ≡ old) → (core : CoreView BookCall B) (now : List LineReply)
       → LeadsTo store_meaning contents is_known old core new s (after_asked_line store_meaning s a).state → LeavesEither is_known old new s (after_asked_line store_meaning s a).state → now ≡ (after_asked_line store_meaning s a).lines
       → Made contents is_known s (a ∷ []) old core new now
   made_one is_known s a valid old new still core now leads leaves replies = record {
@@ -86,22 +86,22 @@ module _ {B : Type 0} (contents : B → Option Entries) where
   }
 
   -- it stopped
-  pub line_err : {T : Type 0} (r : Result T Halt) (h : Halt) (is_known : Bool) (s : State StoreCall) (all : List (Asked StoreCall)) (old : History) (core : CoreView StoreCall B) (new : History) (now : List LineReply)
+  pub line_err : {T : Type 0} (r : Result T Halt) (h : Halt) (is_known : Bool) (s : State BookCall) (all : List (Asked BookCall)) (old : History) (core : CoreView BookCall B) (new : History) (now : List LineReply)
       → IsErrAnd r (λ e. e ≡ h) → Stopped limit_of is_known s all old new (stop_of h) → AskedLine contents is_known s all old core new now r
   line_err (Ok x) h is_known s all old core new now none stopped = absurd none
   line_err (Err e) h is_known s all old core new now is stopped = subst (λ (k : Halt). Stopped limit_of is_known s all old new (stop_of k)) (sym is) stopped
 
   -- something was asked, or it stopped in that
-  pub line_done : {T : Type 0} (r : Result T Halt) (is_known : Bool) (s : State StoreCall) (a : Asked StoreCall) → IsValidDoing IsValidStoreCall a.doing → (old new : History) → (a.doing ≢ Commit → new ≡ old) → (first core : CoreView StoreCall B)
-      (before now : List LineReply) → before ≡ [] → Stands store_meaning contents first s → OnOk r ((u : State StoreCall) → Stands store_meaning contents first u → LeadsTo store_meaning contents is_known old core new u (after_asked_line store_meaning u a).state)
-      → OnOk r ((u : State StoreCall) → Stands store_meaning contents first u → now ≡ before ++ (after_asked_line store_meaning u a).lines)
+  pub line_done : {T : Type 0} (r : Result T Halt) (is_known : Bool) (s : State BookCall) (a : Asked BookCall) → IsValidDoing IsValidStoreCall a.doing → (old new : History) → (a.doing ≢ Commit → new ≡ old) → (first core : CoreView BookCall B)
+      (before now : List LineReply) → before ≡ [] → Stands store_meaning contents first s → OnOk r ((u : State BookCall) → Stands store_meaning contents first u → LeadsTo store_meaning contents is_known old core new u (after_asked_line store_meaning u a).state)
+      → OnOk r ((u : State BookCall) → Stands store_meaning contents first u → now ≡ before ++ (after_asked_line store_meaning u a).lines)
       → LeavesEither is_known old new s (after_asked_line store_meaning s a).state → AskedLine contents is_known s (a ∷ []) old core new now r
   line_done (Ok x) is_known s a valid old new still first core before now none stands leads replies leaves =
       made_one is_known s a valid old new still core now (leads s stands) leaves (replies s stands ∙ ap (λ (l : List LineReply). l ++ (after_asked_line store_meaning s a).lines) none)
   line_done (Err e) is_known s a valid old new still first core before now none stands leads replies leaves = step_stopped IsValidStoreCall store_meaning contents limit_of is_known s a valid old new still [] e leaves
 
   -- then it was answered, or refused by the numbers that are left
-  pub line_answered : (is_known : Bool) (s : State StoreCall) (all : List (Asked StoreCall)) (old : History) (core : CoreView StoreCall B) (new : History) (now : List LineReply)
+  pub line_answered : (is_known : Bool) (s : State BookCall) (all : List (Asked BookCall)) (old : History) (core : CoreView BookCall B) (new : History) (now : List LineReply)
       → Made contents is_known s all old core new now → first_reason limit_of now ≡ None → AllAnswered IsValidStoreCall store_meaning contents limit_of is_known s all old core new [] now
   line_answered is_known s all old core new now made none = record {
     valid = made.valid;
@@ -112,7 +112,7 @@ module _ {B : Type 0} (contents : B → Option Entries) where
     unrefused = ap (first_reason limit_of) (sym made.replies) ∙ none;
   }
 
-  pub line_refused : (is_known : Bool) (s : State StoreCall) (all : List (Asked StoreCall)) (old : History) (core : CoreView StoreCall B) (new : History) (now : List LineReply) (why : Reason)
+  pub line_refused : (is_known : Bool) (s : State BookCall) (all : List (Asked BookCall)) (old : History) (core : CoreView BookCall B) (new : History) (now : List LineReply) (why : Reason)
       → Made contents is_known s all old core new now → first_reason limit_of now ≡ Some why → Stopped limit_of is_known s all old new (Refused why)
   line_refused is_known s all old core new now why made refused =
       let whole : all ++ [] ≡ all = append-nil all in
@@ -123,7 +123,7 @@ module _ {B : Type 0} (contents : B → Option Entries) where
         parts = whole;
         one = omega arith;
         valid = subst AreValidAsks (sym whole) made.valid;
-        moments = subst (λ (l : List (Asked StoreCall)). LeavesFirst is_known s l old new) (sym whole) made.moments;
+        moments = subst (λ (l : List (Asked BookCall)). LeavesFirst is_known s l old new) (sym whole) made.moments;
         left = λ known pages holds image is. inl (image_holds (after s all) pages new (made.leads.settled known pages holds) image is);
         still = made.still;
         stops = record { front = []; last = all; parts = sym whole; one = made.few; unrefused = refl };
@@ -133,12 +133,12 @@ module _ {B : Type 0} (contents : B → Option Entries) where
   -- ---- the book
 
   -- its entries are those of what is asked
-  pub book_asked : {T : Type 0} (r : Result T Halt) (line : Line) (a : Asked StoreCall) (first core : CoreView StoreCall B) → a ∷ [] ≡ generated_line line
-      → OnOk r ((u : State StoreCall) → Stands store_meaning contents first u → core.book ≡ first.book ++ (after_asked_line store_meaning u a).book)
-      → OnOk r ((u : State StoreCall) → Stands store_meaning contents first u → core.book ≡ first.book ++ (after_asked u (generated_line line)).book)
+  pub book_asked : {T : Type 0} (r : Result T Halt) (line : Line) (a : Asked BookCall) (first core : CoreView BookCall B) → a ∷ [] ≡ generated_line line
+      → OnOk r ((u : State BookCall) → Stands store_meaning contents first u → core.book ≡ first.book ++ (after_asked_line store_meaning u a).book)
+      → OnOk r ((u : State BookCall) → Stands store_meaning contents first u → core.book ≡ first.book ++ (after_asked u (generated_line line)).book)
   book_asked (Ok x) line a first core is book = λ u stands.
-      subst (λ (l : List (Asked StoreCall)). core.book ≡ first.book ++ (after_asked u l).book) is
-      (book u stands ∙ ap (λ (b : Book StoreCall). first.book ++ b) (sym (append-nil (after_asked_line store_meaning u a).book)))
+      subst (λ (l : List (Asked BookCall)). core.book ≡ first.book ++ (after_asked u l).book) is
+      (book u stands ∙ ap (λ (b : Book BookCall). first.book ++ b) (sym (append-nil (after_asked_line store_meaning u a).book)))
   book_asked (Err e) line a first core is book = tt
 
 -- ---- a store with documents
@@ -165,5 +165,5 @@ first_is k (e ∷ es) all = ap (λ (o : Ordering). is_some (option_map (λ x. x.
 pub documents_seen : (t : Tree) → IsValidTree t → is_some (key_above (node_key root) (map_of t)) ≡ has_documents t
 documents_seen t valid = first_is (node_key root) (map_of t) (all_above t valid)
 
-pub script_asked : (s : State StoreCall) (seed count : ℕ) → has_documents s.tree ≡ false → asks_of (gen seed count) s [] ≡ Ok (generated (script seed count))
+pub script_asked : (s : State BookCall) (seed count : ℕ) → has_documents s.tree ≡ false → asks_of (gen seed count) s [] ≡ Ok (generated (script seed count))
 script_asked s seed count none = ap (λ (b : Bool). gen_asks_of b seed count) none

@@ -21,7 +21,7 @@ use Rattle.xpath_parser.specs.Parse.{parsed}
 use Rattle.xpath_parser.specs.declared.path_error.PathError.{PathError}
 use Rattle.script_runs.specs.Whole.{piece}
 use Rattle.call_contract.specs.States.{State, start}
-use Rattle.command_lines.specs.declared.command.StoreCall.{StoreCall}
+use Rattle.session_driver.specs.Asking.{BookCall}
 use Rattle.command_lines.specs.declared.line_reply.LineReply.{LineReply}
 use Rattle.session_driver.specs.Lines.{Asked}
 use Rattle.tx_core.specs.Cores.{CoreView}
@@ -54,12 +54,12 @@ use Rattle.xtc.proofs.StoreMachineLaws.{image_same}
 abbrev no_element : Status → Result Fragment Status
 no_element e = Err e
 
-pub none_first : (r : Result (List (Asked StoreCall)) Status) → AreFirst [] r
+pub none_first : (r : Result (List (Asked BookCall)) Status) → AreFirst [] r
 none_first (Ok asks) = (asks, refl)
 none_first (Err why) = refl
 
 -- what is asked, where the input is no error
-abbrev asks_in : Result (List (Asked StoreCall)) Status → List (Asked StoreCall)
+abbrev asks_in : Result (List (Asked BookCall)) Status → List (Asked BookCall)
 asks_in (Ok asks) = asks
 asks_in (Err why) = []
 
@@ -67,15 +67,15 @@ question_no_commit : (q : Question) (label : Option Label) → AskNoCommit (ques
 question_no_commit q None = tt
 question_no_commit q (Some at) = ((λ is. cc), ((λ is. cc), tt))
 
-show_no_commit : (s : State StoreCall) (name : Name) (q : Question) → AskNoCommit (show_asks s name q)
+show_no_commit : (s : State BookCall) (name : Name) (q : Question) → AskNoCommit (show_asks s name q)
 show_no_commit s name q = ((λ it. cc), ((λ it. cc), question_no_commit q (label_in (said s (find_asks name)))))
 
-query_no_commit : (path : Result XPath PathError) (s : State StoreCall) (name : Name) (all : List (Asked StoreCall)) → query_asks_of s name path ≡ Ok all → AskNoCommit all
+query_no_commit : (path : Result XPath PathError) (s : State BookCall) (name : Name) (all : List (Asked BookCall)) → query_asks_of s name path ≡ Ok all → AskNoCommit all
 query_no_commit (Ok path) s name all is = subst AskNoCommit (ap asks_in is) (show_no_commit s name (FoundBy path))
 query_no_commit (Err why) s name all is = absurd cc
 
 -- a command that may not commit asks for no commit
-asks_no_commit : (c : Command) (s : State StoreCall) (read : List ℕ) (all : List (Asked StoreCall)) → asks_of c s read ≡ Ok all → may_commit (Some c) ≡ false → AskNoCommit all
+asks_no_commit : (c : Command) (s : State BookCall) (read : List ℕ) (all : List (Asked BookCall)) → asks_of c s read ≡ Ok all → may_commit (Some c) ≡ false → AskNoCommit all
 asks_no_commit run s read all is commits_none = absurd cc
 asks_no_commit workers s read all is commits_none = absurd cc
 asks_no_commit (gen seed count) s read all is commits_none = absurd cc
@@ -87,7 +87,7 @@ asks_no_commit (query name path) s read all is commits_none = query_no_commit (p
 never_commits : (c : Command) → may_commit (Some c) ≡ false → IsTrue (may_commit (Some c)) → ⊥
 never_commits c none may = let no : IsTrue false = subst IsTrue none may in cc
 
-module _ (is_known : Bool) (s : State StoreCall) (c : Command) (read : List ℕ) where
+module _ (is_known : Bool) (s : State BookCall) (c : Command) (read : List ℕ) where
   -- nothing was asked
   pub nothing_asked : (journal : History) (status : Status) → IsDocumentEnd c s read status [] → IsWithin status (length read) → DocumentWent is_known s c read journal journal status
   nothing_asked journal status end short = record {
@@ -110,25 +110,25 @@ module _ (is_known : Bool) (s : State StoreCall) (c : Command) (read : List ℕ)
   unfolding nothing_asked
   nothing_judged whole journal status end short judged = record { went = nothing_asked journal status end short; judged = judged }
 
-  module _ (all : List (Asked StoreCall)) (is : asks_of c s read ≡ Ok all) (short : length read ≤ whole_limit) (old new : History) where
-    pub few_by : (why : Stop) (lines : List LineReply) (more : List (Asked StoreCall)) → StopsBy (stops_at c) why lines more → length more ≤ 1 → length more ≤ slack (status_of_stop why)
+  module _ (all : List (Asked BookCall)) (is : asks_of c s read ≡ Ok all) (short : length read ≤ whole_limit) (old new : History) where
+    pub few_by : (why : Stop) (lines : List LineReply) (more : List (Asked BookCall)) → StopsBy (stops_at c) why lines more → length more ≤ 1 → length more ≤ slack (status_of_stop why)
     few_by (stop.Refused reason) lines more cause one = let none : length more ≡ 0 = ap length cause.1 in omega (arith, none)
     few_by stop.DiskFault lines more cause one = one
     few_by stop.NoMemory lines more cause one = one
 
     -- the reply that refuses it ends it, whatever is asked behind
-    refused_behind : (answered further : List (Asked StoreCall)) (reason : Reason) → first_reason (stops_at c) (said s answered) ≡ Some reason
+    refused_behind : (answered further : List (Asked BookCall)) (reason : Reason) → first_reason (stops_at c) (said s answered) ≡ Some reason
         → end_by (first_reason (stops_at c) (said s (answered ++ further))) ≡ DocumentRefused reason
     refused_behind answered further reason refused =
         ap (λ (l : List LineReply). end_by (first_reason (stops_at c) l)) (said_on store_meaning s answered further)
         ∙ ap end_by (reason_stays (stops_at c) (said s answered) (said (after s answered) further) reason refused)
 
-    pub end_is : (why : Stop) (answered more rest : List (Asked StoreCall)) → answered ++ (more ++ rest) ≡ all → StopsBy (stops_at c) why (said s answered) more → IsDocumentEnd c s read (status_of_stop why) (answered ++ more)
+    pub end_is : (why : Stop) (answered more rest : List (Asked BookCall)) → answered ++ (more ++ rest) ≡ all → StopsBy (stops_at c) why (said s answered) more → IsDocumentEnd c s read (status_of_stop why) (answered ++ more)
     end_is (stop.Refused reason) answered more rest parts cause = record {
       end = ap (end_of c s) is
-          ∙ ap (λ (l : List (Asked StoreCall)). end_by (first_reason (stops_at c) (said s l))) (sym parts)
+          ∙ ap (λ (l : List (Asked BookCall)). end_by (first_reason (stops_at c) (said s l))) (sym parts)
           ∙ refused_behind answered (more ++ rest) reason cause.0;
-      behind = λ may. subst (λ (r : Result (List (Asked StoreCall)) Status). IfOk r (λ asks. end_of c s (Ok (answered ++ more)) ≡ DocumentRefused reason)) (sym is)
+      behind = λ may. subst (λ (r : Result (List (Asked BookCall)) Status). IfOk r (λ asks. end_of c s (Ok (answered ++ more)) ≡ DocumentRefused reason)) (sym is)
           (refused_behind answered more reason cause.0);
     }
     end_is stop.DiskFault answered more rest parts cause = tt
@@ -156,7 +156,7 @@ module _ (is_known : Bool) (s : State StoreCall) (c : Command) (read : List ℕ)
     }
 
     -- all was answered
-    pub document_answered : {B : Type 0} (contents : B → Option Entries) (core : CoreView StoreCall B) (now : List LineReply) (text : List ℕ) → AllAnswered IsValidStoreCall store_meaning contents (stops_at c) is_known s all old core new [] now → text ≡ text_of c s all → HasText is_known s c read old new text
+    pub document_answered : {B : Type 0} (contents : B → Option Entries) (core : CoreView BookCall B) (now : List LineReply) (text : List ℕ) → AllAnswered IsValidStoreCall store_meaning contents (stops_at c) is_known s all old core new [] now → text ≡ text_of c s all → HasText is_known s c read old new text
     document_answered contents core now text h shown =
         let whole : all ++ [] ≡ all = append-nil all in
         record {
@@ -167,9 +167,9 @@ module _ (is_known : Bool) (s : State StoreCall) (c : Command) (read : List ℕ)
             few = omega arith;
             valid = subst AreValidAsks (sym whole) h.valid;
             stops = record { front = all; last = []; parts = refl; one = omega arith; unrefused = h.unrefused };
-            end = (is ∙ ap Ok (sym whole), ap (λ (l : List (Asked StoreCall)). end_by (first_reason (stops_at c) (said s l))) whole ∙ ap end_by h.unrefused);
+            end = (is ∙ ap Ok (sym whole), ap (λ (l : List (Asked BookCall)). end_by (first_reason (stops_at c) (said s l))) whole ∙ ap end_by h.unrefused);
             short = short;
-            moments = subst (λ (l : List (Asked StoreCall)). LeavesFirst is_known s l old new) (sym whole) h.moments;
+            moments = subst (λ (l : List (Asked BookCall)). LeavesFirst is_known s l old new) (sym whole) h.moments;
             left = λ known pages holds image is_image. inl (image_holds (after s all) pages new (h.leads.settled known pages holds) image is_image);
             still = λ commits_none. h.still (asks_no_commit c s read all is commits_none);
           };
@@ -177,7 +177,7 @@ module _ (is_known : Bool) (s : State StoreCall) (c : Command) (read : List ℕ)
         }
 
   -- all would be answered, and commits nothing: nothing is done to the journal
-  pub document_alone : (all : List (Asked StoreCall)) → asks_of c s read ≡ Ok all → length read ≤ whole_limit → (journal : History) (text : List ℕ) → AreValidAsks all
+  pub document_alone : (all : List (Asked BookCall)) → asks_of c s read ≡ Ok all → length read ≤ whole_limit → (journal : History) (text : List ℕ) → AreValidAsks all
       → first_reason (stops_at c) (said s all) ≡ None → (after s all).tree ≡ s.tree → (after s all).number ≡ s.number → text ≡ text_of c s all → HasText is_known s c read journal journal text
   document_alone all is short journal text valid unrefused same_tree same_number shown =
       let whole : all ++ [] ≡ all = append-nil all in
@@ -189,7 +189,7 @@ module _ (is_known : Bool) (s : State StoreCall) (c : Command) (read : List ℕ)
           few = omega arith;
           valid = subst AreValidAsks (sym whole) valid;
           stops = record { front = all; last = []; parts = refl; one = omega arith; unrefused = unrefused };
-          end = (is ∙ ap Ok (sym whole), ap (λ (l : List (Asked StoreCall)). end_by (first_reason (stops_at c) (said s l))) whole ∙ ap end_by unrefused);
+          end = (is ∙ ap Ok (sym whole), ap (λ (l : List (Asked BookCall)). end_by (first_reason (stops_at c) (said s l))) whole ∙ ap end_by unrefused);
           short = short;
           moments = λ known pages holds. started (HoldsFirst s (all ++ []) pages) journal;
           left = λ known pages holds image is_image. inl (image_holds (after s all) pages journal (record {
@@ -204,7 +204,7 @@ module _ (is_known : Bool) (s : State StoreCall) (c : Command) (read : List ℕ)
       }
 
   -- the same where a reply refuses it, of a command that commits nothing
-  pub document_refused : (all : List (Asked StoreCall)) → asks_of c s read ≡ Ok all → length read ≤ whole_limit → may_commit (Some c) ≡ false → (journal : History) (why : Reason)
+  pub document_refused : (all : List (Asked BookCall)) → asks_of c s read ≡ Ok all → length read ≤ whole_limit → may_commit (Some c) ≡ false → (journal : History) (why : Reason)
       → first_reason (stops_at c) (said s all) ≡ Some why → DocumentWent is_known s c read journal journal (DocumentRefused why)
   document_refused all is short none journal why refused =
       nothing_asked journal (DocumentRefused why) (record { end = ap (end_of c s) is ∙ ap end_by refused; behind = λ may. absurd (never_commits c none may) }) short
@@ -228,10 +228,10 @@ module _ (is_known : Bool) (s : State StoreCall) (c : Command) (read : List ℕ)
 -- ---- the files
 
 module _ (t : Tree) (n limit : ℕ) (formed : IsValidTree t) where
-  abbrev s : State StoreCall
+  abbrev s : State BookCall
   s = start t n limit
 
-  pub opens_first : (least : ℕ) (asked first rest : List (Asked StoreCall)) (journal pages bytes : List ℕ) → AreValidAsks asked → first ++ rest ≡ asked → least ≤ length first → pages ≡ bytes → HoldState (after s first) journal bytes
+  pub opens_first : (least : ℕ) (asked first rest : List (Asked BookCall)) (journal pages bytes : List ℕ) → AreValidAsks asked → first ++ rest ≡ asked → least ≤ length first → pages ≡ bytes → HoldState (after s first) journal bytes
       → OpenAfterAsked t n limit least asked journal pages
   opens_first least asked first rest journal pages bytes valid parts enough same holds =
       let taken : take (length first) asked ≡ first = ap (take (length first)) (sym parts) ∙ take-append_seam first rest in
@@ -240,7 +240,7 @@ module _ (t : Tree) (n limit : ℕ) (formed : IsValidTree t) where
         count = length first;
         enough = enough;
         within = let sum : length asked ≡ length first + length rest = ap length (sym parts) ∙ length-append first rest in omega (arith, sum);
-        opens = subst (λ (l : List (Asked StoreCall)). OpenAfter t n (after_asked s l).book journal pages) (sym taken)
+        opens = subst (λ (l : List (Asked BookCall)). OpenAfter t n (after_asked s l).book journal pages) (sym taken)
             (opens_after_asked t n limit formed first front journal pages (subst (HoldState (after s first) journal) (sym same) holds));
       }
 
@@ -250,7 +250,7 @@ module _ (t : Tree) (n limit : ℕ) (formed : IsValidTree t) where
       → (reads_input (Some c) ≡ false → o.read ≡ []) → (IsTrue (reads_input (Some c)) → NeedsWhole status (went.answered ++ went.more) (IsWhole o.left o.read))
       → WroteWhole status o.before o.now (text_of c s (went.answered ++ went.more)) → DocumentRan t n limit c status (pair_of journal pages) o
   document_ran is_known c o journal pages status known settled synced went still of_journal of_pages unread judged wrote =
-      let asked : List (Asked StoreCall) = went.answered ++ went.more in
+      let asked : List (Asked BookCall) = went.answered ++ went.more in
       let bytes : List ℕ = pages.now.reads in
       let same_now : (p : List ℕ) → IsImage o.new.pages.now p → p ≡ bytes = λ p is. image_same o.new.pages (subst IsAllSynced (sym still) synced) p is ∙ ap (λ (h : History). h.now.reads) still in
       let Left : List ℕ → List ℕ → Type 0 = OpenAfterAsked t n limit (length went.answered) asked in
@@ -284,7 +284,7 @@ module _ (t : Tree) (n limit : ℕ) (formed : IsValidTree t) where
 -- ---- results
 
 -- an error that is answered for this status
-pub done_err : {T : Type 0} (r : Result T Status) (status : Status) (is_known : Bool) (s : State StoreCall) (c : Command) (read : List ℕ) (old new : History) (bytes : T → List ℕ)
+pub done_err : {T : Type 0} (r : Result T Status) (status : Status) (is_known : Bool) (s : State BookCall) (c : Command) (read : List ℕ) (old new : History) (bytes : T → List ℕ)
     → IsErrAnd r (λ e. e ≡ status) → DocumentWent is_known s c read old new status → DocumentDone is_known s c read old new bytes r
 done_err (Ok x) status is_known s c read old new bytes none went = absurd none
 done_err (Err e) status is_known s c read old new bytes is went = subst (DocumentWent is_known s c read old new) (sym is) went
@@ -296,7 +296,7 @@ stop_is stop.DiskFault = tt
 stop_is stop.NoMemory = tt
 
 -- why an input isn't had
-pub not_had : (name : Name) (s : State StoreCall) (read : List ℕ) (status : Status) → IsReadElement read (Err status) → IsDocumentEnd (put name) s read status [] × IsWithin status (length read)
+pub not_had : (name : Name) (s : State BookCall) (read : List ℕ) (status : Status) → IsReadElement read (Err status) → IsDocumentEnd (put name) s read status [] × IsWithin status (length read)
 not_had name s read (NotJsonMl why) h = (ap (put_asks_of name) h.0, h.1)
 not_had name s read (LineTooLong line) h = ((h.0, refl), h.1)
 not_had name s read ReadFault h = ((refl, refl), h)
@@ -339,7 +339,7 @@ read_within read (Err (DocumentRefused why)) h = absurd h
 -- ---- the whole input
 
 -- where it was read, all is said of it
-given_whole : (status : Status) (asked : List (Asked StoreCall)) (W : Type 0) → W → NeedsWhole status asked W
+given_whole : (status : Status) (asked : List (Asked BookCall)) (W : Type 0) → W → NeedsWhole status asked W
 given_whole Done asked W w = w
 given_whole Usage asked W w = w
 given_whole (LineTooLong line) asked W w = tt
@@ -351,18 +351,18 @@ given_whole NoMemory asked W w = inr w
 given_whole (NotJsonMl why) asked W w = w
 given_whole (DocumentRefused why) asked W w = w
 
-pub input_done : {T : Type 0} (r : Result T Status) (is_known : Bool) (s : State StoreCall) (c : Command) (read : List ℕ) (W : Type 0) (old new : History) (bytes : T → List ℕ)
+pub input_done : {T : Type 0} (r : Result T Status) (is_known : Bool) (s : State BookCall) (c : Command) (read : List ℕ) (W : Type 0) (old new : History) (bytes : T → List ℕ)
     → DocumentDone is_known s c read old new bytes r → W → InputDone is_known s c read W old new bytes r
 input_done (Ok text) is_known s c read W old new bytes done w = (done, w)
 input_done (Err status) is_known s c read W old new bytes went w = record { went = went; judged = given_whole status (went.answered ++ went.more) W w }
 
-pub input_err : {T : Type 0} (r : Result T Status) (status : Status) (is_known : Bool) (s : State StoreCall) (c : Command) (read : List ℕ) (W : Type 0) (old new : History) (bytes : T → List ℕ)
+pub input_err : {T : Type 0} (r : Result T Status) (status : Status) (is_known : Bool) (s : State BookCall) (c : Command) (read : List ℕ) (W : Type 0) (old new : History) (bytes : T → List ℕ)
     → IsErrAnd r (λ e. e ≡ status) → WentAndJudged is_known s c read W old new status → InputDone is_known s c read W old new bytes r
 input_err (Ok x) status is_known s c read W old new bytes none went = absurd none
 input_err (Err e) status is_known s c read W old new bytes is went = subst (WentAndJudged is_known s c read W old new) (sym is) went
 
 -- what was said of the one holds of the other
-judged_as : (status : Status) (asked : List (Asked StoreCall)) (V W : Type 0) → (V → W) → NeedsWhole status asked V → NeedsWhole status asked W
+judged_as : (status : Status) (asked : List (Asked BookCall)) (V W : Type 0) → (V → W) → NeedsWhole status asked V → NeedsWhole status asked W
 judged_as Done asked V W to v = to v
 judged_as Usage asked V W to v = to v
 judged_as (LineTooLong line) asked V W to v = tt
@@ -390,12 +390,12 @@ unwritten_is (NotJsonMl why) before now text is same = same
 unwritten_is (DocumentRefused why) before now text is same = same
 
 -- a command that went, with what it wrote
-pub record WentAndWrote (is_known : Bool) (s : State StoreCall) (c : Command) (read : List ℕ) (whole : Type 0) (old new : History) (status : Status) (before now : Option (List ℕ)) : Type 0 where
+pub record WentAndWrote (is_known : Bool) (s : State BookCall) (c : Command) (read : List ℕ) (whole : Type 0) (old new : History) (status : Status) (before now : Option (List ℕ)) : Type 0 where
   pub went : DocumentWent is_known s c read old new status
   pub judged : NeedsWhole status (went.answered ++ went.more) whole
   pub wrote : WroteWhole status before now (text_of c s (went.answered ++ went.more))
 
-module _ {T : Type 0} (is_known : Bool) (s : State StoreCall) (c : Command) (read : List ℕ) (W : Type 0) (old new : History) (bytes : T → List ℕ) (before now : Option (List ℕ)) where
+module _ {T : Type 0} (is_known : Bool) (s : State BookCall) (c : Command) (read : List ℕ) (W : Type 0) (old new : History) (bytes : T → List ℕ) (before now : Option (List ℕ)) where
   text_written : (status : Status) (text : List ℕ) → HasText is_known s c read old new text → W → IsWriteEnd status → WroteWhole status before now text
       → WentAndWrote is_known s c read W old new status before now
   unfolding write_failed
@@ -437,7 +437,7 @@ stops_unwritten (Err e) is = stop_unwritten e is
 
 -- ---- the whole command
 
-pub document_finished : (t : Tree) (n limit : ℕ) (formed : IsValidTree t) (is_known : Bool) (c : Command) (o : Outcome) (W : Type 0) (journal pages mid : History) (status : Status) → IsTrue is_known → HoldsAll {C = StoreCall} (start t n limit) pages.now.reads journal
+pub document_finished : (t : Tree) (n limit : ℕ) (formed : IsValidTree t) (is_known : Bool) (c : Command) (o : Outcome) (W : Type 0) (journal pages mid : History) (status : Status) → IsTrue is_known → HoldsAll {C = BookCall} (start t n limit) pages.now.reads journal
     → IsAllSynced pages → WentAndWrote is_known (start t n limit) c o.read W journal mid status o.before o.now → o.new.journal ≡ mid → o.new.pages ≡ pages
     → IsImage o.new.journal.now o.new.journal.now.reads → IsImage o.new.pages.now o.new.pages.now.reads → (reads_input (Some c) ≡ false → o.read ≡ []) → (IsTrue (reads_input (Some c)) → W → IsWhole o.left o.read)
     → DocumentRan t n limit c status (pair_of journal pages) o

@@ -22,7 +22,7 @@ use Rattle.call_contract.specs.Books.{Book, commits}
 use Rattle.call_contract.specs.SerialRuns.{serial}
 use Rattle.call_contract.specs.Sessions.{commits_in}
 use Rattle.call_contract.specs.States.{State, start}
-use Rattle.command_lines.specs.declared.command.StoreCall.{StoreCall}
+use Rattle.session_driver.specs.Asking.{BookCall}
 use Rattle.command_words.specs.Commands.{Command, gen}
 use Rattle.script_runs.specs.Counts.{Counts, CountedWhere, DisksCountedWhere}
 use Rattle.session_driver.specs.Lines.{Asked}
@@ -61,7 +61,7 @@ use Rattle.xtc.proofs.MadeLaws.{are_made}
 
 -- ---- nothing is asked
 
-module _ (s : State StoreCall) (c : Command) (files : Pair) (stand : StandFor s files) where
+module _ (s : State BookCall) (c : Command) (files : Pair) (stand : StandFor s files) where
   pub nothing_went : (status : Status) → IsDocumentEnd c s [] status [] → WentOver s c files files status
   nothing_went status end = record {
     answered = [];
@@ -82,7 +82,7 @@ module _ (s : State StoreCall) (c : Command) (files : Pair) (stand : StandFor s 
   halted_went stop.NoMemory halts = nothing_went NoMemory tt
 
 -- a store with documents
-pub documents_went : (s : State StoreCall) (seed count : ℕ) (files : Pair) → StandFor s files → has_documents s.tree ≡ true → WentOver s (gen seed count) files files (DocumentRefused (reason.Call DocumentExists))
+pub documents_went : (s : State BookCall) (seed count : ℕ) (files : Pair) → StandFor s files → has_documents s.tree ≡ true → WentOver s (gen seed count) files files (DocumentRefused (reason.Call DocumentExists))
 documents_went s seed count files stand some =
     nothing_went s (gen seed count) files stand (DocumentRefused (reason.Call DocumentExists)) (record {
       end = ap (λ (b : Bool). end_of (gen seed count) s (gen_asks_of b seed count)) some;
@@ -91,11 +91,11 @@ documents_went s seed count files stand some =
 
 -- ---- the script
 
-module _ (s : State StoreCall) (seed count : ℕ) (empty : has_documents s.tree ≡ false) where
+module _ (s : State BookCall) (seed count : ℕ) (empty : has_documents s.tree ≡ false) where
   abbrev command : Command
   command = gen seed count
 
-  abbrev all : List (Asked StoreCall)
+  abbrev all : List (Asked BookCall)
   all = generated (script seed count)
 
   asks : asks_of command s [] ≡ Ok all
@@ -135,8 +135,8 @@ module _ (s : State StoreCall) (seed count : ℕ) (empty : has_documents s.tree 
       few = omega arith;
       valid = subst AreValidAsks (sym whole) h.valid;
       stops = record { front = all; last = []; parts = refl; one = omega arith; unrefused = h.unrefused };
-      end = (asks ∙ ap Ok (sym whole), ap (λ (l : List (Asked StoreCall)). end_by (first_reason limit_of (said s l))) whole ∙ ap end_by h.unrefused);
-      moments = subst (λ (l : List (Asked StoreCall)). PairsLeave (HoldFirstAsked s l) (files_of history old) (files_of history new)) (sym whole) h.moments;
+      end = (asks ∙ ap Ok (sym whole), ap (λ (l : List (Asked BookCall)). end_by (first_reason limit_of (said s l))) whole ∙ ap end_by h.unrefused);
+      moments = subst (λ (l : List (Asked BookCall)). PairsLeave (HoldFirstAsked s l) (files_of history old) (files_of history new)) (sym whole) h.moments;
       left = λ j p is_j is_p. inl (standing_images (after s all) (files_of history new) h.files j p is_j is_p);
     }
 
@@ -146,19 +146,19 @@ module _ (s : State StoreCall) (seed count : ℕ) (empty : has_documents s.tree 
 record Options : Type 0 where
   every : ℕ
   number : ℕ
-  book : Book StoreCall
+  book : Book BookCall
   count : ℕ
   pages : History
 
 module _ {P : Type 0} (is_known : Bool) (history : P → History) (known : IsTrue is_known) (t : Tree) (n : ℕ) (formed : IsValidTree t) (m : KeptStore P) where
   -- the pages hold what the last checkpoint has made of them, and the journal the commits behind it
-  pub made_at_end : (seed count every : ℕ) (asked : List (Asked StoreCall)) → AreValidAsks asked → HasRested is_known history m → StandsFor (contents_of is_known history m.core.opening) t → m.core.number ≡ n → m.checkpoints.every ≡ every
+  pub made_at_end : (seed count every : ℕ) (asked : List (Asked BookCall)) → AreValidAsks asked → HasRested is_known history m → StandsFor (contents_of is_known history m.core.opening) t → m.core.number ≡ n → m.checkpoints.every ≡ every
       → m.core.book ≡ (after_asked (start t n tx_limit) asked).book → StandFor (after (start t n tx_limit) asked) (files_of history m) → ReadsGroups true m.journal → IsTrue (is_positive every)
       → AreMade (Some (gen seed count)) every t n (after_asked (start t n tx_limit) asked).book m.journal.history.now.reads (file_in history m).now.reads
   made_at_end seed count every asked valid rested stands number_is every_is book_is files reads some =
-      let book : Book StoreCall = (after_asked (start t n tx_limit) asked).book in
+      let book : Book BookCall = (after_asked (start t n tx_limit) asked).book in
       let counted_is : length (commits m.core.book) ≡ commits_in m.core.book = committed_counted t m.core.number m.core.limit m.core.book (rested.answered.legal t stands) in
-      let seen_is : m.checkpoints.seen ≡ length (commits book) = rested.all ∙ sym counted_is ∙ ap (λ (b : Book StoreCall). length (commits b)) book_is in
+      let seen_is : m.checkpoints.seen ≡ length (commits book) = rested.all ∙ sym counted_is ∙ ap (λ (b : Book BookCall). length (commits b)) book_is in
       let pages_is : base_pages history m.core.base ≡ file_in history m = ap (λ (p : Option P). file_of history m.core.base p) (sym rested.answered.inside) in
       let held : IfSome (last_made (is_tried m.checkpoints.every) t m.core.number m.core.book m.checkpoints.seen) (λ k. HoldFirst t m.core.number m.core.book k (base_pages history m.core.base).now.reads)
       = rested.answered.made known (subst (λ (x : ℕ). IsTrue (is_positive x)) (sym every_is) some) t stands in
@@ -174,7 +174,7 @@ module _ {P : Type 0} (is_known : Bool) (history : P → History) (known : IsTru
 
 module _ {P : Type 0} (is_known : Bool) (history : P → History) (t : Tree) (n seed count every : ℕ) (empty : has_documents t ≡ false) (old new : KeptStore P) (summary : Summary)
     (ran : AllCounted is_known history (start t n tx_limit) (script seed count) old new (nothing_yet count) summary) where
-  abbrev asked : List (Asked StoreCall)
+  abbrev asked : List (Asked BookCall)
   asked = generated (script seed count)
 
   pub has_text : (text : List ℕ) → text ≡ summary_text summary ++ 10 ∷ []
@@ -183,7 +183,7 @@ module _ {P : Type 0} (is_known : Bool) (history : P → History) (t : Tree) (n 
   has_text text is made = record {
     went = all_went (start t n tx_limit) seed count empty is_known history old new ran.answered;
     shown = is ∙ ap (λ (m : Summary). summary_text m ++ 10 ∷ []) ran.counts;
-    made = λ some. subst (λ (l : List (Asked StoreCall)). AreMade (Some (gen seed count)) every t n (after_asked (start t n tx_limit) l).book new.journal.history.now.reads (file_in history new).now.reads) (sym (append-nil asked)) (made some);
+    made = λ some. subst (λ (l : List (Asked BookCall)). AreMade (Some (gen seed count)) every t n (after_asked (start t n tx_limit) l).book new.journal.history.now.reads (file_in history new).now.reads) (sym (append-nil asked)) (made some);
   }
 
   -- where the store goes on from its opening, and its journal is read as commits
@@ -192,7 +192,7 @@ module _ {P : Type 0} (is_known : Bool) (history : P → History) (t : Tree) (n 
   goes_to_text text is known stands number_is empty_book every_is on reads =
       has_text text is (made_at_end is_known history known t n stands.valid new seed count every asked ran.answered.valid on.rested
       (subst (λ (b : Base P). StandsFor (contents_of is_known history b) t) (sym on.opening) stands) (on.number ∙ number_is) (on.every ∙ every_is)
-      (ran.answered.book ∙ ap (λ (b : Book StoreCall). b ++ (after_asked (start t n tx_limit) asked).book) empty_book) ran.answered.files reads)
+      (ran.answered.book ∙ ap (λ (b : Book BookCall). b ++ (after_asked (start t n tx_limit) asked).book) empty_book) ran.answered.files reads)
 
 -- an error that is answered for this status
 pub done_failed : {T : Type 0} (r : Result T Status) (status : Status) (t : Tree) (n : ℕ) (c : Command) (every : ℕ) (old new : Pair) (bytes : T → List ℕ)
@@ -211,7 +211,7 @@ record WentAndWrote (t : Tree) (n : ℕ) (c : Command) (every : ℕ) (old new : 
   made : status ≡ Done → IsTrue (tries (Some c) every) → AreMade (Some c) every t n (after_asked (start t n tx_limit) (went.answered ++ went.more)).book new.journal.now.reads new.pages.now.reads
 
 module _ (t : Tree) (n : ℕ) (c : Command) (every : ℕ) (old new : Pair) (before now : Option (List ℕ)) where
-  abbrev opened : State StoreCall
+  abbrev opened : State BookCall
   opened = start t n tx_limit
 
   text_wrote : (status : Status) (text : List ℕ) → HasTextOver t n c every old new text → IsWriteEnd status → WroteWhole status before now text → WentAndWrote t n c every old new status before now
@@ -266,13 +266,13 @@ module _ (t : Tree) (n : ℕ) (formed : IsValidTree t) (seed count every asked_b
   abbrev outcome : Outcome
   outcome = record { read = []; asked = asked_before; left = left; before = before; now = now; old = first; new = new }
 
-  abbrev asks_all : List (Asked StoreCall)
+  abbrev asks_all : List (Asked BookCall)
   asks_all = h.went.answered ++ h.went.more
 
   asks_sum : length asks_all ≡ length h.went.answered + length h.went.more
   asks_sum = length-append h.went.answered h.went.more
 
-  opens : (least : ℕ) (xs ys : List (Asked StoreCall)) → xs ++ ys ≡ asks_all → least ≤ length xs → (j p : List ℕ) → HoldState (after (start t n tx_limit) xs) j p → OpenAfterAsked t n tx_limit least asks_all j p
+  opens : (least : ℕ) (xs ys : List (Asked BookCall)) → xs ++ ys ≡ asks_all → least ≤ length xs → (j p : List ℕ) → HoldState (after (start t n tx_limit) xs) j p → OpenAfterAsked t n tx_limit least asks_all j p
   opens least xs ys parts enough j p holds = opens_first t n tx_limit formed least asks_all xs ys j p p h.went.valid parts enough refl holds
 
   files_left : PairsHave (OpenAfterAsked t n tx_limit (length h.went.answered) asks_all) new

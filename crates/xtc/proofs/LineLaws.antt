@@ -11,7 +11,7 @@ use Rattle.script_runs.specs.Machine.{IsSettled, Machine, HoldsEither}
 use Rattle.call_contract.specs.Books.{Book, IsBookFrom}
 use Rattle.call_contract.specs.Sessions.{commits_in}
 use Rattle.call_contract.specs.States.{State}
-use Rattle.command_lines.specs.declared.command.StoreCall.{StoreCall}
+use Rattle.session_driver.specs.Asking.{BookCall}
 use Rattle.session_driver.specs.Progress.{Progress}
 use Rattle.durable_sessions.specs.Asked.{GrowsByOne, LeadsTo, LeavesEither, TakesNext}
 use Rattle.durable_sessions.specs.Durable.{HoldsAll}
@@ -45,7 +45,7 @@ module _ {P : Type 0} (journal_known pages_known makes : Bool) (history : P → 
         let before : HasRested pages_known history old × MakesAs makes old = subst (λ (k : KeptStore P). HasRested pages_known history k × MakesAs makes k) (sym view) ready in
         (answered_on pages_known history faults old new before.0 grown takes same checkpoints legal, ap (λ c. is_positive c.every) checkpoints ∙ before.1)
 
-    module _ (b : Booked P) (stands : IsBooked pages_known history self b) (done : Progress StoreCall) where
+    module _ (b : Booked P) (stands : IsBooked pages_known history self b) (done : Progress BookCall) where
       abbrev next : Booked P
       next = with_done b done
 
@@ -54,7 +54,7 @@ module _ {P : Type 0} (journal_known pages_known makes : Bool) (history : P → 
           let before : IsBooked pages_known history old b = subst (λ (k : KeptStore P). IsBooked pages_known history k b) (sym view) stands in
           record {
             stands = led;
-            book = book ∙ ap (λ (x : Book StoreCall). x ++ done.book) before.book;
+            book = book ∙ ap (λ (x : Book BookCall). x ++ done.book) before.book;
             opening = grown.opening ∙ before.opening;
             number = grown.number ∙ before.number;
             every = ap (λ c. c.every) checkpoints ∙ before.every;
@@ -88,10 +88,10 @@ module _ {P : Type 0} (journal_known pages_known makes : Bool) (history : P → 
         let before : IsBooked pages_known history old b = subst (λ (k : KeptStore P). IsBooked pages_known history k b) (sym view) stands in
         let led : Stands pages_known history old.core b.state = before.stands in
         record {
-          stands = subst (λ (c : CoreView StoreCall (Base P)). Stands pages_known history c b.state) (sym left.same_core) (record { tree = led.tree; opened = led.opened; state = led.state });
-          book = ap (λ (c : CoreView StoreCall (Base P)). c.book) left.same_core ∙ before.book;
-          opening = ap (λ (c : CoreView StoreCall (Base P)). c.opening) left.same_core ∙ before.opening;
-          number = ap (λ (c : CoreView StoreCall (Base P)). c.number) left.same_core ∙ before.number;
+          stands = subst (λ (c : CoreView BookCall (Base P)). Stands pages_known history c b.state) (sym left.same_core) (record { tree = led.tree; opened = led.opened; state = led.state });
+          book = ap (λ (c : CoreView BookCall (Base P)). c.book) left.same_core ∙ before.book;
+          opening = ap (λ (c : CoreView BookCall (Base P)). c.opening) left.same_core ∙ before.opening;
+          number = ap (λ (c : CoreView BookCall (Base P)). c.number) left.same_core ∙ before.number;
           every = every ∙ before.every;
         }
 
@@ -109,7 +109,7 @@ module _ {P : Type 0} (journal_known pages_known makes : Bool) (history : P → 
             not_true true it = absurd cc
             not_true false it = refl
 
-    module _ {E : Type 0} (result : Result (Unit {0}) E) (files : IsTrue journal_known → IsTrue pages_known → (s : State StoreCall) → Stands pages_known history old.core s → StandFor s (files_of history old) → LeftStanding s (files_of history old) (files_of history new) result)
+    module _ {E : Type 0} (result : Result (Unit {0}) E) (files : IsTrue journal_known → IsTrue pages_known → (s : State BookCall) → Stands pages_known history old.core s → StandFor s (files_of history old) → LeftStanding s (files_of history old) (files_of history new) result)
         (b : Booked P) (stands : IsBooked pages_known history self b) (settled : IsSettled machine self b) where
       left_by : LeftStanding b.state (files_of history self) (files_of history new) result
       left_by =

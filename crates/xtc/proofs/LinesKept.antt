@@ -15,7 +15,7 @@ use Rattle.checkpoint.specs.Renewals.{pages_of as base_pages}
 use Rattle.checkpoint.specs.declared.base.Base.{Base}
 use Rattle.call_contract.specs.Sessions.{commits_in}
 use Rattle.call_contract.specs.States.{start}
-use Rattle.command_lines.specs.declared.command.StoreCall.{StoreCall}
+use Rattle.session_driver.specs.Asking.{BookCall}
 use Rattle.script_runs.specs.Counts.{Counts, DisksCountedWhere}
 use Rattle.tx_core.specs.Cores.{CoreView, opened_over, over, with_committed}
 use Rattle.durable_sessions.specs.Asked.{GrowsByOne, TakesNext, counts_of}
@@ -83,10 +83,10 @@ counted_err {T} {There} r status is leads back before now c =
 
 module _ {P : Type 0} (faults : P → ℕ) where
   -- where no pages were handed out, the counts are those of the base
-  counts_inside : (core : CoreView StoreCall (Base P)) (journal : JournalView) (k : Checkpoints P) → k.pages ≡ None → counts_in faults (kept core journal k) ≡ counts_of (count_of faults) core journal
+  counts_inside : (core : CoreView BookCall (Base P)) (journal : JournalView) (k : Checkpoints P) → k.pages ≡ None → counts_in faults (kept core journal k) ≡ counts_of (count_of faults) core journal
   counts_inside core journal k none = λ i. record { journal = journal.faults; pages = faults_of faults core.base (none i) }
 
-  module _ (first : Counts) (mid : KeptStore P) (core : CoreView StoreCall (Base P)) (journal : JournalView) (none : mid.checkpoints.pages ≡ None) (unfaulted : counts_in faults mid ≡ first) where
+  module _ (first : Counts) (mid : KeptStore P) (core : CoreView BookCall (Base P)) (journal : JournalView) (none : mid.checkpoints.pages ≡ None) (unfaulted : counts_in faults mid ≡ first) where
     before_is : counts_of (count_of faults) mid.core mid.journal ≡ first
     before_is = sym (counts_inside mid.core mid.journal mid.checkpoints none) ∙ unfaulted
 
@@ -170,28 +170,28 @@ module _ {P : Type 0} (is_known : Bool) (history : P → History) where
   goes_on_itself k rested = record { rested = rested; opening = refl; number = refl; every = refl }
 
   -- behind a line and a checkpoint
-  pub goes_on_with : (first mid new : KeptStore P) (core : CoreView StoreCall (Base P)) → GoesOn is_known history first mid → GrowsByOne mid.core core → new.core ≡ with_committed (over core new.core.base) new.core.committed
+  pub goes_on_with : (first mid new : KeptStore P) (core : CoreView BookCall (Base P)) → GoesOn is_known history first mid → GrowsByOne mid.core core → new.core ≡ with_committed (over core new.core.base) new.core.committed
       → new.checkpoints.every ≡ mid.checkpoints.every → HasRested is_known history new → GoesOn is_known history first new
   goes_on_with first mid new core on grown same every rested = record {
     rested = rested;
-    opening = ap (λ (c : CoreView StoreCall (Base P)). c.opening) same ∙ grown.opening ∙ on.opening;
-    number = ap (λ (c : CoreView StoreCall (Base P)). c.number) same ∙ grown.number ∙ on.number;
+    opening = ap (λ (c : CoreView BookCall (Base P)). c.opening) same ∙ grown.opening ∙ on.opening;
+    number = ap (λ (c : CoreView BookCall (Base P)). c.number) same ∙ grown.number ∙ on.number;
     every = every ∙ on.every;
   }
 
 -- ---- the opening
 
 -- a core that was opened over a base is new
-pub opened_new : {B : Type 0} (contents : B → Option Entries) (base : B) (n : ℕ) (core : CoreView StoreCall B) → core ≡ opened_over base (contents base) n tx_limit → IsNew contents core
-opened_new {B} contents base n core is = subst (λ (v : CoreView StoreCall B). IsNew contents v) (sym is) refl
+pub opened_new : {B : Type 0} (contents : B → Option Entries) (base : B) (n : ℕ) (core : CoreView BookCall B) → core ≡ opened_over base (contents base) n tx_limit → IsNew contents core
+opened_new {B} contents base n core is = subst (λ (v : CoreView BookCall B). IsNew contents v) (sym is) refl
 
-module _ {P : Type 0} (is_known : Bool) (history : P → History) (core : CoreView StoreCall (Base P)) (new : IsNew (contents_of is_known history) core) (t : Tree) (stands : StandsFor (contents_of is_known history core.base) t) where
+module _ {P : Type 0} (is_known : Bool) (history : P → History) (core : CoreView BookCall (Base P)) (new : IsNew (contents_of is_known history) core) (t : Tree) (stands : StandsFor (contents_of is_known history core.base) t) where
   -- it stands for the tree of its base
   pub new_stands : Stands is_known history core (start t core.number tx_limit)
-  new_stands = subst (λ (v : CoreView StoreCall (Base P)). Stands is_known history v (start t core.number tx_limit)) (sym new) (record { tree = t; opened = stands; state = refl })
+  new_stands = subst (λ (v : CoreView BookCall (Base P)). Stands is_known history v (start t core.number tx_limit)) (sym new) (record { tree = t; opened = stands; state = refl })
 
   pub new_tree : StandsFor (contents_of is_known history core.opening) t
-  new_tree = subst (λ (b : Base P). StandsFor (contents_of is_known history b) t) (sym (ap (λ (v : CoreView StoreCall (Base P)). v.opening) new)) stands
+  new_tree = subst (λ (b : Base P). StandsFor (contents_of is_known history b) t) (sym (ap (λ (v : CoreView BookCall (Base P)). v.opening) new)) stands
 
 module _ {P : Type 0} (is_known : Bool) (history : P → History) (faults : P → ℕ) (base read : Base P) (n : ℕ) (journal : JournalView) (checkpoints : Checkpoints P) (same : IsUnchanged is_known history faults base read)
     (rested : HasRested is_known history (opened_with is_known history base n journal checkpoints)) where

@@ -13,7 +13,7 @@ use Rattle.tree_model.specs.declared.reply.Reply.{Reply}
 use Rattle.tree_model.specs.declared.reply.Reply.TheVariants as reply
 use Rattle.node_seq.specs.Trees.{OnTree, StandsFor}
 use Rattle.call_contract.specs.States.{State, start}
-use Rattle.command_lines.specs.declared.command.StoreCall.{StoreCall}
+use Rattle.session_driver.specs.Asking.{BookCall}
 use Rattle.command_lines.specs.declared.command.StoreCall.TheVariants.{Dom}
 use Rattle.command_lines.specs.declared.line_reply.LineReply.{LineReply}
 use Rattle.store_calls.specs.StoreCalls.{IsValidStoreCall, store_meaning}
@@ -76,19 +76,19 @@ counted_first answer given before now cause same fault = record {
 }
 
 -- a path that was read is asked for
-pub query_shows : (s : State StoreCall) (name : Name) (text : List ℕ) (path : XPath) → parsed text ≡ Ok path → Shows (query name text) s name (FoundBy path)
+pub query_shows : (s : State BookCall) (name : Name) (text : List ℕ) (path : XPath) → parsed text ≡ Ok path → Shows (query name text) s name (FoundBy path)
 query_shows s name text path is = record { asks = ap (query_asks_of s name) is; stops = refl; text = λ asked. refl; uncommitted = refl }
 
 -- ---- the lines
 
 module _ (t : Tree) (n : ℕ) (name : Name) (q : Question) where
-  abbrev s : State StoreCall
+  abbrev s : State BookCall
   s = start t n tx_limit
 
-  module _ (call : StoreCall) (r : Reply) (lines : List LineReply) (apart : n ≢ tx_limit) (is : call ≡ Dom (Doc name)) (valid : IsValidStoreCall call)
+  module _ (call : BookCall) (r : Reply) (lines : List LineReply) (apart : n ≢ tx_limit) (is : call ≡ Dom (Doc name)) (valid : IsValidStoreCall call)
       (answered : r ≡ store_meaning.reply call t) (lines_are : lines ≡ said_line (reply.Number 1) ∷ said_line r ∷ []) where
     found : r ≡ store_meaning.reply (Dom (Doc name)) t
-    found = answered ∙ ap (λ (c : StoreCall). store_meaning.reply c t) is
+    found = answered ∙ ap (λ (c : BookCall). store_meaning.reply c t) is
 
     -- no document has the name
     pub lone_without : None ≡ label_in lines → AreLinesOf s name q lines
@@ -122,7 +122,7 @@ module _ (t : Tree) (n : ℕ) (name : Name) (q : Question) where
     lone_limited is = document_refused is_known s c [] (show_asks s name q) shows.asks (omega arith) shows.uncommitted journal Limit (reasons ∙ spent_limit t n tx_limit name q (same_numbers t n tx_limit is))
 
 -- a disk failed, or memory was wanting
-pub lone_halted : (is_known : Bool) (s : State StoreCall) (c : Command) (journal : History) (why : Stop) → IsHalt why → DocumentWent is_known s c [] journal journal (status_of_stop why)
+pub lone_halted : (is_known : Bool) (s : State BookCall) (c : Command) (journal : History) (why : Stop) → IsHalt why → DocumentWent is_known s c [] journal journal (status_of_stop why)
 lone_halted is_known s c journal (stop.Refused why) halts = absurd halts
 lone_halted is_known s c journal stop.DiskFault halts = nothing_asked is_known s c [] journal DiskFault tt (omega arith)
 lone_halted is_known s c journal stop.NoMemory halts = nothing_asked is_known s c [] journal NoMemory tt (omega arith)

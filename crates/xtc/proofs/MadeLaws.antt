@@ -9,7 +9,7 @@ use Rattle.journal.specs.declared.group.Groups.{Groups}
 use Rattle.store_contents.specs.Contents.{Contents, HoldsCommits, contents_of_files, goes_on_from, last_of}
 use Rattle.store_contents.proofs.ContentsLaws.{holds_commits}
 use Rattle.call_contract.specs.Books.{Book, commits}
-use Rattle.command_lines.specs.declared.command.StoreCall.{StoreCall}
+use Rattle.session_driver.specs.Asking.{BookCall}
 use Rattle.xtc.specs.Checkpoints.{AreMade, HoldFirst, MadeBehind, last_of_command, tree_after}
 use Rattle.command_words.specs.Commands.{Command}
 
@@ -20,7 +20,7 @@ if_some P Q leads (Some a) p = leads a p
 same_held : (x y : Entries × ℕ) (pages : List ℕ) → contents_of_file pages ≡ Ok x → contents_of_file pages ≡ Ok y → x ≡ y
 same_held x y pages one other = let both : Ok x ≡ Ok y = sym one ∙ other in cc
 
-module _ (c : Command) (every : ℕ) (t : Tree) (n : ℕ) (book : Book StoreCall) (journal pages : List ℕ) (groups : Groups) (reads : read journal ≡ Ok groups) (none : groups.images ≡ None)
+module _ (c : Command) (every : ℕ) (t : Tree) (n : ℕ) (book : Book BookCall) (journal pages : List ℕ) (groups : Groups) (reads : read journal ≡ Ok groups) (none : groups.images ≡ None)
     (entries : Entries) (opens : contents_of_files journal pages ≡ Ok (record { entries = entries; number = n + length (commits book) })) where
   parts : HoldsCommits pages groups (record { entries = entries; number = n + length (commits book) })
   parts = holds_commits journal pages groups _ reads none opens

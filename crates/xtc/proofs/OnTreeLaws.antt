@@ -22,7 +22,7 @@ use Rattle.call_contract.specs.Steps.{begun_by, committed}
 use Rattle.call_contract.specs.declared.events.Answer.TheVariants as event_answer
 use Rattle.call_contract.specs.declared.events.Event.TheVariants as event
 use Rattle.call_contract.specs.declared.events.EventAnswer.TheVariants as said
-use Rattle.command_lines.specs.declared.command.StoreCall.{StoreCall}
+use Rattle.session_driver.specs.Asking.{BookCall}
 use Rattle.command_lines.specs.declared.command.StoreCall.TheVariants.{Dom}
 use Rattle.command_lines.specs.declared.line_reply.LineAnswer.TheVariants as answer
 use Rattle.command_lines.specs.declared.line_reply.LineReply.{LineReply}
@@ -53,14 +53,14 @@ never_none None y is = cc
 never_none (Some z) y is = cc
 
 module _ (t : Tree) (n limit : ℕ) where
-  abbrev opened : State StoreCall
+  abbrev opened : State BookCall
   opened = start t n limit
 
   -- session 1 has been answered these
-  abbrev alone : List (Answered StoreCall) → List Request → Live StoreCall
+  abbrev alone : List (Answered BookCall) → List Request → Live BookCall
   alone cs gs = record { session = 1; ordinal = 1; calls = cs; grants = gs; waits = None }
 
-  abbrev at_work : List (Answered StoreCall) → List Request → State StoreCall
+  abbrev at_work : List (Answered BookCall) → List Request → State BookCall
   at_work cs gs = record (begun_by opened 1) { live = alone cs gs ∷ []; waiting = [] }
 
   pub same_numbers : n ≡ limit → (n + 0 == limit) ≡ true
@@ -75,7 +75,7 @@ module _ (t : Tree) (n limit : ℕ) where
 
   -- ---- its lines
 
-  abbrev begun : Progress StoreCall
+  abbrev begun : Progress BookCall
   begun = record { state = at_work [] []; book = entry 1 event.Begin (said.Number 1) ∷ []; lines = Said 1 false (answer.Reply (reply.Number 1)) ∷ [] }
 
   begin_is : (n + 0 == limit) ≡ false → after_line store_meaning opened (asks Begin) ≡ begun
@@ -86,71 +86,71 @@ module _ (t : Tree) (n limit : ℕ) where
   begin_refused : (n + 0 == limit) ≡ true → after_line store_meaning opened (asks Begin) ≡ record { state = opened; book = []; lines = Said 1 false (answer.Session TxLimit) ∷ [] }
   begin_refused spent = ap (λ b. unless_refused store_meaning opened 1 Begin (cond b (Some TxLimit) None)) spent
 
-  abbrev answer_of : List (Answered StoreCall) → StoreCall → Reply
+  abbrev answer_of : List (Answered BookCall) → BookCall → Reply
   answer_of cs c = store_meaning.reply c (view store_meaning cs t)
 
-  abbrev called : List (Answered StoreCall) → List Request → StoreCall → Progress StoreCall
+  abbrev called : List (Answered BookCall) → List Request → BookCall → Progress BookCall
   called cs gs c = record {
     state = at_work (cs ++ record { call = c; reply = answer_of cs c } ∷ []) (gs ++ granted store_meaning (at_work cs gs) (alone cs gs) c);
     book = entry 1 (event.Call c) (said.Call (event_answer.Answered (answer_of cs c))) ∷ [];
     lines = Said 1 false (answer.Reply (answer_of cs c)) ∷ [];
   }
 
-  call_is : (cs : List (Answered StoreCall)) (gs : List Request) (c : StoreCall) → after_line store_meaning (at_work cs gs) (asks (Call c)) ≡ called cs gs c
+  call_is : (cs : List (Answered BookCall)) (gs : List Request) (c : BookCall) → after_line store_meaning (at_work cs gs) (asks (Call c)) ≡ called cs gs c
   call_is cs gs c = lone_line store_meaning (at_work cs gs) (alone cs gs) c (record { only = refl; ready = refl })
 
-  abbrev made : List (Answered StoreCall) → List Request → Progress StoreCall
+  abbrev made : List (Answered BookCall) → List Request → Progress BookCall
   made cs gs = record {
     state = committed store_meaning (at_work cs gs) (alone cs gs);
     book = entry 1 event.Commit (said.Number (n + 1)) ∷ [];
     lines = Said 1 false (answer.Reply (reply.Number (n + 1))) ∷ [];
   }
 
-  commit_is : (cs : List (Answered StoreCall)) (gs : List Request) → is_past_limit store_meaning (at_work cs gs) (alone cs gs) ≡ false → after_line store_meaning (at_work cs gs) (asks Commit) ≡ made cs gs
+  commit_is : (cs : List (Answered BookCall)) (gs : List Request) → is_past_limit store_meaning (at_work cs gs) (alone cs gs) ≡ false → after_line store_meaning (at_work cs gs) (asks Commit) ≡ made cs gs
   commit_is cs gs some_left = ap (λ b. unless_refused store_meaning (at_work cs gs) 1 Commit (cond b (Some CommitLimit) None)) some_left
 
-  commit_refused : (cs : List (Answered StoreCall)) (gs : List Request) → is_past_limit store_meaning (at_work cs gs) (alone cs gs) ≡ true
+  commit_refused : (cs : List (Answered BookCall)) (gs : List Request) → is_past_limit store_meaning (at_work cs gs) (alone cs gs) ≡ true
       → after_line store_meaning (at_work cs gs) (asks Commit) ≡ record { state = at_work cs gs; book = []; lines = Said 1 false (answer.Session CommitLimit) ∷ [] }
   commit_refused cs gs spent = ap (λ b. unless_refused store_meaning (at_work cs gs) 1 Commit (cond b (Some CommitLimit) None)) spent
 
   -- ---- `put`
 
   module _ (name : Name) (element : Fragment) where
-    abbrev create : StoreCall
+    abbrev create : BookCall
     create = Dom (Create name (Some element))
 
-    abbrev created : Progress StoreCall
+    abbrev created : Progress BookCall
     created = called [] [] create
 
-    abbrev whole : Progress StoreCall
+    abbrev whole : Progress BookCall
     whole = after_asked opened (put_asks name element)
 
-    abbrev last_line : Progress StoreCall
+    abbrev last_line : Progress BookCall
     last_line = after_line store_meaning created.state (asks Commit)
 
     -- a transaction is begun, and the tree's own call answered
     put_is : (n + 0 == limit) ≡ false → whole ≡ and_then begun (and_then created (and_then last_line (stays last_line.state)))
     put_is some_left =
-        ap (λ (p : Progress StoreCall). and_then p (after_asked p.state (calls (Create name (Some element)) ∷ asks Commit ∷ []))) (begin_is some_left)
-        ∙ ap (λ (p : Progress StoreCall). and_then begun (and_then p (after_asked p.state (asks Commit ∷ [])))) (call_is [] [] create)
+        ap (λ (p : Progress BookCall). and_then p (after_asked p.state (calls (Create name (Some element)) ∷ asks Commit ∷ []))) (begin_is some_left)
+        ∙ ap (λ (p : Progress BookCall). and_then begun (and_then p (after_asked p.state (asks Commit ∷ [])))) (call_is [] [] create)
 
     limited : (n + 0 == limit) ≡ true → reason_in whole.lines ≡ Some reason.Limit
-    limited spent = ap (λ (p : Progress StoreCall). reason_in (and_then p (after_asked p.state (calls (Create name (Some element)) ∷ asks Commit ∷ []))).lines) (begin_refused spent)
+    limited spent = ap (λ (p : Progress BookCall). reason_in (and_then p (after_asked p.state (calls (Create name (Some element)) ∷ asks Commit ∷ []))).lines) (begin_refused spent)
 
     refused : (why : Refusal) → (n + 0 == limit) ≡ false → (dom (Create name (Some element)) t).0 ≡ reply.Refused why → reason_in whole.lines ≡ Some (reason.Call why)
     refused why some_left is =
-        ap (λ (p : Progress StoreCall). reason_in p.lines) (put_is some_left)
+        ap (λ (p : Progress BookCall). reason_in p.lines) (put_is some_left)
         ∙ ap (λ (r : Reply). option_or (reason_of (Said 1 false (answer.Reply r))) (reason_in (last_line.lines ++ []))) is
 
-    abbrev cs : List (Answered StoreCall)
+    abbrev cs : List (Answered BookCall)
     cs = record { call = create; reply = answer_of [] create } ∷ []
 
     abbrev gs : List Request
     gs = granted store_meaning (at_work [] []) (alone [] []) create
 
     -- whatever the commit comes to
-    put_ends : (p : Progress StoreCall) → (n + 0 == limit) ≡ false → last_line ≡ p → whole ≡ and_then begun (and_then created (and_then p (stays p.state)))
-    put_ends p some_left is = put_is some_left ∙ ap (λ (q : Progress StoreCall). and_then begun (and_then created (and_then q (stays q.state)))) is
+    put_ends : (p : Progress BookCall) → (n + 0 == limit) ≡ false → last_line ≡ p → whole ≡ and_then begun (and_then created (and_then p (stays p.state)))
+    put_ends p some_left is = put_is some_left ∙ ap (λ (q : Progress BookCall). and_then begun (and_then created (and_then q (stays q.state)))) is
 
     record Made : Type 0 where
       label : label_in whole.lines ≡ label_shown (dom (Create name (Some element)) t).0
@@ -163,69 +163,69 @@ module _ (t : Tree) (n limit : ℕ) where
         go true spent p past = let some_left : Some reason.Limit ≡ None = sym (limited spent) ∙ none in cc
         go false some_left true past =
             let said_why : option_or (reason_of (Said 1 false (answer.Reply (answer_of [] create)))) (Some reason.Limit) ≡ None
-            = sym (ap (λ (p : Progress StoreCall). reason_in p.lines) (put_ends _ some_left (commit_refused cs gs past))) ∙ none in
+            = sym (ap (λ (p : Progress BookCall). reason_in p.lines) (put_ends _ some_left (commit_refused cs gs past))) ∙ none in
             absurd (never_none (reason_of (Said 1 false (answer.Reply (answer_of [] create)))) reason.Limit said_why)
         go false some_left false past =
             let all = put_ends (made cs gs) some_left (commit_is cs gs past) in
-            record { label = ap (λ (p : Progress StoreCall). label_in p.lines) all ∙ or_none (label_shown (answer_of [] create)); state = ap (λ (p : Progress StoreCall). p.state) all }
+            record { label = ap (λ (p : Progress BookCall). label_in p.lines) all ∙ or_none (label_shown (answer_of [] create)); state = ap (λ (p : Progress BookCall). p.state) all }
 
     pub put_on_tree : PutOnTree t n limit name element whole
     put_on_tree = record {
       limited = λ is. limited (same_numbers is);
       refused = λ why apart is. refused why (other_numbers apart) is;
       label = λ none. (put_done none).label;
-      tree = λ none. ap (λ (u : State StoreCall). u.tree) (put_done none).state;
-      number = λ none. ap (λ (u : State StoreCall). u.number) (put_done none).state;
+      tree = λ none. ap (λ (u : State BookCall). u.tree) (put_done none).state;
+      number = λ none. ap (λ (u : State BookCall). u.number) (put_done none).state;
     }
 
   -- ---- `get` and `query`
 
   module _ (name : Name) (q : Question) where
-    abbrev doc : StoreCall
+    abbrev doc : BookCall
     doc = Dom (Doc name)
 
-    abbrev found : Progress StoreCall
+    abbrev found : Progress BookCall
     found = called [] [] doc
 
-    abbrev found_calls : List (Answered StoreCall)
+    abbrev found_calls : List (Answered BookCall)
     found_calls = record { call = doc; reply = answer_of [] doc } ∷ []
 
     abbrev found_grants : List Request
     found_grants = granted store_meaning (at_work [] []) (alone [] []) doc
 
-    abbrev got : Progress StoreCall
+    abbrev got : Progress BookCall
     got = after_asked opened (show_asks opened name q)
 
     -- a transaction is begun, and the tree's own call answered, whatever is asked behind it
-    found_is : (n + 0 == limit) ≡ false → (more : List (Asked StoreCall)) → after_asked opened (find_asks name ++ more) ≡ and_then begun (and_then found (after_asked found.state more))
+    found_is : (n + 0 == limit) ≡ false → (more : List (Asked BookCall)) → after_asked opened (find_asks name ++ more) ≡ and_then begun (and_then found (after_asked found.state more))
     found_is some_left more =
-        ap (λ (p : Progress StoreCall). and_then p (after_asked p.state (calls (Doc name) ∷ more))) (begin_is some_left)
-        ∙ ap (λ (p : Progress StoreCall). and_then begun (and_then p (after_asked p.state more))) (call_is [] [] doc)
+        ap (λ (p : Progress BookCall). and_then p (after_asked p.state (calls (Doc name) ∷ more))) (begin_is some_left)
+        ∙ ap (λ (p : Progress BookCall). and_then begun (and_then p (after_asked p.state more))) (call_is [] [] doc)
 
     -- what is asked behind it goes by the label that was found
     got_by : (n + 0 == limit) ≡ false → (place : Option Label) → label_shown (answer_of [] doc) ≡ place
         → got ≡ and_then begun (and_then found (after_asked found.state (question_asks q place)))
     got_by some_left place is =
         ap (λ (at : Option Label). after_asked opened (find_asks name ++ question_asks q at))
-        (ap (λ (p : Progress StoreCall). label_in p.lines) (found_is some_left []) ∙ or_none (label_shown (answer_of [] doc)) ∙ is)
+        (ap (λ (p : Progress BookCall). label_in p.lines) (found_is some_left []) ∙ or_none (label_shown (answer_of [] doc)) ∙ is)
         ∙ found_is some_left (question_asks q place)
 
     -- no label is found where no transaction can be begun
     got_nothing : (n + 0 == limit) ≡ true → got ≡ and_then (record { state = opened; book = []; lines = Said 1 false (answer.Session TxLimit) ∷ [] }) (after_asked opened (calls (Doc name) ∷ []))
     got_nothing spent =
         ap (λ (at : Option Label). after_asked opened (find_asks name ++ question_asks q at))
-        (ap (λ (p : Progress StoreCall). label_in (and_then p (after_asked p.state (calls (Doc name) ∷ []))).lines) (begin_refused spent))
-        ∙ ap (λ (p : Progress StoreCall). and_then p (after_asked p.state (calls (Doc name) ∷ []))) (begin_refused spent)
+        (ap (λ (p : Progress BookCall). label_in (and_then p (after_asked p.state (calls (Doc name) ∷ []))).lines) (begin_refused spent))
+        ∙ ap (λ (p : Progress BookCall). and_then p (after_asked p.state (calls (Doc name) ∷ []))) (begin_refused spent)
 
     module _ (at : Label) where
-      abbrev asked_of : StoreCall
+      abbrev asked_of : BookCall
       asked_of = call_of q at
 
-      abbrev shown : Progress StoreCall
+      abbrev shown : Progress BookCall
       shown = called found_calls found_grants asked_of
 
       shown_is : after_asked found.state (question_asks q (Some at)) ≡ and_then shown (after_asked shown.state (asks Abort ∷ []))
-      shown_is = ap (λ (p : Progress StoreCall). and_then p (after_asked p.state (asks Abort ∷ []))) (call_is found_calls found_grants asked_of)
+      shown_is = ap (λ (p : Progress BookCall). and_then p (after_asked p.state (asks Abort ∷ []))) (call_is found_calls found_grants asked_of)
 
       abbrev lines_by : Reply → Reply → List LineReply
       lines_by r p = begun.lines ++ Said 1 false (answer.Reply r) ∷ Said 1 false (answer.Reply p) ∷ Said 1 false (answer.Reply reply.Nothing) ∷ []
@@ -233,8 +233,8 @@ module _ (t : Tree) (n limit : ℕ) where
       -- the lines, by what the tree's own calls answer
       got_lines : (r : Reply) → (n + 0 == limit) ≡ false → (dom (Doc name) t).0 ≡ reply.Place (Some at) → answer_of found_calls asked_of ≡ r → got.lines ≡ lines_by (reply.Place (Some at)) r
       got_lines r some_left is_found is_shown =
-          ap (λ (p : Progress StoreCall). p.lines) (got_by some_left (Some at) (ap label_shown is_found))
-          ∙ ap (λ (p : Progress StoreCall). begun.lines ++ (found.lines ++ p.lines)) shown_is
+          ap (λ (p : Progress BookCall). p.lines) (got_by some_left (Some at) (ap label_shown is_found))
+          ∙ ap (λ (p : Progress BookCall). begun.lines ++ (found.lines ++ p.lines)) shown_is
           ∙ ap (λ (p : Reply). lines_by p (answer_of found_calls asked_of)) is_found
           ∙ ap (λ (p : Reply). lines_by (reply.Place (Some at)) p) is_shown
 
@@ -250,7 +250,7 @@ module _ (t : Tree) (n limit : ℕ) where
     asks_by : (n + 0 == limit) ≡ false → (place : Option Label) → label_shown (answer_of [] doc) ≡ place → show_asks opened name q ≡ find_asks name ++ question_asks q place
     asks_by some_left place is =
         ap (λ (at : Option Label). find_asks name ++ question_asks q at)
-        (ap (λ (p : Progress StoreCall). label_in p.lines) (found_is some_left []) ∙ or_none (label_shown (answer_of [] doc)) ∙ is)
+        (ap (λ (p : Progress BookCall). label_in p.lines) (found_is some_left []) ∙ or_none (label_shown (answer_of [] doc)) ∙ is)
 
     pub lines_without : (r : Reply) → n ≢ limit → r ≡ answer_of [] doc → None ≡ label_in (found_lines r) → IsValidStoreCall doc → AreLinesOf opened name q (found_lines r)
     lines_without r apart is none valid =
@@ -258,7 +258,7 @@ module _ (t : Tree) (n limit : ℕ) where
         let place = place_is r None is none in
         record {
           valid = subst AreValidAsks (sym (asks_by some_left None place)) (tt, (valid, tt));
-          same = ap found_lines is ∙ sym (ap (λ (p : Progress StoreCall). p.lines) (got_by some_left None place));
+          same = ap found_lines is ∙ sym (ap (λ (p : Progress BookCall). p.lines) (got_by some_left None place));
         }
 
     pub lines_with : (r p : Reply) (at : Label) → n ≢ limit → r ≡ answer_of [] doc → Some at ≡ label_in (found_lines r) → p ≡ answer_of found_calls (call_of q at)
@@ -272,27 +272,27 @@ module _ (t : Tree) (n limit : ℕ) where
           same =
               ap (λ (x : Reply). found_lines x ++ last p) is
               ∙ ap (λ (x : Reply). found_lines (answer_of [] doc) ++ last x) shown_is_this
-              ∙ sym (ap (λ (x : Progress StoreCall). x.lines) (got_by some_left (Some at) place) ∙ ap (λ (x : Progress StoreCall). begun.lines ++ (found.lines ++ x.lines)) (shown_is at));
+              ∙ sym (ap (λ (x : Progress BookCall). x.lines) (got_by some_left (Some at) place) ∙ ap (λ (x : Progress BookCall). begun.lines ++ (found.lines ++ x.lines)) (shown_is at));
         }
 
     missing : (why : Refusal) → (n + 0 == limit) ≡ false → (dom (Doc name) t).0 ≡ reply.Refused why → reason_in got.lines ≡ Some (reason.Call why)
     missing why some_left is =
-        ap (λ (p : Progress StoreCall). reason_in p.lines) (got_by some_left None (ap label_shown is))
+        ap (λ (p : Progress BookCall). reason_in p.lines) (got_by some_left None (ap label_shown is))
         ∙ ap (λ (r : Reply). option_or (reason_of (Said 1 false (answer.Reply r))) None) is
 
-    abbrev IsKept : Progress StoreCall → Type 0
+    abbrev IsKept : Progress BookCall → Type 0
     IsKept p = (p.state.tree ≡ t) × (p.state.number ≡ n)
 
     pub kept : IsKept got
     kept = go (n + 0 == limit) refl (label_shown (answer_of [] doc)) refl
       where
         go : (b : Bool) → (n + 0 == limit) ≡ b → (place : Option Label) → label_shown (answer_of [] doc) ≡ place → IsKept got
-        go true spent place is = (ap (λ (p : Progress StoreCall). p.state.tree) (got_nothing spent), ap (λ (p : Progress StoreCall). p.state.number) (got_nothing spent))
-        go false some_left None is = (ap (λ (p : Progress StoreCall). p.state.tree) (got_by some_left None is), ap (λ (p : Progress StoreCall). p.state.number) (got_by some_left None is))
+        go true spent place is = (ap (λ (p : Progress BookCall). p.state.tree) (got_nothing spent), ap (λ (p : Progress BookCall). p.state.number) (got_nothing spent))
+        go false some_left None is = (ap (λ (p : Progress BookCall). p.state.tree) (got_by some_left None is), ap (λ (p : Progress BookCall). p.state.number) (got_by some_left None is))
         go false some_left (Some at) is =
             let all = got_by some_left (Some at) is in (
-              ap (λ (p : Progress StoreCall). p.state.tree) all ∙ ap (λ (p : Progress StoreCall). p.state.tree) (shown_is at),
-              ap (λ (p : Progress StoreCall). p.state.number) all ∙ ap (λ (p : Progress StoreCall). p.state.number) (shown_is at),
+              ap (λ (p : Progress BookCall). p.state.tree) all ∙ ap (λ (p : Progress BookCall). p.state.tree) (shown_is at),
+              ap (λ (p : Progress BookCall). p.state.number) all ∙ ap (λ (p : Progress BookCall). p.state.number) (shown_is at),
             )
 
     -- each line is answered at once
@@ -300,14 +300,14 @@ module _ (t : Tree) (n limit : ℕ) where
     at_once = go (n + 0 == limit) refl (label_shown (answer_of [] doc)) refl
       where
         go : (b : Bool) → (n + 0 == limit) ≡ b → (place : Option Label) → label_shown (answer_of [] doc) ≡ place → AllByRecursion IsAtOnce got.lines
-        go true spent place is = subst (λ (p : Progress StoreCall). AllByRecursion IsAtOnce p.lines) (sym (got_nothing spent)) (tt, (tt, tt))
-        go false some_left None is = subst (λ (p : Progress StoreCall). AllByRecursion IsAtOnce p.lines) (sym (got_by some_left None is)) (tt, (tt, tt))
+        go true spent place is = subst (λ (p : Progress BookCall). AllByRecursion IsAtOnce p.lines) (sym (got_nothing spent)) (tt, (tt, tt))
+        go false some_left None is = subst (λ (p : Progress BookCall). AllByRecursion IsAtOnce p.lines) (sym (got_by some_left None is)) (tt, (tt, tt))
         go false some_left (Some at) is =
-            subst (λ (p : Progress StoreCall). AllByRecursion IsAtOnce p.lines) (sym (got_by some_left (Some at) is ∙ ap (λ (p : Progress StoreCall). and_then begun (and_then found p)) (shown_is at)))
+            subst (λ (p : Progress BookCall). AllByRecursion IsAtOnce p.lines) (sym (got_by some_left (Some at) is ∙ ap (λ (p : Progress BookCall). and_then begun (and_then found p)) (shown_is at)))
             (tt, (tt, (tt, (tt, tt))))
 
     pub spent_limit : (n + 0 == limit) ≡ true → reason_in got.lines ≡ Some reason.Limit
-    spent_limit spent = ap (λ (p : Progress StoreCall). reason_in p.lines) (got_nothing spent)
+    spent_limit spent = ap (λ (p : Progress BookCall). reason_in p.lines) (got_nothing spent)
 
   pub get_on_tree : (name : Name) → GetOnTree t n limit name (got name Whole)
   get_on_tree name = record {

@@ -15,7 +15,7 @@ use Rattle.durable_sessions.specs.Asked.{TakesNext}
 use Rattle.durable_sessions.specs.Durable.{HoldsAll}
 use Rattle.durable_sessions.specs.Standing as standing
 use Rattle.call_contract.specs.States.{start}
-use Rattle.command_lines.specs.declared.command.StoreCall.{StoreCall}
+use Rattle.session_driver.specs.Asking.{BookCall}
 use Rattle.store_calls.specs.StoreCalls.{store_meaning}
 use Rattle.tx_core.specs.Cores.{CoreView, next_number, opened_over}
 use Rattle.checkpoint.specs.Bases.{contents_of}
@@ -26,23 +26,23 @@ use Rattle.xtc.proofs.SoundBooks.{empty_legal}
 use Rattle.xtc.proofs.StoreMachineLaws.{settled_out}
 
 -- the files of a store that was opened hold what is committed at the start
-pub opening_holds : (t : Tree) (n limit : ℕ) (journal pages : History) → StandSettled (pair_of journal pages) t n → HoldsAll {C = StoreCall} (start t n limit) pages.now.reads journal
+pub opening_holds : (t : Tree) (n limit : ℕ) (journal pages : History) → StandSettled (pair_of journal pages) t n → HoldsAll {C = BookCall} (start t n limit) pages.now.reads journal
 opening_holds t n limit journal pages stand = record { synced = stand.journal; holds = stand.stand.opens }
 
-module _ {B : Type 0} (contents : B → Option Entries) (base : B) (n limit : ℕ) (core : CoreView StoreCall B) (is : core ≡ opened_over base (contents base) n limit) where
+module _ {B : Type 0} (contents : B → Option Entries) (base : B) (n limit : ℕ) (core : CoreView BookCall B) (is : core ≡ opened_over base (contents base) n limit) where
   -- a core that was opened over a base stands for its tree
   pub core_stands : (t : Tree) → StandsFor (contents base) t → standing.Stands store_meaning contents core (start t n limit)
-  core_stands t stands = subst (λ (v : CoreView StoreCall B). standing.Stands store_meaning contents v (start t n limit)) (sym is) (record { tree = t; opened = stands; state = refl })
+  core_stands t stands = subst (λ (v : CoreView BookCall B). standing.Stands store_meaning contents v (start t n limit)) (sym is) (record { tree = t; opened = stands; state = refl })
 
   -- and the journal takes its next commit
   pub takes_begin : (journal : JournalView) → TakesBehind journal n → TakesNext core journal
   takes_begin journal takes = record {
     usable = takes.usable;
-    next = ap (λ (v : CoreView StoreCall B). is_next journal.last (next_number v)) is ∙ ap (λ (k : ℕ). is_next journal.last (k + 1)) (add-zero n) ∙ takes.next;
+    next = ap (λ (v : CoreView BookCall B). is_next journal.last (next_number v)) is ∙ ap (λ (k : ℕ). is_next journal.last (k + 1)) (add-zero n) ∙ takes.next;
   }
 
   base_is : core.base ≡ base
-  base_is = ap (λ (v : CoreView StoreCall B). v.base) is
+  base_is = ap (λ (v : CoreView BookCall B). v.base) is
 
   -- what stays of the core's base stays of the one that it was opened over
   pub base_stays : (stays : B → B → Type 0) (new out : B) → out ≡ new → stays core.base new → stays base out

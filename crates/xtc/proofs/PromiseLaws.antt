@@ -5,7 +5,7 @@ use Rattle.outside_traits.specs.DiskPairs.{Pair, PairsHave, PairsLeave}
 use Rattle.outside_traits.specs.Disks.{DiskState}
 use Rattle.outside_traits.specs.Moments.{History}
 use Rattle.call_contract.specs.Books.{Book, IsBookFrom, IsSerial}
-use Rattle.command_lines.specs.declared.command.StoreCall.{StoreCall}
+use Rattle.session_driver.specs.Asking.{BookCall}
 use Rattle.command_words.specs.Commands.{Command, run, workers, put, get, query, gen}
 use Rattle.recovery.specs.Openings.{AreOpened, HasImages}
 use Rattle.session_driver.specs.Waiters.{AllStopped}
@@ -38,8 +38,8 @@ module _ (limit : ℕ) where
   sound None every status o left = tt
 
   -- what holds of every sound book
-  of_sound : (Q : Book StoreCall → Type 0) (c : Option Command) (every : ℕ) (status : Status) (o : Outcome) (left : OpenedStoreLeaves limit c every status o)
-      → ((book : Book StoreCall) → IsSoundBook left.tree left.number limit book → Q book)
+  of_sound : (Q : Book BookCall → Type 0) (c : Option Command) (every : ℕ) (status : Status) (o : Outcome) (left : OpenedStoreLeaves limit c every status o)
+      → ((book : Book BookCall) → IsSoundBook left.tree left.number limit book → Q book)
       → OfBook limit c every status o left (IsSoundBook left.tree left.number limit) → OfBook limit c every status o left Q
   of_sound Q (Some run) every status o left law is = law _ is
   of_sound Q (Some workers) every status o left law is = law _ is

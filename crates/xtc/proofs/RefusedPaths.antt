@@ -4,7 +4,7 @@ use Rattle.std.specs.Prelude.{Err}
 use Rattle.outside_traits.specs.Moments.{History}
 use Rattle.tree_model.specs.Names.{Name}
 use Rattle.call_contract.specs.States.{State}
-use Rattle.command_lines.specs.declared.command.StoreCall.{StoreCall}
+use Rattle.session_driver.specs.Asking.{BookCall}
 use Rattle.command_words.specs.Commands.{query}
 use Rattle.xpath_parser.specs.Parse.{parsed}
 use Rattle.xpath_parser.specs.declared.path_error.PathError.{PathError}
@@ -16,7 +16,7 @@ use Rattle.xtc.specs.declared.status.Status.TheVariants.{DocumentRefused, NoMemo
 use Rattle.xtc.specs.inside.Asking.{DocumentWent}
 use Rattle.xtc.proofs.DocumentLaws.{nothing_asked}
 
-pub path_went : (is_known : Bool) (s : State StoreCall) (name : Name) (path : List ℕ) (e : PathError) (journal : History) → (e ≢ error.NoMemory → parsed path ≡ Err e)
+pub path_went : (is_known : Bool) (s : State BookCall) (name : Name) (path : List ℕ) (e : PathError) (journal : History) → (e ≢ error.NoMemory → parsed path ≡ Err e)
     → DocumentWent is_known s (query name path) [] journal journal (status_of_path e)
 path_went is_known s name path error.NoMemory journal refused = nothing_asked is_known s (query name path) [] journal NoMemory tt (omega arith)
 path_went is_known s name path (error.Syntax place) journal refused =

@@ -15,7 +15,7 @@ use Rattle.checkpoint.specs.declared.made.Made.{Made}
 use Rattle.checkpoint.specs.declared.made.Made.TheVariants.{Yes, No}
 use Rattle.checkpoint.specs.declared.renew_fault.RenewFault.{RenewFault}
 use Rattle.call_contract.specs.States.{State}
-use Rattle.command_lines.specs.declared.command.StoreCall.{StoreCall}
+use Rattle.session_driver.specs.Asking.{BookCall}
 use Rattle.store_calls.specs.StoreCalls.{store_meaning}
 use Rattle.tx_core.specs.Cores.{CoreView, InState}
 use Rattle.xtc.specs.Checkpoints.{is_made}
@@ -29,9 +29,9 @@ file_left history base (Some disk) = refl
 
 -- ---- what a crash leaves
 
-module _ {P : Type 0} (is_known : Bool) (history : P → History) (core : CoreView StoreCall (Base P)) (s : State StoreCall) (stands : Stands is_known history core s) where
+module _ {P : Type 0} (is_known : Bool) (history : P → History) (core : CoreView BookCall (Base P)) (s : State BookCall) (stands : Stands is_known history core s) where
   -- what holds of the state that a book has led to holds of that in which the core stands
-  pub in_state : (Q : State StoreCall → Type 0) → InState store_meaning (contents_of is_known history) core Q → Q s
+  pub in_state : (Q : State BookCall → Type 0) → InState store_meaning (contents_of is_known history) core Q → Q s
   in_state Q holds = subst Q stands.state (holds stands.tree stands.opened)
 
   module _ (old new : Pair) (phases : InState store_meaning (contents_of is_known history) core (λ x. IsSettledWith (committed_in x) old → PairsLeave (OpenAs (committed_in x)) old new)) (files : StandFor s old) where

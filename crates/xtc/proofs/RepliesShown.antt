@@ -12,7 +12,7 @@ use Rattle.worker_run.specs.Workers.{own_exchanges, own_lines}
 use Rattle.workers_text.specs.Entries.{commands_in, in_places}
 use Rattle.workers_text.specs.declared.entry.Entry.{Entry}
 use Rattle.workers_text.specs.declared.entry.Entry.TheVariants.{Asked, Bad}
-use Rattle.session_driver.specs.Asking.{doing_of}
+use Rattle.session_driver.specs.Asking.{BookCall, doing_of}
 use Rattle.group_commit.specs.OwnLines.{own_doings, own_printed, printed}
 use Rattle.session_driver.specs.Sessions.{Does, DoesSome, Printed, doings_of}
 use Rattle.workers_text.specs.WorkersText.{HasReplies, asked_of, order_of, printed_of}
@@ -28,7 +28,7 @@ all_have_replies (Bad b ∷ es) rs all = (refl, all_have_replies es rs all)
 all_have_replies (Asked c ∷ es) [] all = absurd (omega arith)
 all_have_replies (Asked c ∷ es) (r ∷ rs) all = all_have_replies es rs (omega arith)
 
-abbrev as_it_is : StoreCall → StoreCall
+abbrev as_it_is : StoreCall → BookCall
 as_it_is call = call
 
 -- the lines of a session have the replies that its commands have
@@ -39,14 +39,14 @@ printed_in_places s (Bad b ∷ es) rs all = printed_in_places s es rs all
 printed_in_places s (Asked c ∷ es) [] all = absurd (omega arith)
 printed_in_places s (Asked c ∷ es) (r ∷ rs) all =
     let there = printed_in_places s es rs (omega arith) in
-    let x : Printed StoreCall = record { doing = doing_of as_it_is c.what; reply = r } in
+    let x : Printed BookCall = record { doing = doing_of as_it_is c.what; reply = r } in
     let lines = printed_of s (lines_in es) (in_places es rs) in
     let own = own_exchanges s (commands_in es) rs in
     elim (eqb c.session s) as (λ v. cond v (x ∷ lines) lines ≡ map (printed as_it_is) (cond v ((c, r) ∷ own) own)) [ true ↦ ap (λ ps. x ∷ ps) there | false ↦ there ]
 
 -- ---- a book
 
-module _ (m : CallMeaning StoreCall) (t : Tree) (number limit : ℕ) (book : Book StoreCall) (es : List Entry) where
+module _ (m : CallMeaning BookCall) (t : Tree) (number limit : ℕ) (book : Book BookCall) (es : List Entry) where
   -- the text of replies in their places, and of the order line behind them
   abbrev pub whole_text : List LineReply → List LineReply
   whole_text rs = in_places es rs ++ order_of book ∷ []
@@ -86,7 +86,7 @@ doings_in s (c ∷ cs) (r ∷ rs) all =
     elim (eqb c.session s) as (λ v. doings_of (map (printed as_it_is) (cond v ((c, r) ∷ given) given)) ≡ map (λ (k : Command). doing_of as_it_is k.what) (cond v (c ∷ own) own)) [ true ↦ ap (λ ds. d ∷ ds) there | false ↦ there ]
 
 -- where there are replies, all lines are done, and so are the first of them
-pub stops_in : {E : Type 0} (m : CallMeaning StoreCall) (first : Tree → State StoreCall) (stands : Tree → Type 0) (book : Book StoreCall) (es : List Entry) (replies : Result (List LineReply) E) → IfOk replies (λ rs. length rs ≡ length (commands_in es))
+pub stops_in : {E : Type 0} (m : CallMeaning BookCall) (first : Tree → State BookCall) (stands : Tree → Type 0) (book : Book BookCall) (es : List Entry) (replies : Result (List LineReply) E) → IfOk replies (λ rs. length rs ≡ length (commands_in es))
     → IfOk replies (λ rs. (t : Tree) → stands t → (s : ℕ) → Does m s (first t) book (own_printed (λ call. call) s (commands_in es) rs))
     → IfErr replies (λ _. (t : Tree) → stands t → (s : ℕ) → DoesSome m s (first t) book (own_doings (λ call. call) s (commands_in es)))
     → (t : Tree) → stands t → (s : ℕ) → DoesSome m s (first t) book (asked_of s (lines_in es))

@@ -12,7 +12,7 @@ use Rattle.checkpoint.specs.declared.base.Base.{Base}
 use Rattle.call_contract.specs.Books.{Book}
 use Rattle.call_contract.specs.Sessions.{commits_in}
 use Rattle.call_contract.specs.States.{State}
-use Rattle.command_lines.specs.declared.command.StoreCall.{StoreCall}
+use Rattle.session_driver.specs.Asking.{BookCall}
 use Rattle.store_calls.specs.StoreCalls.{store_meaning}
 use Rattle.tx_core.specs.Cores.{CoreView, over, state_from, with_committed}
 use Rattle.xtc.specs.Checkpoints.{HoldFirst, fits, is_positive, is_tried, last_made, made_or, tree_after}
@@ -27,7 +27,7 @@ on_all : {T E : Type 0} (r : Result T E) (A B C D : Type 0) → OnOk r A → OnO
 on_all (Ok x) A B C D a b c leads = leads a b c
 on_all (Err e) A B C D a b c leads = tt
 
-module _ (every : ℕ) (t : Tree) (n : ℕ) (book : Book StoreCall) (Q : ℕ → Type 0) (seen commits : ℕ) (last : commits ≤ seen + 1) (before : seen ≤ commits) where
+module _ (every : ℕ) (t : Tree) (n : ℕ) (book : Book BookCall) (Q : ℕ → Type 0) (seen commits : ℕ) (last : commits ≤ seen + 1) (before : seen ≤ commits) where
   abbrev MadeIn : ℕ → Type 0
   MadeIn k = IfSome (last_made (is_tried every) t n book k) Q
 
@@ -84,8 +84,8 @@ module _ {P : Type 0} (is_known : Bool) (history : P → History) (old : KeptSto
   -- or one was, and it was made or the tree doesn't fit
   module _ (base : Base P) (committed : Option Entries) (journal : JournalView) (again : MayRenew is_known history (with_committed (over old.core base) committed) journal)
       (due : IsTrue (is_due old.checkpoints (commits_in old.core.book)))
-      (made : IsTrue is_known → (s : State StoreCall) → Stands is_known history old.core s → IsMadeWhere true s (base_pages history old.core.base) (base_pages history base)) where
-    abbrev core : CoreView StoreCall (Base P)
+      (made : IsTrue is_known → (s : State BookCall) → Stands is_known history old.core s → IsMadeWhere true s (base_pages history old.core.base) (base_pages history base)) where
+    abbrev core : CoreView BookCall (Base P)
     core = with_committed (over old.core base) committed
 
     abbrev now : Checkpoints P
@@ -93,7 +93,7 @@ module _ {P : Type 0} (is_known : Bool) (history : P → History) (old : KeptSto
 
     hold_now : HoldMade is_known history core old.checkpoints.every (commits_in old.core.book)
     hold_now known some t stands =
-        let s : State StoreCall = state_from store_meaning t old.core in
+        let s : State BookCall = state_from store_meaning t old.core in
         let legal = answered.legal t stands in
         let commits : ℕ = commits_in old.core.book in
         let tree_is : tree_after t old.core.book commits ≡ s.tree = all_committed t old.core.number old.core.limit old.core.book legal in
@@ -130,7 +130,7 @@ module _ {P : Type 0} (is_known : Bool) (history : P → History) (old : KeptSto
       (left : LeftAsBefore due old.core new.core old.journal new.journal old.checkpoints.pages new.checkpoints.pages)
       (others : new.checkpoints ≡ record (looked old.checkpoints (commits_in old.core.book)) { pages = new.checkpoints.pages }) where
     rested_behind : new.checkpoints.pages ≡ None → MayRenew is_known history new.core new.journal
-        → (IsTrue is_known → (s : State StoreCall) → Stands is_known history old.core s → IsMadeWhere due s (base_pages history old.core.base) (base_pages history new.core.base)) → HasRested is_known history new
+        → (IsTrue is_known → (s : State BookCall) → Stands is_known history old.core s → IsMadeWhere due s (base_pages history old.core.base) (base_pages history new.core.base)) → HasRested is_known history new
     rested_behind inside again made = go due refl
       where
         commits : ℕ
@@ -144,14 +144,14 @@ module _ {P : Type 0} (is_known : Bool) (history : P → History) (old : KeptSto
 
         go : (b : Bool) → due ≡ b → HasRested is_known history new
         go true so =
-            subst (λ (x : CoreView StoreCall (Base P) × Checkpoints P). HasRested is_known history (kept x.0 new.journal x.1)) (λ i. (sym left.same_core i, sym checkpoints_are i))
-            (rested_made new.core.base new.core.committed new.journal (subst (λ (c : CoreView StoreCall (Base P)). MayRenew is_known history c new.journal) left.same_core again) (sym is ∙ so)
+            subst (λ (x : CoreView BookCall (Base P) × Checkpoints P). HasRested is_known history (kept x.0 new.journal x.1)) (λ i. (sym left.same_core i, sym checkpoints_are i))
+            (rested_made new.core.base new.core.committed new.journal (subst (λ (c : CoreView BookCall (Base P)). MayRenew is_known history c new.journal) left.same_core again) (sym is ∙ so)
             (λ known s stands. subst (λ (b : Bool). IsMadeWhere b s (base_pages history old.core.base) (base_pages history new.core.base)) so (made known s stands)))
         go false so =
             let same = left.none so in
-            subst (λ (x : CoreView StoreCall (Base P) × JournalView × Checkpoints P). HasRested is_known history (kept x.0 x.1 x.2))
+            subst (λ (x : CoreView BookCall (Base P) × JournalView × Checkpoints P). HasRested is_known history (kept x.0 x.1 x.2))
             (λ i. (sym same.0 i, sym same.1 i, sym (others ∙ (λ j. record (looked old.checkpoints commits) { pages = same.2 j })) i)) (rested_undue (sym is ∙ so))
 
     pub rested_by : OnOk result (new.checkpoints.pages ≡ None) → OnOk result (MayRenew is_known history new.core new.journal)
-        → OnOk result (IsTrue is_known → (s : State StoreCall) → Stands is_known history old.core s → IsMadeWhere due s (base_pages history old.core.base) (base_pages history new.core.base)) → OnOk result (HasRested is_known history new)
+        → OnOk result (IsTrue is_known → (s : State BookCall) → Stands is_known history old.core s → IsMadeWhere due s (base_pages history old.core.base) (base_pages history new.core.base)) → OnOk result (HasRested is_known history new)
     rested_by inside again made = on_all result _ _ _ _ inside again made rested_behind

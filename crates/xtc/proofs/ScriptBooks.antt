@@ -12,7 +12,7 @@ use Rattle.call_contract.specs.States.{State, start}
 use Rattle.call_contract.proofs.BookLaws.{sound as states_sound, serial_book}
 use Rattle.call_contract.proofs.SessionBooks.{number_told}
 use Rattle.command_lines.specs.Replies.{reply_text}
-use Rattle.command_lines.specs.declared.command.StoreCall.{StoreCall}
+use Rattle.session_driver.specs.Asking.{BookCall}
 use Rattle.store_calls.specs.StoreCalls.{store_meaning, IsValidStoreCall}
 use Rattle.store_calls.proofs.StoreCallLaws.{store_laws}
 use Rattle.session_driver.specs.Lines.{Asked, AreValid, after_line, after_lines}
@@ -33,12 +33,12 @@ use Rattle.xtc.proofs.SoundBooks.{sound_book}
 -- ---- what a store's machine does and answers
 
 -- the state that a line leaves, and its entries, don't depend on its number
-state_alone : (st : State StoreCall) (n k : ℕ) (line : Line) → (done_by st n line).state ≡ (done_by st k line).state
+state_alone : (st : State BookCall) (n k : ℕ) (line : Line) → (done_by st n line).state ≡ (done_by st k line).state
 state_alone st n k nothing = refl
 state_alone st n k (bad why) = refl
 state_alone st n k (asked a) = refl
 
-book_alone : (st : State StoreCall) (n k : ℕ) (line : Line) → (done_by st n line).book ≡ (done_by st k line).book
+book_alone : (st : State BookCall) (n k : ℕ) (line : Line) → (done_by st n line).book ≡ (done_by st k line).book
 book_alone st n k nothing = refl
 book_alone st n k (bad why) = refl
 book_alone st n k (asked a) = refl
@@ -53,8 +53,8 @@ module _ {P : Type 0} (journal_known pages_known makes : Bool) (history : P → 
   state_from : (b : Booked P) (n : ℕ) (lines : List (List ℕ)) → state_after machine b lines ≡ with_done b (done_from b.state n lines)
   state_from b n [] = λ i. record b { book = sym (append-nil b.book) i }
   state_from b n (line ∷ lines) =
-      let first : Progress StoreCall = done_by b.state (n + 1) (line_of line) in
-      let rest : Progress StoreCall = done_from first.state (n + 1) lines in
+      let first : Progress BookCall = done_by b.state (n + 1) (line_of line) in
+      let rest : Progress BookCall = done_from first.state (n + 1) lines in
       ap (λ (c : Booked P). state_after machine c lines) (next_alone b (n + 1) line)
       ∙ state_from (with_done b first) (n + 1) lines
       ∙ (λ i. record b { state = rest.state; book = append_assoc b.book first.book rest.book i })
@@ -66,7 +66,7 @@ module _ {P : Type 0} (journal_known pages_known makes : Bool) (history : P → 
   answers_are : (b : Booked P) (n : ℕ) (lines : List (List ℕ)) → answers machine b n lines ≡ replies_text (done_from b.state n lines).lines
   answers_are b n [] = refl
   answers_are b n (line ∷ lines) =
-      let first : Progress StoreCall = done_by b.state (n + 1) (line_of line) in
+      let first : Progress BookCall = done_by b.state (n + 1) (line_of line) in
       ap (λ (c : Booked P). replies_text first.lines ++ answers machine c (n + 1) lines) (next_alone b (n + 1) line)
       ∙ ap (λ (text : List ℕ). replies_text first.lines ++ text) (answers_are (with_done b first) (n + 1) lines)
       ∙ sym (flat_map-append reply_text first.lines (done_from first.state (n + 1) lines).lines)
@@ -76,31 +76,31 @@ module _ {P : Type 0} (journal_known pages_known makes : Bool) (history : P → 
 
 -- ---- the lines that ask a session something
 
-abbrev with_asked : Line → List (Asked StoreCall) → List (Asked StoreCall)
+abbrev with_asked : Line → List (Asked BookCall) → List (Asked BookCall)
 with_asked nothing asks = asks
 with_asked (bad why) asks = asks
 with_asked (asked a) asks = a ∷ asks
 
-abbrev all_asked : List (List ℕ) → List (Asked StoreCall)
+abbrev all_asked : List (List ℕ) → List (Asked BookCall)
 all_asked [] = []
 all_asked (line ∷ lines) = with_asked (line_of line) (all_asked lines)
 
-record IsSame (p q : Progress StoreCall) : Type 0 where
+record IsSame (p q : Progress BookCall) : Type 0 where
   book : p.book ≡ q.book
   state : p.state ≡ q.state
 
 -- the lines do what these do
-as_asked : (st : State StoreCall) (n : ℕ) (lines : List (List ℕ)) → IsSame (done_from st n lines) (after_lines store_meaning st (all_asked lines))
+as_asked : (st : State BookCall) (n : ℕ) (lines : List (List ℕ)) → IsSame (done_from st n lines) (after_lines store_meaning st (all_asked lines))
 as_asked st n [] = record { book = refl; state = refl }
 as_asked st n (line ∷ lines) = go (λ u. as_asked u (n + 1) lines) (line_of line)
   where
-    go : ((u : State StoreCall) → IsSame (done_from u (n + 1) lines) (after_lines store_meaning u (all_asked lines))) → (l : Line)
+    go : ((u : State BookCall) → IsSame (done_from u (n + 1) lines) (after_lines store_meaning u (all_asked lines))) → (l : Line)
         → IsSame (and_then (done_by st (n + 1) l) (done_from (done_by st (n + 1) l).state (n + 1) lines)) (after_lines store_meaning st (with_asked l (all_asked lines)))
     go rest nothing = record { book = (rest st).book; state = (rest st).state }
     go rest (bad why) = record { book = (rest st).book; state = (rest st).state }
     go rest (asked a) =
         let then = rest (after_line store_meaning st a).state in
-        record { book = ap (λ (b : Book StoreCall). (after_line store_meaning st a).book ++ b) then.book; state = then.state }
+        record { book = ap (λ (b : Book BookCall). (after_line store_meaning st a).book ++ b) then.book; state = then.state }
 
 abbrev pub AreValidLines : List (List ℕ) → Type 0
 AreValidLines lines = AllByRecursion (λ line. IsValidLine (line_of line)) lines
@@ -117,10 +117,10 @@ asked_valid (line ∷ lines) valid = go (line_of line) valid.0 (asked_valid line
 -- ---- a script of valid lines from a valid tree
 
 module _ (t : Tree) (n limit : ℕ) (formed : IsValidTree t) (lines : List (List ℕ)) (valid : AreValidLines lines) where
-  abbrev opened : State StoreCall
+  abbrev opened : State BookCall
   opened = start t n limit
 
-  abbrev script : Progress StoreCall
+  abbrev script : Progress BookCall
   script = script_of opened lines
 
   same : IsSame script (after_lines store_meaning opened (all_asked lines))
@@ -145,9 +145,9 @@ module _ (t : Tree) (n limit : ℕ) (formed : IsValidTree t) (lines : List (List
   -- files that hold what is committed in the state after the lines stand for the tree and the number after the commits of their book
   pub opens_after : (journal pages : List ℕ) → HoldState script.state journal pages → OpenAfter t n script.book journal pages
   opens_after journal pages holds =
-      let tree_is : (serial store_meaning (commits script.book) t).tree ≡ script.state.tree = serial_is.tree ∙ ap (λ (u : State StoreCall). u.tree) state_of_book in
+      let tree_is : (serial store_meaning (commits script.book) t).tree ≡ script.state.tree = serial_is.tree ∙ ap (λ (u : State BookCall). u.tree) state_of_book in
       let number_is : n + length (commits script.book) ≡ script.state.number
-      = ap (λ (k : ℕ). n + k) (commits_counted store_meaning opened script.book legal.legal.run) ∙ number_told store_meaning opened script.book legal.legal.run ∙ ap (λ (u : State StoreCall). u.number) state_of_book in
+      = ap (λ (k : ℕ). n + k) (commits_counted store_meaning opened script.book legal.legal.run) ∙ number_told store_meaning opened script.book legal.legal.run ∙ ap (λ (u : State BookCall). u.number) state_of_book in
       record {
         is_valid_tree = subst IsValidTree (sym serial_is.tree) (states_sound IsValidStoreCall store_meaning store_laws t n limit script.book legal).valid_tree;
         opens = holds ∙ (λ i. Ok (record { entries = map_of (sym tree_is i); number = sym number_is i }));

@@ -21,7 +21,7 @@ use Rattle.script_runs.specs.declared.running.End.{End}
 use Rattle.script_runs.specs.declared.running.End.TheVariants as end
 use Rattle.script_runs.proofs.FeedingLaws.{state_after_on}
 use Rattle.call_contract.specs.States.{State, start}
-use Rattle.command_lines.specs.declared.command.StoreCall.{StoreCall}
+use Rattle.session_driver.specs.Asking.{BookCall}
 use Rattle.session_driver.specs.Committed.{SameCommitted}
 use Rattle.session_driver.specs.Lines.{IsValidDoing, after_line}
 use Rattle.session_driver.specs.Progress.{Progress}
@@ -77,22 +77,22 @@ first_more done k lines rest within is =
 -- ---- a line that was begun
 
 -- what is committed is as before, or the line is a valid one
-kept_or_valid : (st : State StoreCall) (n : ℕ) (line : Line) → SameCommitted st (done_by st n line).state ⊎ IsValidLine line
+kept_or_valid : (st : State BookCall) (n : ℕ) (line : Line) → SameCommitted st (done_by st n line).state ⊎ IsValidLine line
 kept_or_valid st n nothing = inl (record { tree = refl; number = refl })
 kept_or_valid st n (bad why) = inl (record { tree = refl; number = refl })
 kept_or_valid st n (asked a) = go a.doing
   where
-    go : (d : Doing StoreCall) → SameCommitted st (after_line store_meaning st (record { session = a.session; doing = d })).state ⊎ IsValidDoing IsValidStoreCall d
+    go : (d : Doing BookCall) → SameCommitted st (after_line store_meaning st (record { session = a.session; doing = d })).state ⊎ IsValidDoing IsValidStoreCall d
     go Begin = inl (unless_commit store_meaning st a.session Begin (λ e. cc))
     go Abort = inl (unless_commit store_meaning st a.session Abort (λ e. cc))
     go (Call c) = inl (unless_commit store_meaning st a.session (Call c) (λ e. cc))
     go Commit = inr tt
 
-held_still : (st u : State StoreCall) (journal pages : List ℕ) → SameCommitted st u → HoldState u journal pages → HoldState st journal pages
+held_still : (st u : State BookCall) (journal pages : List ℕ) → SameCommitted st u → HoldState u journal pages → HoldState st journal pages
 held_still st u journal pages same holds = holds ∙ (λ i. Ok (record { entries = map_of (same.tree i); number = same.number i }))
 
 module _ {P : Type 0} (journal_known pages_known makes : Bool) (history : P → History) (faults : P → ℕ) (t : Tree) (n limit : ℕ) (formed : IsValidTree t) (base : Base P) (every : ℕ) where
-  abbrev s : State StoreCall
+  abbrev s : State BookCall
   s = start t n limit
 
   abbrev b : Booked P
@@ -107,7 +107,7 @@ module _ {P : Type 0} (journal_known pages_known makes : Bool) (history : P → 
   opens_some least most lines journal pages valid h =
       let first : take h.count (take most lines) ≡ take h.count lines = take-take h.count most lines h.bound in
       let held : HoldState (script_of s (take h.count (take most lines))).state journal pages
-      = subst (λ (u : State StoreCall). HoldState u journal pages) (ap (λ (c : Booked P). c.state) (state_is journal_known pages_known makes history faults b (take h.count lines)) ∙ ap (λ (ls : List (List ℕ)). (script_of s ls).state) (sym first)) h.holds in
+      = subst (λ (u : State BookCall). HoldState u journal pages) (ap (λ (c : Booked P). c.state) (state_is journal_known pages_known makes history faults b (take h.count lines)) ∙ ap (λ (ls : List (List ℕ)). (script_of s ls).state) (sym first)) h.holds in
       record {
         count = h.count;
         enough = h.enough;
@@ -166,7 +166,7 @@ module _ {P : Type 0} (journal_known pages_known makes : Bool) (history : P → 
         bound = omega arith;
         within = within;
         holds = held_still at_done.state (done_by at_done.state 0 (line_of line)).state journal pages
-            (subst (λ (u : State StoreCall). SameCommitted u (done_by u 0 (line_of line)).state) (sym here) same)
+            (subst (λ (u : State BookCall). SameCommitted u (done_by u 0 (line_of line)).state) (sym here) same)
             (subst (λ (c : Booked P). HoldState c.state journal pages) (one_more (above many h.bound)) h.holds);
       }
         where
@@ -203,10 +203,10 @@ module _ {P : Type 0} (journal_known pages_known makes : Bool) (history : P → 
           }
 
   -- the text of all lines that were done, as the machine gives it, is that of their replies
-  whole_text : (before now : Option (List ℕ)) (lines : List (List ℕ)) (script : Progress StoreCall) → script ≡ script_of s lines → Took before now (text_of machine b lines) → Took before now (replies_text script.lines)
-  whole_text before now lines script is took = subst (Took before now) (text_is journal_known pages_known makes history faults b lines ∙ ap (λ (p : Progress StoreCall). replies_text p.lines) (sym is)) took
+  whole_text : (before now : Option (List ℕ)) (lines : List (List ℕ)) (script : Progress BookCall) → script ≡ script_of s lines → Took before now (text_of machine b lines) → Took before now (replies_text script.lines)
+  whole_text before now lines script is took = subst (Took before now) (text_is journal_known pages_known makes history faults b lines ∙ ap (λ (p : Progress BookCall). replies_text p.lines) (sym is)) took
 
-  exact_is : (e : End) (read : List ℕ) (before now : Option (List ℕ)) (lines : List (List ℕ)) (done : ℕ) (script : Progress StoreCall) → (slack_at e ≡ 0 → script ≡ script_of s (take done lines))
+  exact_is : (e : End) (read : List ℕ) (before now : Option (List ℕ)) (lines : List (List ℕ)) (done : ℕ) (script : Progress BookCall) → (slack_at e ≡ 0 → script ≡ script_of s (take done lines))
       → IsExactRun machine line_limit b e read before now lines done → IsExact (status_of_end e) read lines done (Took before now (replies_text script.lines))
   exact_is end.Done read before now lines done script is x =
       let all : take done lines ≡ lines_of read = ap (λ k. take k lines) x.0 ∙ take-length lines ∙ x.1 in
@@ -228,7 +228,7 @@ module _ {P : Type 0} (journal_known pages_known makes : Bool) (history : P → 
       let here : Pair = pair_of k.journal.history (file_in history k) in
       let counts = counted (slack_at e) ran.done ran.lines (drop ran.done ran.lines) (slack_small e) ran.within ran.valid refl in
       let counting : List (List ℕ) = take (ran.done + counts.further) ran.lines in
-      let script : Progress StoreCall = script_of s counting in
+      let script : Progress BookCall = script_of s counting in
       let only : slack_at e ≡ 0 → script ≡ script_of s (take ran.done ran.lines)
       = λ none. ap (λ x. script_of s (take x ran.lines)) (let sum : ran.done + counts.further ≡ ran.done = omega (arith, none, counts.at_most) in sum) in
       let left : PairsHave (OpenAfterLines t n limit ran.done counting) new = subst (PairsHave (OpenAfterLines t n limit ran.done counting)) (sym same) (λ journal pages is_journal is_pages.

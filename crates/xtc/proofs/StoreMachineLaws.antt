@@ -12,7 +12,7 @@ use Rattle.outside_traits.proofs.PairLaws.{journal_phase}
 use Rattle.script_runs.specs.Counts.{Counts, DisksCountedWhere}
 use Rattle.script_runs.specs.Machine.{IsSettled, Machine, HoldsEither as EitherHolds}
 use Rattle.call_contract.specs.States.{State}
-use Rattle.command_lines.specs.declared.command.StoreCall.{StoreCall}
+use Rattle.session_driver.specs.Asking.{BookCall}
 use Rattle.checkpoint.specs.Bases.{contents_of}
 use Rattle.xtc.specs.StoreMachine.{Booked, KeptStore, Stands, file_in, if_known, store_machine}
 use Rattle.xtc.specs.inside.Renewing.{StandFor, files_of}
@@ -49,7 +49,7 @@ pub image_same : (h : History) → IsAllSynced h → (image : List ℕ) → IsIm
 image_same h synced image is = image-all_synced h.now.reads image (subst (λ (d : DiskState). IsImage d image) synced is)
 
 -- two such files stand for what is committed, and so do their images
-pub images_hold : (s : State StoreCall) (journal pages : History) → HoldsAll s pages.now.reads journal → IsAllSynced pages → (image beside : List ℕ) → IsImage journal.now image → IsImage pages.now beside → HoldState s image beside
+pub images_hold : (s : State BookCall) (journal pages : History) → HoldsAll s pages.now.reads journal → IsAllSynced pages → (image beside : List ℕ) → IsImage journal.now image → IsImage pages.now beside → HoldState s image beside
 images_hold s journal pages settled synced image beside of_journal of_pages =
     subst (HoldState s image) (sym (image_same pages synced beside of_pages)) (image_holds s pages.now.reads journal settled image of_journal)
 
@@ -71,7 +71,7 @@ module _ {P : Type 0} (journal_known pages_known makes : Bool) (history : P → 
     is_known = known;
     kept = record {
       pages = synced;
-      holds = λ u other. subst (λ (x : State StoreCall). HoldsAll x (file_in history k).now.reads k.journal.history)
+      holds = λ u other. subst (λ (x : State BookCall). HoldsAll x (file_in history k).now.reads k.journal.history)
           (stands_once IsValidStoreCall store_meaning store_laws (contents_of pages_known history) k.core b.state u stands other) settled;
     };
     holds = images_hold b.state k.journal.history (file_in history k) settled synced;

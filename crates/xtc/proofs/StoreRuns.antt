@@ -27,7 +27,7 @@ use Rattle.call_contract.specs.Books.{Book, commits}
 use Rattle.call_contract.specs.SerialRuns.{serial}
 use Rattle.call_contract.specs.Sessions.{commits_in}
 use Rattle.call_contract.specs.States.{start}
-use Rattle.command_lines.specs.declared.command.StoreCall.{StoreCall}
+use Rattle.session_driver.specs.Asking.{BookCall}
 use Rattle.command_words.specs.Commands.{run}
 use Rattle.session_driver.specs.Progress.{Progress}
 use Rattle.store_calls.specs.StoreCalls.{store_meaning}
@@ -51,7 +51,7 @@ use Rattle.xtc.proofs.StoreMachineLaws.{both_known, first_known, same_known, sec
 record Options : Type 0 where
   every : ℕ
   number : ℕ
-  book : Book StoreCall
+  book : Book BookCall
   count : ℕ
   pages : History
 
@@ -107,13 +107,13 @@ module _ {P : Type 0} (journal_known pages_known makes : Bool) (history : P → 
         let whole : take (sr.done + sr.further) lines ≡ lines = take_whole (sr.done + sr.further) lines (omega (arith, sr.exact.0)) in
         let script_is : sr.script ≡ script_of (start t n limit) lines = sr.is ∙ ap (script_of (start t n limit)) whole in
         let at_end : state_after machine begun lines ≡ with_done begun (script_of (start t n limit) lines) = state_is journal_known pages_known makes history faults begun lines in
-        let book_is : m.core.book ≡ sr.script.book = ended.booked.book ∙ ap (λ (b : Booked P). b.book) at_end ∙ ap (λ (p : Progress StoreCall). p.book) (sym script_is) in
+        let book_is : m.core.book ≡ sr.script.book = ended.booked.book ∙ ap (λ (b : Booked P). b.book) at_end ∙ ap (λ (p : Progress BookCall). p.book) (sym script_is) in
         let opening_is : m.core.opening ≡ Paged base = ended.booked.opening ∙ ap (λ (b : Booked P). b.opening) at_end in
         let number_is : m.core.number ≡ n = ended.booked.number ∙ ap (λ (b : Booked P). b.number) at_end in
         let every_is : m.checkpoints.every ≡ every = ended.booked.every ∙ ap (λ (b : Booked P). b.every) at_end in
         let stands : StandsFor (contents_of pages_known history m.core.opening) t = subst (λ (x : Base P). StandsFor (contents_of pages_known history x) t) (sym opening_is) is in
         let count : length (commits m.core.book) ≡ commits_in m.core.book = committed_counted t m.core.number m.core.limit m.core.book (before.legal t stands) in
-        let seen_is : m.checkpoints.seen ≡ length (commits sr.script.book) = ended.rested.all ∙ sym count ∙ ap (λ (b : Book StoreCall). length (commits b)) book_is in
+        let seen_is : m.checkpoints.seen ≡ length (commits sr.script.book) = ended.rested.all ∙ sym count ∙ ap (λ (b : Book BookCall). length (commits b)) book_is in
         let pages_is : base_pages history m.core.base ≡ o.new.pages = ap (λ (p : Option P). file_of history m.core.base p) (sym before.inside) ∙ ap (λ (p : Pair). p.pages) (sym left.files) in
         let held : IfSome (last_made (is_tried m.checkpoints.every) t m.core.number m.core.book m.checkpoints.seen) (λ k. HoldFirst t m.core.number m.core.book k (base_pages history m.core.base).now.reads)
         = before.made (second_known journal_known pages_known known) (subst (λ (x : ℕ). IsTrue (is_positive x)) (sym every_is) some) t stands in
@@ -122,9 +122,9 @@ module _ {P : Type 0} (journal_known pages_known makes : Bool) (history : P → 
         (λ i. record { every = every_is i; number = number_is i; book = book_is i; count = seen_is i; pages = pages_is i }) held in
         let all : take sr.reads.count (take (sr.done + sr.further) lines) ≡ lines = take_whole sr.reads.count (take (sr.done + sr.further) lines) (omega (arith, sr.reads.enough, sr.exact.0, ap length whole)) ∙ whole in
         let reads_book : (script_of (start t n limit) (take sr.reads.count (take (sr.done + sr.further) lines))).book ≡ sr.script.book
-        = ap (λ (ls : List (List ℕ)). (script_of (start t n limit) ls).book) all ∙ ap (λ (p : Progress StoreCall). p.book) (sym script_is) in
+        = ap (λ (ls : List (List ℕ)). (script_of (start t n limit) ls).book) all ∙ ap (λ (p : Progress BookCall). p.book) (sym script_is) in
         let opens : contents_of_files o.new.journal.now.reads o.new.pages.now.reads ≡ Ok (record { entries = map_of (serial store_meaning (commits sr.script.book) t).tree; number = n + length (commits sr.script.book) })
-        = sr.reads.opens.opens ∙ ap (λ (b : Book StoreCall). Ok (record { entries = map_of (serial store_meaning (commits b) t).tree; number = n + length (commits b) })) reads_book in
+        = sr.reads.opens.opens ∙ ap (λ (b : Book BookCall). Ok (record { entries = map_of (serial store_meaning (commits b) t).tree; number = n + length (commits b) })) reads_book in
         let groups = ended.groups (first_known journal_known pages_known known) before.may.usable.unfailed before.may.usable.unheld in
         let journal_is : m.journal.history ≡ o.new.journal = ap (λ (p : Pair). p.journal) (sym left.files) in
         are_made run every t n sr.script.book o.new.journal.now.reads o.new.pages.now.reads (groups_in m.journal.history)

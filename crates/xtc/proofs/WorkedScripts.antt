@@ -18,7 +18,7 @@ use Rattle.call_contract.specs.Books.{Book, IsBookFrom, last}
 use Rattle.call_contract.specs.Calls.{CallMeaning}
 use Rattle.call_contract.specs.States.{State, start}
 use Rattle.session_driver.specs.declared.doing.Doing.{Doing}
-use Rattle.command_lines.specs.declared.command.StoreCall.{StoreCall}
+use Rattle.session_driver.specs.Asking.{BookCall}
 use Rattle.command_lines.specs.declared.line_reply.LineReply.{LineReply}
 use Rattle.tx_core.specs.Cores.{CoreView, opened_over}
 use Rattle.store_calls.specs.StoreCalls.{IsValidStoreCall, store_meaning}
@@ -42,7 +42,7 @@ use Rattle.xtc.proofs.SoundBooks.{empty_legal}
 use Rattle.xtc.proofs.WorkersCommits.{FirstsStand, written_leaves}
 
 -- a core that was opened is new
-pub new_core : {B : Type 0} (contents : B → Option Entries) (base : B) (n : ℕ) (core : CoreView StoreCall B) → core ≡ opened_over base (contents base) n tx_limit → IsNew contents core
+pub new_core : {B : Type 0} (contents : B → Option Entries) (base : B) (n : ℕ) (core : CoreView BookCall B) → core ≡ opened_over base (contents base) n tx_limit → IsNew contents core
 new_core contents base n core is = subst (IsNew contents) (sym is) refl
 
 -- ---- lines that were done, or begun
@@ -74,13 +74,13 @@ done_in_part m s st whole ps does = record {
   ends = subst (λ (es : Book _). Ends m s (last m st es) does.rest) (sym (append-nil does.entries)) does.ends;
 }
 
-shown_in_part : (t : Tree) (n limit : ℕ) (book : Book StoreCall) (lines : List (Line StoreCall)) (text : List LineReply) → IsShownBy store_meaning t n limit book lines text → (s : ℕ) → DoesSome store_meaning s (start t n limit) book (asked_of s lines)
+shown_in_part : (t : Tree) (n limit : ℕ) (book : Book BookCall) (lines : List (Line BookCall)) (text : List LineReply) → IsShownBy store_meaning t n limit book lines text → (s : ℕ) → DoesSome store_meaning s (start t n limit) book (asked_of s lines)
 shown_in_part t n limit book lines text shown s =
     subst (DoesSome store_meaning s (start t n limit) book) (sym (asked_printed s lines shown.replies shown.each))
     (done_in_part store_meaning s (start t n limit) book (printed_of s lines shown.replies) (shown.does s))
 
 -- whether there is a text or not
-pub did_some : {T E : Type 0} (r : Result T E) (Opens : Tree → Type 0) (n limit : ℕ) (book : Book StoreCall) (lines : List (Line StoreCall)) (bytes : T → List LineReply → Type 0)
+pub did_some : {T E : Type 0} (r : Result T E) (Opens : Tree → Type 0) (n limit : ℕ) (book : Book BookCall) (lines : List (Line BookCall)) (bytes : T → List LineReply → Type 0)
     → IfOk r (λ x. (text : List LineReply) × bytes x text × ((t : Tree) → Opens t → IsShownBy store_meaning t n limit book lines text))
     → IfErr r (λ e. (t : Tree) → Opens t → (s : ℕ) → DoesSome store_meaning s (start t n limit) book (asked_of s lines))
     → (t : Tree) → Opens t → (s : ℕ) → DoesSome store_meaning s (start t n limit) book (asked_of s lines)
@@ -88,7 +88,7 @@ did_some (Ok x) Opens n limit book lines bytes shows stops t opens s = shown_in_
 did_some (Err e) Opens n limit book lines bytes shows stops t opens s = stops t opens s
 
 -- none was done
-pub none_worked : (t : Tree) (n every : ℕ) → IsValidTree t → (old new : Pair) → new ≡ old → (lines : List (Line StoreCall)) → WorkedSome t n every lines old new
+pub none_worked : (t : Tree) (n every : ℕ) → IsValidTree t → (old new : Pair) → new ≡ old → (lines : List (Line BookCall)) → WorkedSome t n every lines old new
 none_worked t n every formed old new same lines = record {
   book = [];
   legal = empty_legal t n tx_limit formed;
@@ -96,12 +96,12 @@ none_worked t n every formed old new same lines = record {
   leaves = subst (LeavesCommits t n every [] old) (sym same) (record { moments = none (OpenAfterCommits t n 0 []) old; still = λ undue. refl });
 }
   where
-    unbroken : (ds : List (Doing StoreCall)) (s : ℕ) → BreaksNext s ds []
+    unbroken : (ds : List (Doing BookCall)) (s : ℕ) → BreaksNext s ds []
     unbroken [] s = tt
     unbroken (d ∷ ds) s = tt
 
 -- why nothing is written of lines that were done; known pages aren't lost
-pub stopped_done : {T : Type 0} (t : Tree) (n every : ℕ) (lines : List (Line StoreCall)) (old new : Pair) (bytes : T → List ℕ) (lost : Bool) (status : Status) → IsWorkersStop lost status → (IsTrue lost → ⊥)
+pub stopped_done : {T : Type 0} (t : Tree) (n every : ℕ) (lines : List (Line BookCall)) (old new : Pair) (bytes : T → List ℕ) (lost : Bool) (status : Status) → IsWorkersStop lost status → (IsTrue lost → ⊥)
     → WorkedSome t n every lines old new → ScriptDone t n every lines old new bytes (Err status)
 stopped_done t n every lines old new bytes lost DiskFault is unlost did = did
 stopped_done t n every lines old new bytes lost NoMemory is unlost did = did
@@ -121,10 +121,10 @@ known_unlost some false known lost = absurd cc
 
 -- ---- what they did to a core
 
-module _ {P : Type 0} (is_known : Bool) (history : P → History) (faults : P → ℕ) (first core : CoreView StoreCall (Base P)) (is : IsNew (contents_of is_known history) first)
+module _ {P : Type 0} (is_known : Bool) (history : P → History) (faults : P → ℕ) (first core : CoreView BookCall (Base P)) (is : IsNew (contents_of is_known history) first)
     (from : IsFrom (IsUnchanged is_known history faults) first core) (journal : JournalView) (checkpoints : Checkpoints P) where
   opening_is : core.opening ≡ first.base
-  opening_is = from.opening ∙ ap (λ (v : CoreView StoreCall (Base P)). v.opening) is
+  opening_is = from.opening ∙ ap (λ (v : CoreView BookCall (Base P)). v.opening) is
 
   begun_still : IsBegun is_known history first.base first.number journal checkpoints → IsBegun is_known history core.base core.number journal checkpoints
   begun_still begun = record {
@@ -156,13 +156,13 @@ module _ {P : Type 0} (is_known : Bool) (history : P → History) (faults : P �
   pub files_still : IsTrue is_known → files_beside history journal core.base checkpoints ≡ begin
   files_still known = λ i. pair_of journal.history (file_still is_known history faults first.base core.base checkpoints.pages from.base known i)
 
-  module _ (known : IsTrue is_known) (t : Tree) (stands : StandsFor (contents_of is_known history first.base) t) (files : StandSettled begin t first.number) (lines : List (Line StoreCall))
+  module _ (known : IsTrue is_known) (t : Tree) (stands : StandsFor (contents_of is_known history first.base) t) (files : StandSettled begin t first.number) (lines : List (Line BookCall))
       (legal : (u : Tree) → StandsFor (contents_of is_known history first.opening) u → IsBookFrom IsValidStoreCall store_meaning u first.number first.limit core.book) where
     pub first_stands : StandsFor (contents_of is_known history first.opening) t
-    first_stands = subst (λ (b : Base P). StandsFor (contents_of is_known history b) t) (sym (ap (λ (v : CoreView StoreCall (Base P)). v.opening) is)) stands
+    first_stands = subst (λ (b : Base P). StandsFor (contents_of is_known history b) t) (sym (ap (λ (v : CoreView BookCall (Base P)). v.opening) is)) stands
 
     pub limit_is : first.limit ≡ tx_limit
-    limit_is = ap (λ (v : CoreView StoreCall (Base P)). v.limit) is
+    limit_is = ap (λ (v : CoreView BookCall (Base P)). v.limit) is
 
     abbrev now : Pair
     now = files_beside history journal core.base checkpoints

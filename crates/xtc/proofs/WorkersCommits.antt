@@ -32,7 +32,7 @@ use Rattle.call_contract.specs.Books.{Book, HasValidCalls, IsBookFrom, commits}
 use Rattle.call_contract.specs.SerialRuns.{Committed, serial}
 use Rattle.call_contract.specs.Sessions.{commits_in}
 use Rattle.call_contract.specs.States.{State}
-use Rattle.command_lines.specs.declared.command.StoreCall.{StoreCall}
+use Rattle.session_driver.specs.Asking.{BookCall}
 use Rattle.command_words.specs.Commands.{workers}
 use Rattle.durable_sessions.specs.WrittenBooks.{StandAfter, StandAfterSome}
 use Rattle.group_commit.specs.Written.{HoldsFirst}
@@ -59,8 +59,8 @@ use Rattle.xtc.proofs.StoreMachineLaws.{image_same, second_known}
 
 -- ---- files
 
-module _ (t : Tree) (n : ℕ) (book : Book StoreCall) (pages : List ℕ) where
-  abbrev done : List (Committed StoreCall)
+module _ (t : Tree) (n : ℕ) (book : Book BookCall) (pages : List ℕ) where
+  abbrev done : List (Committed BookCall)
   done = commits book
 
   -- they stand for the opening
@@ -87,14 +87,14 @@ module _ (t : Tree) (n : ℕ) (book : Book StoreCall) (pages : List ℕ) where
     count = length done;
     enough = few;
     within = omega arith;
-    opens = subst (λ (ds : List (Committed StoreCall)). StandForTree journal pages (serial store_meaning ds t).tree (n + length done)) (sym (take_all (length done) done (omega arith))) stands;
+    opens = subst (λ (ds : List (Committed BookCall)). StandForTree journal pages (serial store_meaning ds t).tree (n + length done)) (sym (take_all (length done) done (omega arith))) stands;
   }
 
   -- which are the first ones where these are as many
   pub all_of_some : (least : ℕ) → length done ≤ least → (journal : List ℕ) → StandAfterSome store_meaning t n done least journal pages → StandAfter store_meaning t n done journal pages
   all_of_some least many journal some =
       let enough = some.enough in
-      subst (λ (ds : List (Committed StoreCall)). StandAfter store_meaning t n ds journal pages) (take_all some.count done (omega (arith, many, enough))) some.stands
+      subst (λ (ds : List (Committed BookCall)). StandAfter store_meaning t n ds journal pages) (take_all some.count done (omega (arith, many, enough))) some.stands
 
 -- the images of two synced files have what these have
 pub images_have : (Q : List ℕ → List ℕ → Type 0) (files : Pair) → IsAllSynced files.journal → IsAllSynced files.pages → Q files.journal.now.reads files.pages.now.reads → PairsHave Q files
@@ -113,12 +113,12 @@ leaves_since P old new since holds = record { more = since.more; states = since.
 
 -- some first of a book's commits, written behind a journal's groups, stand for the tree after these
 abbrev pub FirstsStand : Type 0
-FirstsStand = (t : Tree) (n least : ℕ) (book : Book StoreCall) (ps : List Pending) (later : List (List ℕ)) (groups : Groups) (before journal pages : List ℕ)
+FirstsStand = (t : Tree) (n least : ℕ) (book : Book BookCall) (ps : List Pending) (later : List (List ℕ)) (groups : Groups) (before journal pages : List ℕ)
     → HasValidCalls IsValidStoreCall book → bodies_of store_meaning t book ≡ map (λ (p : Pending). p.body) ps ++ later → FollowOn n ps
     → read before ≡ Ok groups → groups.images ≡ None → StandForTree before pages t n → HasFirst groups (pairs_of ps) least journal
     → StandAfterSome store_meaning t n (commits book) least journal pages
 
-module _ {B : Type 0} (told : B → Option Entries) (law : FirstsStand) (journal_known : Bool) (kj : IsTrue journal_known) (core : CoreView StoreCall B) (t : Tree) (opened : StandsFor (told core.opening) t)
+module _ {B : Type 0} (told : B → Option Entries) (law : FirstsStand) (journal_known : Bool) (kj : IsTrue journal_known) (core : CoreView BookCall B) (t : Tree) (opened : StandsFor (told core.opening) t)
     (legal : IsBookFrom IsValidStoreCall store_meaning t core.number core.limit core.book) (first journal : JournalView) (reads : (read first.history.now.reads ≡ Ok (groups_in first.history)) × ((groups_in first.history).images ≡ None))
     (pages : History) (synced : IsAllSynced pages) (stand : StandForTree first.history.now.reads pages.now.reads t core.number) (least : ℕ) (wrote : WroteFirst store_meaning told journal_known first least core journal) where
   after_some : (k : ℕ) (image : List ℕ) → HoldsFirst first wrote.written.commits k image → StandAfterSome store_meaning t core.number (commits core.book) k image pages.now.reads
@@ -142,7 +142,7 @@ module _ {B : Type 0} (told : B → Option Entries) (law : FirstsStand) (journal
 
 -- ---- the last checkpoint of a command that tries one behind its last commit
 
-module _ (every : ℕ) (t : Tree) (n : ℕ) (book : Book StoreCall) (all : ℕ) where
+module _ (every : ℕ) (t : Tree) (n : ℕ) (book : Book BookCall) (all : ℕ) where
   abbrev tried : ℕ → Bool
   tried = tried_in (Some workers) every all
 
@@ -175,12 +175,12 @@ module _ (every : ℕ) (t : Tree) (n : ℕ) (book : Book StoreCall) (all : ℕ) 
 
 -- ---- the commits, and the checkpoint behind them
 
-module _ {P : Type 0} (is_known : Bool) (history : P → History) (core : CoreView StoreCall (Base P)) (t : Tree) (opened : StandsFor (contents_of is_known history core.opening) t)
+module _ {P : Type 0} (is_known : Bool) (history : P → History) (core : CoreView BookCall (Base P)) (t : Tree) (opened : StandsFor (contents_of is_known history core.opening) t)
     (legal : IsBookFrom IsValidStoreCall store_meaning t core.number core.limit core.book) (old : Pair) (files : StandSettled old t core.number) where
-  abbrev at_end : State StoreCall
+  abbrev at_end : State BookCall
   at_end = state_from store_meaning t core
 
-  abbrev all : List (Committed StoreCall)
+  abbrev all : List (Committed BookCall)
   all = commits core.book
 
   abbrev Q : ℕ → List ℕ → List ℕ → Type 0
@@ -238,7 +238,7 @@ module _ {P : Type 0} (is_known : Bool) (history : P → History) (core : CoreVi
 abbrev pub made_ok : Result (Unit {0}) OpenError
 made_ok = Ok tt
 
-module _ {P : Type 0} (journal_known is_known : Bool) (history : P → History) (first : JournalView) (core : CoreView StoreCall (Base P)) (journal : JournalView) (checkpoints : Checkpoints P) (may : MayEnd journal_known is_known history first core journal checkpoints) where
+module _ {P : Type 0} (journal_known is_known : Bool) (history : P → History) (first : JournalView) (core : CoreView BookCall (Base P)) (journal : JournalView) (checkpoints : Checkpoints P) (may : MayEnd journal_known is_known history first core journal checkpoints) where
   -- one may be made
   pub may_renew : MayRenew is_known history core journal
   may_renew = record { opened = may.opened; paged = may.begun.paged; synced = may.begun.synced; usable = may.wrote.takes; next = may.wrote.next }
@@ -247,7 +247,7 @@ module _ {P : Type 0} (journal_known is_known : Bool) (history : P → History) 
   pub stands_now : (t : Tree) → StandsFor (contents_of is_known history core.opening) t → Stands is_known history core (state_from store_meaning t core)
   stands_now t stands = record { tree = t; opened = stands; state = refl }
 
-  pub stands_somewhere : IsTrue is_known → (s : State StoreCall) × Stands is_known history core s
+  pub stands_somewhere : IsTrue is_known → (s : State BookCall) × Stands is_known history core s
   stands_somewhere known = let has : HasTree (contents_of is_known history core.opening) = may.tree known in (state_from store_meaning has.tree core, stands_now has.tree has.stands)
 
   abbrev begin : Pair
@@ -258,7 +258,7 @@ module _ {P : Type 0} (journal_known is_known : Bool) (history : P → History) 
 
   module _ (law : FirstsStand) (kj : IsTrue journal_known) (reads : ReadsGroups journal_known first) (t : Tree) (opened : StandsFor (contents_of is_known history core.opening) t)
       (legal : IsBookFrom IsValidStoreCall store_meaning t core.number core.limit core.book) (files : StandSettled begin t core.number) (synced : IsAllSynced journal.history) where
-    abbrev s : State StoreCall
+    abbrev s : State BookCall
     s = state_from store_meaning t core
 
     leaves : PairsLeave (OpenAfterCommits t core.number 0 core.book) begin mid
@@ -270,8 +270,8 @@ module _ {P : Type 0} (journal_known is_known : Bool) (history : P → History) 
         written_all (contents_of is_known history) law journal_known kj core t opened legal first journal (reads kj may.begun.takes.usable.unfailed may.begun.takes.usable.unheld) begin.pages files.pages files.stand (commits_in core.book) may.wrote.wrote
         (omega (arith, counted))
 
-    module _ (next : CoreView StoreCall (Base P)) (last : JournalView) (later : Checkpoints P) (result : Result (Unit {0}) OpenError)
-        (renewed : (s : State StoreCall) → Stands is_known history core s → StandFor s (files_of history (kept core journal checkpoints))
+    module _ (next : CoreView BookCall (Base P)) (last : JournalView) (later : Checkpoints P) (result : Result (Unit {0}) OpenError)
+        (renewed : (s : State BookCall) → Stands is_known history core s → StandFor s (files_of history (kept core journal checkpoints))
         → LeftStanding s (files_of history (kept core journal checkpoints)) (files_of history (kept next last later)) result)
         (left : LeftAsBefore (is_due_at_end checkpoints (commits_in core.book)) core next journal last checkpoints.pages later.pages) where
       abbrev end : Pair
@@ -289,11 +289,11 @@ module _ {P : Type 0} (journal_known is_known : Bool) (history : P → History) 
       commits_left = record { moments = renewed_leaves is_known history core t opened legal begin files mid leaves synced files.pages after end result left_end; still = still_end }
 
     -- without an error
-    module _ (next : CoreView StoreCall (Base P)) (last : JournalView) (later : Checkpoints P)
-        (renewed : (s : State StoreCall) → Stands is_known history core s → StandFor s (files_of history (kept core journal checkpoints))
+    module _ (next : CoreView BookCall (Base P)) (last : JournalView) (later : Checkpoints P)
+        (renewed : (s : State BookCall) → Stands is_known history core s → StandFor s (files_of history (kept core journal checkpoints))
         → LeftStanding s (files_of history (kept core journal checkpoints)) (files_of history (kept next last later)) made_ok)
         (left : LeftAsBefore (is_due_at_end checkpoints (commits_in core.book)) core next journal last checkpoints.pages later.pages)
-        (made : (s : State StoreCall) → Stands is_known history core s → IsMadeWhere (is_due_at_end checkpoints (commits_in core.book)) s (base_pages history core.base) (base_pages history next.base))
+        (made : (s : State BookCall) → Stands is_known history core s → IsMadeWhere (is_due_at_end checkpoints (commits_in core.book)) s (base_pages history core.base) (base_pages history next.base))
         (inside : later.pages ≡ None) (reads_last : read last.history.now.reads ≡ Ok (groups_in last.history)) (none : (groups_in last.history).images ≡ None) where
       stand_end : StandFor s (files_beside history last next.base later)
       stand_end = (left_end next last later made_ok renewed left).at_end

@@ -9,7 +9,7 @@ use Rattle.tree_model.specs.Tree.{Tree}
 use Rattle.tree_model.specs.ValidTrees.{IsValidTree}
 use Rattle.script_runs.specs.Whole.{piece}
 use Rattle.call_contract.specs.Books.{Book, IsBookFrom}
-use Rattle.command_lines.specs.declared.command.StoreCall.{StoreCall}
+use Rattle.session_driver.specs.Asking.{BookCall}
 use Rattle.command_words.specs.Commands.{workers}
 use Rattle.store_calls.specs.StoreCalls.{IsValidStoreCall, store_meaning}
 use Rattle.workers_text.specs.Shown.{lines_in}
@@ -41,11 +41,11 @@ module _ (t : Tree) (n every : ℕ) (formed : IsValidTree t) (old : Pair) (files
   Ran status = RanWith t n tx_limit workers every status old o
 
   -- a crash at the start leaves none of a book's commits
-  opening_has : (book : Book StoreCall) → PairsHave (OpenAfterCommits t n 0 book) old
+  opening_has : (book : Book BookCall) → PairsHave (OpenAfterCommits t n 0 book) old
   opening_has book = images_have (OpenAfterCommits t n 0 book) old files.journal files.pages (opens_none t n book old.pages.now.reads old.journal.now.reads files.stand)
 
   -- lines were done, and the commits are found so
-  with_book : (status : Status) (book : Book StoreCall) → IsBookFrom IsValidStoreCall store_meaning t n tx_limit book → LeavesCommits t n every book old o.new → PairsHave (OpenAfterCommits t n (durable_at status book) book) o.new
+  with_book : (status : Status) (book : Book BookCall) → IsBookFrom IsValidStoreCall store_meaning t n tx_limit book → LeavesCommits t n every book old o.new → PairsHave (OpenAfterCommits t n (durable_at status book) book) o.new
       → IsWorkersOutput t n tx_limit status book o.read o.before o.now → IsWorkersEnd status o.read → NeedsWholeScript status book Whole → IsOfOpened false status
       → (status ≡ Done → IsTrue (is_positive every) → AreMade (Some workers) every t n book o.new.journal.now.reads o.new.pages.now.reads) → Ran status
   with_book status book legal leaves left output end whole undamaged made = record {
@@ -76,7 +76,7 @@ module _ (t : Tree) (n every : ℕ) (formed : IsValidTree t) (old : Pair) (files
 
   -- ---- by the answer
 
-  abbrev lines : List (Line StoreCall)
+  abbrev lines : List (Line BookCall)
   lines = lines_in (entries_of o.read)
 
   all_worked : (status : Status) (text : List ℕ) → WorkedAll t n every lines old o.new text → too_long o.read ≡ None → Whole → IsWriteEnd status → WroteWhole status o.before o.now text → Ran status
@@ -170,11 +170,11 @@ stops_fault lost (Ok x) is = tt
 stops_fault lost (Err e) is = stop_fault lost e is
 
 -- with the input that was read
-pub input_worked : {T : Type 0} (t : Tree) (n every : ℕ) (read : List ℕ) (asked : List (Line StoreCall)) (whole : Type 0) (old new : Pair) (bytes : T → List ℕ) (r : Result T Status) → asked ≡ lines_in (entries_of read) → too_long read ≡ None
+pub input_worked : {T : Type 0} (t : Tree) (n every : ℕ) (read : List ℕ) (asked : List (Line BookCall)) (whole : Type 0) (old new : Pair) (bytes : T → List ℕ) (r : Result T Status) → asked ≡ lines_in (entries_of read) → too_long read ≡ None
     → whole → ScriptDone t n every asked old new bytes r → InputWorked t n every read whole old new bytes r
-input_worked t n every read asked whole old new bytes (Ok text) same fits end did = (fits, subst (λ (ls : List (Line StoreCall)). WorkedAll t n every ls old new (bytes text)) same did)
-input_worked t n every read asked whole old new bytes (Err DiskFault) same fits end did = (fits, subst (λ (ls : List (Line StoreCall)). WorkedSome t n every ls old new) same did)
-input_worked t n every read asked whole old new bytes (Err NoMemory) same fits end did = inr (end, subst (λ (ls : List (Line StoreCall)). WorkedSome t n every ls old new) same did)
+input_worked t n every read asked whole old new bytes (Ok text) same fits end did = (fits, subst (λ (ls : List (Line BookCall)). WorkedAll t n every ls old new (bytes text)) same did)
+input_worked t n every read asked whole old new bytes (Err DiskFault) same fits end did = (fits, subst (λ (ls : List (Line BookCall)). WorkedSome t n every ls old new) same did)
+input_worked t n every read asked whole old new bytes (Err NoMemory) same fits end did = inr (end, subst (λ (ls : List (Line BookCall)). WorkedSome t n every ls old new) same did)
 input_worked t n every read asked whole old new bytes (Err Done) same fits end did = did
 input_worked t n every read asked whole old new bytes (Err Usage) same fits end did = did
 input_worked t n every read asked whole old new bytes (Err (LineTooLong line)) same fits end did = absurd did

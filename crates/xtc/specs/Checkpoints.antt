@@ -13,7 +13,7 @@ use Rattle.checkpoint.specs.declared.made.Made.{Made}
 use Rattle.checkpoint.specs.declared.made.Made.TheVariants.{Yes, No}
 use Rattle.call_contract.specs.Books.{Book, commits}
 use Rattle.call_contract.specs.SerialRuns.{serial}
-use Rattle.command_lines.specs.declared.command.StoreCall.{StoreCall}
+use Rattle.session_driver.specs.Asking.{BookCall}
 use Rattle.command_words.specs.Commands.{Command, checkpoint_of, command_of, run, workers, gen}
 use Rattle.store_calls.specs.StoreCalls.{store_meaning}
 
@@ -54,7 +54,7 @@ abbrev pub fits : Tree → ℕ → Bool
 fits t number = is_made (made_of (cut_of number (data_of (map_of t))))
 
 -- the tree after the first k commits of a book
-abbrev pub tree_after : Tree → Book StoreCall → ℕ → Tree
+abbrev pub tree_after : Tree → Book BookCall → ℕ → Tree
 tree_after t book k = (serial store_meaning (take k (commits book)) t).tree
 
 -- behind this commit, where one was made there, or behind one before
@@ -63,22 +63,22 @@ made_or true k before = Some k
 made_or false k before = before
 
 -- behind which of the first k commits, counted from 1, the last checkpoint was made, if one was
-abbrev pub last_made : (ℕ → Bool) → Tree → ℕ → Book StoreCall → ℕ → Option ℕ
+abbrev pub last_made : (ℕ → Bool) → Tree → ℕ → Book BookCall → ℕ → Option ℕ
 last_made tried t n book zero = None
 last_made tried t n book (suc k) = made_or (tried (suc k) && fits (tree_after t book (suc k)) (n + suc k)) (suc k) (last_made tried t n book k)
 
 -- of a command that tries them so
-abbrev pub last_of_command : Option Command → ℕ → Tree → ℕ → Book StoreCall → Option ℕ
+abbrev pub last_of_command : Option Command → ℕ → Tree → ℕ → Book BookCall → Option ℕ
 last_of_command command every t n book = last_made (tried_in command every (length (commits book))) t n book (length (commits book))
 
 -- ---- what it leaves
 
 -- the pages alone hold the tree after the first m commits, with the number of the last of these
-abbrev pub HoldFirst : Tree → ℕ → Book StoreCall → ℕ → List ℕ → Type 0
+abbrev pub HoldFirst : Tree → ℕ → Book BookCall → ℕ → List ℕ → Type 0
 HoldFirst t n book m pages = contents_of_file pages ≡ Ok (map_of (tree_after t book m), n + m)
 
 -- the pages hold the tree after the first m commits, and the journal those behind them
-pub record MadeBehind (t : Tree) (n : ℕ) (book : Book StoreCall) (journal pages : List ℕ) (m : ℕ) : Type 0 where
+pub record MadeBehind (t : Tree) (n : ℕ) (book : Book BookCall) (journal pages : List ℕ) (m : ℕ) : Type 0 where
   pub hold : HoldFirst t n book m pages
   pub groups : List Group
   pub reads : read journal ≡ Ok (only_commits groups)
@@ -86,7 +86,7 @@ pub record MadeBehind (t : Tree) (n : ℕ) (book : Book StoreCall) (journal page
   pub last : last_of groups (n + m) ≡ n + length (commits book)
 
 -- where a command made checkpoints behind the commits of a book, such files are left
-abbrev pub AreMade : Option Command → ℕ → Tree → ℕ → Book StoreCall → List ℕ → List ℕ → Type 0
+abbrev pub AreMade : Option Command → ℕ → Tree → ℕ → Book BookCall → List ℕ → List ℕ → Type 0
 AreMade command every t n book journal pages = IfSome (last_of_command command every t n book) (MadeBehind t n book journal pages)
 
 -- ---- damage that comes of it

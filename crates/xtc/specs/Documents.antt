@@ -19,6 +19,7 @@ use Rattle.jsonml_io.specs.declared.fragment_error.FragmentError.TheVariants.{No
 use Rattle.call_contract.specs.States.{State}
 use Rattle.command_lines.specs.ReplyValues.{array_of, hit_value, label_value, or_null}
 use Rattle.command_lines.specs.declared.command.StoreCall.{StoreCall}
+use Rattle.session_driver.specs.Asking.{BookCall}
 use Rattle.command_lines.specs.declared.command.StoreCall.TheVariants.{Dom, Find}
 use Rattle.command_lines.specs.declared.line_reply.LineAnswer.TheVariants as answer
 use Rattle.command_lines.specs.declared.line_reply.LineReply.{LineReply}
@@ -91,18 +92,18 @@ hits_in (line ∷ lines) = option_or (hits_of line) (hits_in lines)
 
 -- ---- what session 1 is asked in turn
 
-abbrev pub asks : Doing StoreCall → Asked StoreCall
+abbrev pub asks : Doing BookCall → Asked BookCall
 asks doing = record { session = 1; doing = doing }
 
-abbrev pub calls : DomCall → Asked StoreCall
+abbrev pub calls : DomCall → Asked BookCall
 calls call = asks (Call (Dom call))
 
 -- to create a document of this element, and to commit
-abbrev pub put_asks : Name → Fragment → List (Asked StoreCall)
+abbrev pub put_asks : Name → Fragment → List (Asked BookCall)
 put_asks name element = asks Begin ∷ calls (Create name (Some element)) ∷ asks Commit ∷ []
 
 -- to find the document with this name
-abbrev pub find_asks : Name → List (Asked StoreCall)
+abbrev pub find_asks : Name → List (Asked BookCall)
 find_asks name = asks Begin ∷ calls (Doc name) ∷ []
 
 -- the call that asks it of the document at a label
@@ -111,27 +112,27 @@ call_of Whole at = Dom (Dump at)
 call_of (FoundBy path) at = Find at path
 
 -- to ask it of the document at a label, where there is one, and to abort
-abbrev pub question_asks : Question → Option Label → List (Asked StoreCall)
+abbrev pub question_asks : Question → Option Label → List (Asked BookCall)
 question_asks q None = []
 question_asks q (Some at) = asks (Call (call_of q at)) ∷ asks Abort ∷ []
 
 -- to ask it of the document with this name: the label is the one that was found
-abbrev pub show_asks : State StoreCall → Name → Question → List (Asked StoreCall)
+abbrev pub show_asks : State BookCall → Name → Question → List (Asked BookCall)
 show_asks st name q = find_asks name ++ question_asks q (label_in (after_asked st (find_asks name)).lines)
 
-abbrev pub get_asks : State StoreCall → Name → List (Asked StoreCall)
+abbrev pub get_asks : State BookCall → Name → List (Asked BookCall)
 get_asks st name = show_asks st name Whole
 
 -- of its document what the path finds
-abbrev pub query_asks : State StoreCall → Name → XPath → List (Asked StoreCall)
+abbrev pub query_asks : State BookCall → Name → XPath → List (Asked BookCall)
 query_asks st name path = show_asks st name (FoundBy path)
 
 -- the path of these bytes is asked for, or refused
-abbrev pub query_asks_of : State StoreCall → Name → Result XPath PathError → Result (List (Asked StoreCall)) Status
+abbrev pub query_asks_of : State BookCall → Name → Result XPath PathError → Result (List (Asked BookCall)) Status
 query_asks_of st name (Ok path) = Ok (query_asks st name path)
 query_asks_of st name (Err why) = Err (DocumentRefused (reason.Path why))
 
-abbrev pub put_asks_of : Name → Result Fragment FragmentError → Result (List (Asked StoreCall)) Status
+abbrev pub put_asks_of : Name → Result Fragment FragmentError → Result (List (Asked BookCall)) Status
 put_asks_of name (Ok element) = Ok (put_asks name element)
 put_asks_of name (Err why) = Err (NotAnElement why)
 
@@ -140,12 +141,12 @@ abbrev pub has_documents : Tree → Bool
 has_documents t = not (length (map_of t) == 0)
 
 -- the generator's script, where the store has no document
-abbrev pub gen_asks_of : Bool → ℕ → ℕ → Result (List (Asked StoreCall)) Status
+abbrev pub gen_asks_of : Bool → ℕ → ℕ → Result (List (Asked BookCall)) Status
 gen_asks_of true seed count = Err (DocumentRefused (reason.Call DocumentExists))
 gen_asks_of false seed count = Ok (generated (script seed count))
 
 -- what a command asks from a state on, with this input; or how it ends where the input is no element, its path none, or a document in its way
-abbrev pub asks_of : Command → State StoreCall → List ℕ → Result (List (Asked StoreCall)) Status
+abbrev pub asks_of : Command → State BookCall → List ℕ → Result (List (Asked BookCall)) Status
 asks_of run st input = Ok []
 asks_of workers st input = Ok []
 asks_of (put name) st input = put_asks_of name (element_in input)
@@ -160,7 +161,7 @@ end_by None = Done
 end_by (Some why) = DocumentRefused why
 
 -- how a command ends that asks this from a state on, where nothing fails
-abbrev pub end_of : Command → State StoreCall → Result (List (Asked StoreCall)) Status → Status
+abbrev pub end_of : Command → State BookCall → Result (List (Asked BookCall)) Status → Status
 end_of c st (Err status) = status
 end_of c st (Ok asked) = end_by (first_reason (stops_at c) (after_asked st asked).lines)
 
@@ -184,7 +185,7 @@ answer_line Whole lines = tree_line (tree_in lines)
 answer_line (FoundBy path) lines = hits_line (hits_in lines)
 
 -- by what is answered to what is asked from a state on
-abbrev pub text_of : Command → State StoreCall → List (Asked StoreCall) → List ℕ
+abbrev pub text_of : Command → State BookCall → List (Asked BookCall) → List ℕ
 text_of run st asked = []
 text_of workers st asked = []
 text_of (put name) st asked = label_line (label_in (after_asked st asked).lines)

@@ -7,7 +7,7 @@ use Rattle.script_runs.specs.Lines.{ended}
 use Rattle.script_runs.specs.Runs.{TookAtLeast}
 use Rattle.call_contract.specs.Books.{Book}
 use Rattle.call_contract.specs.States.{State, start}
-use Rattle.command_lines.specs.declared.command.StoreCall.{StoreCall}
+use Rattle.session_driver.specs.Asking.{BookCall}
 use Rattle.session_driver.specs.Progress.{Progress}
 use Rattle.tree_model.specs.Tree.{Tree}
 use Rattle.xtc.specs.Book.{after_asked, script_of, replies_text}
@@ -20,7 +20,7 @@ use Rattle.xtc.specs.declared.status.Status.{Status}
 -- ---- of one run
 
 -- so it is of the book: of a script's lines, of what was asked in turn, or of what workers did
-abbrev pub OfBook : (limit : ℕ) (c : Option Command) (every : ℕ) (status : Status) (o : Outcome) → OpenedStoreLeaves limit c every status o → (Book StoreCall → Type 0) → Type 0
+abbrev pub OfBook : (limit : ℕ) (c : Option Command) (every : ℕ) (status : Status) (o : Outcome) → OpenedStoreLeaves limit c every status o → (Book BookCall → Type 0) → Type 0
 OfBook limit (Some run) every status o left P = P left.ran.script.book
 OfBook limit (Some workers) every status o left P = P left.ran.book
 OfBook limit (Some (put name)) every status o left P = P (after_asked (start left.tree left.number limit) left.ran.asked).book
@@ -50,13 +50,13 @@ OfPrefix limit None every status o left P = Unit {0}
 
 -- What the sink took of a script's replies: a prefix of the text of those to the lines that were done; the status says which lines these are, and where all is written;
 -- and before the last read that came back it had taken those of the lines that had ended.
-pub record WroteReplies (t : Tree) (n limit : ℕ) (status : Status) (o : Outcome) (lines : List (List ℕ)) (done : ℕ) (script : Progress StoreCall) : Type 0 where
+pub record WroteReplies (t : Tree) (n limit : ℕ) (status : Status) (o : Outcome) (lines : List (List ℕ)) (done : ℕ) (script : Progress BookCall) : Type 0 where
   pub wrote : TookPrefix o.before o.now (replies_text (script_of (start t n limit) (take done lines)).lines)
   pub exact : IsExact status o.read lines done (Took o.before o.now (replies_text script.lines))
   pub prompt : TookAtLeast o.before o.now (replies_text (script_of (start t n limit) (ended [] (take o.asked o.read))).lines)
 
 -- so it is of the state of the sessions after the last line that was done; workers' sessions end with their lines
-abbrev pub OfLastState : (limit : ℕ) (c : Option Command) (every : ℕ) (status : Status) (o : Outcome) → OpenedStoreLeaves limit c every status o → (State StoreCall → Type 0) → Type 0
+abbrev pub OfLastState : (limit : ℕ) (c : Option Command) (every : ℕ) (status : Status) (o : Outcome) → OpenedStoreLeaves limit c every status o → (State BookCall → Type 0) → Type 0
 OfLastState limit (Some run) every status o left P = P left.ran.script.state
 OfLastState limit (Some workers) every status o left P = Unit {0}
 OfLastState limit (Some (put name)) every status o left P = P (after_asked (start left.tree left.number limit) left.ran.asked).state
@@ -82,11 +82,11 @@ abbrev pub EachOpened : ((limit : ℕ) (c : Option Command) (every : ℕ) (statu
 EachOpened Q = (limit : ℕ) (c : Option Command) (every : ℕ) (status : Status) (o : Outcome) (left : OpenedStoreLeaves limit c every status o) → Q limit c every status o left
 
 -- so it is of the book of each, from the tree and the number that the store was opened as, and with its limit
-abbrev pub EachBook : (Tree → ℕ → ℕ → Book StoreCall → Type 0) → Type 0
+abbrev pub EachBook : (Tree → ℕ → ℕ → Book BookCall → Type 0) → Type 0
 EachBook Q = EachOpened (λ limit c every status o left. OfBook limit c every status o left (Q left.tree left.number limit))
 
 -- so it is of the state of the sessions behind each
-abbrev pub EachLastState : (State StoreCall → Type 0) → Type 0
+abbrev pub EachLastState : (State BookCall → Type 0) → Type 0
 EachLastState Q = EachOpened (λ limit c every status o left. OfLastState limit c every status o left Q)
 
 -- so it is of what each has done, where `Held` are files that hold every commit that was answered

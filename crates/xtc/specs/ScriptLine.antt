@@ -4,7 +4,7 @@ use Rattle.command_lines.specs.Lines.{line_of as command_of_line}
 use Rattle.command_lines.specs.declared.bad_line.BadLine.{BadLine}
 use Rattle.command_lines.specs.declared.bad_line.BadLine.TheVariants as bad_line
 use Rattle.command_lines.specs.declared.command.Command.{Command}
-use Rattle.command_lines.specs.declared.command.StoreCall.{StoreCall}
+use Rattle.session_driver.specs.Asking.{BookCall}
 use Rattle.command_lines.specs.declared.command.What.{What}
 use Rattle.command_lines.specs.declared.command.What.TheVariants as what
 use Rattle.session_driver.specs.Lines.{Asked}
@@ -15,9 +15,9 @@ use Rattle.session_driver.specs.declared.doing.Doing.TheVariants as doing
 pub data Line : Type 0 where
   nothing : Line
   bad : List ℕ → Line
-  asked : Asked StoreCall → Line
+  asked : Asked BookCall → Line
 
-abbrev pub doing_of : What → Doing StoreCall
+abbrev pub doing_of : What → Doing BookCall
 doing_of what.Begin = doing.Begin
 doing_of what.Commit = doing.Commit
 doing_of what.Abort = doing.Abort

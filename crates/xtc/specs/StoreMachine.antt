@@ -17,7 +17,7 @@ use Rattle.script_runs.specs.Machine.{Machine}
 use Rattle.call_contract.specs.Books.{Book, IsBookFrom}
 use Rattle.call_contract.specs.Sessions.{commits_in}
 use Rattle.call_contract.specs.States.{State}
-use Rattle.command_lines.specs.declared.command.StoreCall.{StoreCall}
+use Rattle.session_driver.specs.Asking.{BookCall}
 use Rattle.session_driver.specs.Progress.{Progress}
 use Rattle.tx_core.specs.Cores.{CoreView}
 use Rattle.store_calls.specs.StoreCalls.{IsValidStoreCall, store_meaning}
@@ -51,7 +51,7 @@ if_known false a = None
 
 -- what is kept of a store: the core of its sessions, the journal, and its checkpoints
 pub record KeptStore (P : Type 0) : Type 0 where
-  pub core : CoreView StoreCall (Base P)
+  pub core : CoreView BookCall (Base P)
   pub journal : JournalView
   pub checkpoints : Checkpoints P
 
@@ -74,19 +74,19 @@ abbrev pub file_in : {P : Type 0} → (P → History) → KeptStore P → Histor
 file_in history k = file_of history k.core.base k.checkpoints.pages
 
 -- the state that its core stands in
-abbrev pub Stands : {P : Type 0} → Bool → (P → History) → CoreView StoreCall (Base P) → State StoreCall → Type 0
+abbrev pub Stands : {P : Type 0} → Bool → (P → History) → CoreView BookCall (Base P) → State BookCall → Type 0
 Stands is_known history core s = standing.Stands store_meaning (contents_of is_known history) core s
 
 -- ---- its checkpoints
 
 -- the pages hold what the last checkpoint behind the first k commits has made of them
-abbrev pub HoldMade : {P : Type 0} → Bool → (P → History) → CoreView StoreCall (Base P) → ℕ → ℕ → Type 0
+abbrev pub HoldMade : {P : Type 0} → Bool → (P → History) → CoreView BookCall (Base P) → ℕ → ℕ → Type 0
 HoldMade is_known history core every k = IsTrue is_known → IsTrue (is_positive every) → (t : Tree) → StandsFor (contents_of is_known history core.opening) t
     → IfSome (last_made (is_tried every) t core.number core.book k) (λ m. HoldFirst t core.number core.book m (base_pages history core.base).now.reads)
 
 -- behind a line: a checkpoint may be made, and it was looked at whether one is due behind each commit but the last; where the pages are known, the core stands in a state
 pub record HasAnswered {P : Type 0} (is_known : Bool) (history : P → History) (k : KeptStore P) : Type 0 where
-  pub stands : IsTrue is_known → (s : State StoreCall) × Stands is_known history k.core s
+  pub stands : IsTrue is_known → (s : State BookCall) × Stands is_known history k.core s
   pub may : MayRenew is_known history k.core k.journal
   pub inside : k.checkpoints.pages ≡ None
   pub legal : (t : Tree) → StandsFor (contents_of is_known history k.core.opening) t → IsBookFrom IsValidStoreCall store_meaning t k.core.number k.core.limit k.core.book
@@ -104,18 +104,18 @@ pub record HasRested {P : Type 0} (is_known : Bool) (history : P → History) (k
 
 -- a state, the book that has led to it, and what it has begun with: the base and the number of the opening, and how often checkpoints are made
 pub record Booked (P : Type 0) : Type 0 where
-  pub state : State StoreCall
-  pub book : Book StoreCall
+  pub state : State BookCall
+  pub book : Book BookCall
   pub opening : Base P
   pub number : ℕ
   pub every : ℕ
 
 -- before the first entry
-abbrev pub begun_at : {P : Type 0} → State StoreCall → Base P → ℕ → ℕ → Booked P
+abbrev pub begun_at : {P : Type 0} → State BookCall → Base P → ℕ → ℕ → Booked P
 begun_at s opening number every = record { state = s; book = []; opening = opening; number = number; every = every }
 
 -- with the entries of what was done
-abbrev pub with_done : {P : Type 0} → Booked P → Progress StoreCall → Booked P
+abbrev pub with_done : {P : Type 0} → Booked P → Progress BookCall → Booked P
 with_done b done = record b { state = done.state; book = b.book ++ done.book }
 
 -- the store is where the book has led
@@ -129,7 +129,7 @@ pub record IsBooked {P : Type 0} (is_known : Bool) (history : P → History) (k 
 -- a crash leaves of each file what a read gives, and they stand for what is committed in the core's state
 pub record IsSettledStore {P : Type 0} (is_known : Bool) (history : P → History) (k : KeptStore P) : Type 0 where
   pub pages : IsAllSynced (file_in history k)
-  pub holds : (s : State StoreCall) → Stands is_known history k.core s → HoldsAll s (file_in history k).now.reads k.journal.history
+  pub holds : (s : State BookCall) → Stands is_known history k.core s → HoldsAll s (file_in history k).now.reads k.journal.history
 
 -- it makes checkpoints, or none
 abbrev pub MakesAs : {P : Type 0} → Bool → KeptStore P → Type 0

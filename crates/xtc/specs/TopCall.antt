@@ -20,7 +20,7 @@ use Rattle.call_contract.specs.SerialRuns.{serial}
 use Rattle.call_contract.specs.States.{State, start}
 use Rattle.call_contract.specs.declared.events.Event.TheVariants.{Abort}
 use Rattle.call_contract.specs.declared.events.Noted.{Noted}
-use Rattle.command_lines.specs.declared.command.StoreCall.{StoreCall}
+use Rattle.session_driver.specs.Asking.{BookCall}
 use Rattle.command_lines.specs.declared.line_reply.LineReply.{LineReply}
 use Rattle.session_driver.specs.Lines.{Asked}
 use Rattle.session_driver.specs.Progress.{Progress}
@@ -73,7 +73,7 @@ outcome_of input output old new read = record {
 -- ---- the files
 
 -- two files stand for the tree and the number after the commits of this book, run one after another by one thread on a plain tree
-abbrev pub OpenAfter : Tree → ℕ → Book StoreCall → List ℕ → List ℕ → Type 0
+abbrev pub OpenAfter : Tree → ℕ → Book BookCall → List ℕ → List ℕ → Type 0
 OpenAfter t n book journal pages = StandFor journal pages (serial store_meaning (commits book) t).tree (n + length (commits book))
 
 -- after the commits of the first of these lines, at least so many
@@ -86,28 +86,28 @@ pub record OpenAfterLines (t : Tree) (n limit : ℕ) (least : ℕ) (lines : List
 -- ---- the book
 
 -- each deadlock in a book from this tree, number and limit shows a true cycle
-abbrev pub ShowTrueCycles : Tree → ℕ → ℕ → Book StoreCall → Type 0
-ShowTrueCycles t n limit book = (before : Book StoreCall) (e : Noted StoreCall) (behind : Book StoreCall) → book ≡ before ++ e ∷ behind
+abbrev pub ShowTrueCycles : Tree → ℕ → ℕ → Book BookCall → Type 0
+ShowTrueCycles t n limit book = (before : Book BookCall) (e : Noted BookCall) (behind : Book BookCall) → book ≡ before ++ e ∷ behind
     → DeadlockIsTrue store_meaning (last store_meaning (start t n limit) before) e
 
 -- each abort in it leaves the committed tree and all other transactions, and the aborted one holds nothing
-abbrev pub AbortsLeaveAllElse : Tree → ℕ → ℕ → Book StoreCall → Type 0
-AbortsLeaveAllElse t n limit book = (before : Book StoreCall) (e : Noted StoreCall) (behind : Book StoreCall) → book ≡ before ++ e ∷ behind → e.event ≡ Abort
+abbrev pub AbortsLeaveAllElse : Tree → ℕ → ℕ → Book BookCall → Type 0
+AbortsLeaveAllElse t n limit book = (before : Book BookCall) (e : Noted BookCall) (behind : Book BookCall) → book ≡ before ++ e ∷ behind → e.event ≡ Abort
     → LeavesAllElse (last store_meaning (start t n limit) before) (last store_meaning (start t n limit) (before ++ e ∷ [])) e.session
 
 -- What holds of a book from this tree, number and limit.
 -- It is legal; its committed transactions, run one after another by one thread on a plain tree, give the replies that were given, and the committed tree;
 -- at each moment what the live ones were answered, those that abort later among them, is what they would be answered on the committed tree of that moment;
 -- a deadlock shows a true cycle; and an aborted transaction leaves all else.
-pub record IsSoundBook (t : Tree) (n limit : ℕ) (book : Book StoreCall) : Type 0 where
+pub record IsSoundBook (t : Tree) (n limit : ℕ) (book : Book BookCall) : Type 0 where
   pub legal : IsBookFrom IsValidStoreCall store_meaning t n limit book
   pub serial : IsSerial store_meaning t n limit book
-  pub live : (before behind : Book StoreCall) → book ≡ before ++ behind → RepliesStand store_meaning (last store_meaning (start t n limit) before)
+  pub live : (before behind : Book BookCall) → book ≡ before ++ behind → RepliesStand store_meaning (last store_meaning (start t n limit) before)
   pub deadlocks : ShowTrueCycles t n limit book
   pub aborts : AbortsLeaveAllElse t n limit book
 
 -- The book of a script is sound, the state after it is that of the script, and no session waits whose call would be answered.
-pub record IsSound (t : Tree) (n limit : ℕ) (script : Progress StoreCall) : Type 0 where
+pub record IsSound (t : Tree) (n limit : ℕ) (script : Progress BookCall) : Type 0 where
   pub book : IsSoundBook t n limit script.book
   pub state : last store_meaning (start t n limit) script.book ≡ script.state
   pub no_vain_wait : AllStopped store_meaning script.state
@@ -142,7 +142,7 @@ pub record ScriptRan (t : Tree) (n limit : ℕ) (status : Status) (opening : Pai
   pub short : AllShort line_limit (take done lines)
   pub further : ℕ
   pub at_most : further ≤ slack status
-  pub script : Progress StoreCall
+  pub script : Progress BookCall
   pub is : script ≡ script_of (start t n limit) (take (done + further) lines)
   pub sound : IsSound t n limit script
   pub wrote : TookPrefix o.before o.now (replies_text (script_of (start t n limit) (take done lines)).lines)
@@ -162,25 +162,25 @@ abbrev pub whole_limit : ℕ
 whole_limit = 16777216
 
 -- after the commits of the first of what was asked, at least of so many
-pub record OpenAfterAsked (t : Tree) (n limit : ℕ) (least : ℕ) (asked : List (Asked StoreCall)) (journal pages : List ℕ) : Type 0 where
+pub record OpenAfterAsked (t : Tree) (n limit : ℕ) (least : ℕ) (asked : List (Asked BookCall)) (journal pages : List ℕ) : Type 0 where
   pub count : ℕ
   pub enough : least ≤ count
   pub within : count ≤ length asked
   pub opens : OpenAfter t n (after_asked (start t n limit) (take count asked)).book journal pages
 
 -- these are the first of what a command asks
-abbrev pub AreFirst : List (Asked StoreCall) → Result (List (Asked StoreCall)) Status → Type 0
-AreFirst asked (Ok asks) = (rest : List (Asked StoreCall)) × (asked ++ rest ≡ asks)
+abbrev pub AreFirst : List (Asked BookCall) → Result (List (Asked BookCall)) Status → Type 0
+AreFirst asked (Ok asks) = (rest : List (Asked BookCall)) × (asked ++ rest ≡ asks)
 AreFirst asked (Err status) = asked ≡ []
 
 -- A command is refused so. One that may commit has done all up to there: what was asked of the store ends it so,
 -- where its input asks for anything at all.
-pub record IsRefusedBehind (c : Command) (st : State StoreCall) (read : List ℕ) (asked : List (Asked StoreCall)) (why : Reason) : Type 0 where
+pub record IsRefusedBehind (c : Command) (st : State BookCall) (read : List ℕ) (asked : List (Asked BookCall)) (why : Reason) : Type 0 where
   pub end : end_of c st (asks_of c st read) ≡ DocumentRefused why
   pub behind : IsTrue (may_commit (Some c)) → IfOk (asks_of c st read) (λ asks. end_of c st (Ok asked) ≡ DocumentRefused why)
 
 -- what a status says of the input, and of what was asked from a state on; where nothing fails it is `end_of`
-abbrev pub IsDocumentEnd : Command → State StoreCall → List ℕ → Status → List (Asked StoreCall) → Type 0
+abbrev pub IsDocumentEnd : Command → State BookCall → List ℕ → Status → List (Asked BookCall) → Type 0
 IsDocumentEnd c st read Done asked = (asks_of c st read ≡ Ok asked) × (end_of c st (Ok asked) ≡ Done)
 IsDocumentEnd c st read WriteFault asked = (asks_of c st read ≡ Ok asked) × (end_of c st (Ok asked) ≡ Done)
 IsDocumentEnd c st read (DocumentRefused why) asked = IsRefusedBehind c st read asked why
@@ -193,7 +193,7 @@ IsDocumentEnd c st read Usage asked = ⊥
 IsDocumentEnd c st read (Damaged place) asked = ⊥
 
 -- nothing was asked behind a reply by which there is a reason to stop
-abbrev pub StopsAtRefusal : (LineReply → Option Reason) → State StoreCall → List (Asked StoreCall) → Type 0
+abbrev pub StopsAtRefusal : (LineReply → Option Reason) → State BookCall → List (Asked BookCall) → Type 0
 StopsAtRefusal by st asked = turn.StopsAtRefusal store_meaning by st asked
 
 -- so many bytes were read: more than an input may have at that status alone, or where memory was wanting for them
@@ -207,7 +207,7 @@ abbrev pub IsWhole : Option (List ℕ) → List ℕ → Type 0
 IsWhole left read = IfSome left (λ rest. rest ≡ []) × (length read ≤ whole_limit)
 
 -- what needs the whole input: each status that judges it, and all that was asked of the store
-abbrev pub NeedsWhole : Status → List (Asked StoreCall) → Type 0 → Type 0
+abbrev pub NeedsWhole : Status → List (Asked BookCall) → Type 0 → Type 0
 NeedsWhole (LineTooLong line) asked P = Unit {0}
 NeedsWhole ReadFault asked P = Unit {0}
 NeedsWhole NoMemory asked P = (asked ≡ []) ⊎ P
@@ -223,7 +223,7 @@ WroteWhole status before now text = now ≡ before
 -- all but the last one at most, within whose commit the command stopped. The book of all is sound,
 -- and the files, now and as a crash leaves them at any moment, stand for a prefix of its commits with every one that was answered.
 pub record DocumentRan (t : Tree) (n limit : ℕ) (c : Command) (status : Status) (opening : Pair) (o : Outcome) : Type 0 where
-  pub asked : List (Asked StoreCall)
+  pub asked : List (Asked BookCall)
   pub first : AreFirst asked (asks_of c (start t n limit) o.read)
   pub stops : StopsAtRefusal (stops_at c) (start t n limit) asked
   pub answered : ℕ
@@ -244,30 +244,30 @@ pub record DocumentRan (t : Tree) (n limit : ℕ) (c : Command) (status : Status
 -- ---- a script that was run by workers
 
 -- the files stand for the tree and the number after the first of this book's commits, at least so many
-pub record OpenAfterCommits (t : Tree) (n least : ℕ) (book : Book StoreCall) (journal pages : List ℕ) : Type 0 where
+pub record OpenAfterCommits (t : Tree) (n least : ℕ) (book : Book BookCall) (journal pages : List ℕ) : Type 0 where
   pub count : ℕ
   pub enough : least ≤ count
   pub within : count ≤ length (commits book)
   pub opens : StandFor journal pages (serial store_meaning (take count (commits book)) t).tree (n + count)
 
 -- what was written: the text that this book shows of the lines, whole where the status says so
-pub record WroteShown (t : Tree) (n limit : ℕ) (status : Status) (book : Book StoreCall) (read : List ℕ) (before now : Option (List ℕ)) : Type 0 where
+pub record WroteShown (t : Tree) (n limit : ℕ) (status : Status) (book : Book BookCall) (read : List ℕ) (before now : Option (List ℕ)) : Type 0 where
   pub text : List LineReply
   pub shows : IsShownBy store_meaning t n limit book (lines_in (entries_of read)) text
   pub wrote : WroteWhole status before now (replies_text text)
 
 -- nothing is written, and the book has of each session the first of its lines, the last of them as far as it came
-pub record WroteNone (t : Tree) (n limit : ℕ) (book : Book StoreCall) (read : List ℕ) (before now : Option (List ℕ)) : Type 0 where
+pub record WroteNone (t : Tree) (n limit : ℕ) (book : Book BookCall) (read : List ℕ) (before now : Option (List ℕ)) : Type 0 where
   pub did : (s : ℕ) → DoesSome store_meaning s (start t n limit) book (asked_of s (lines_in (entries_of read)))
   pub silent : now ≡ before
 
 -- nothing was done, and nothing is written
-abbrev pub IsUndone : Book StoreCall → Option (List ℕ) → Option (List ℕ) → Type 0
+abbrev pub IsUndone : Book BookCall → Option (List ℕ) → Option (List ℕ) → Type 0
 IsUndone book before now = (book ≡ []) × (now ≡ before)
 
 -- The workers did all lines, and the book shows a text of them. Where a disk failed, or memory was wanting, they may have done the first ones alone, and nothing is written;
 -- where memory was wanting for the script, and at any other status, they did none.
-abbrev pub IsWorkersOutput : Tree → ℕ → ℕ → Status → Book StoreCall → List ℕ → Option (List ℕ) → Option (List ℕ) → Type 0
+abbrev pub IsWorkersOutput : Tree → ℕ → ℕ → Status → Book BookCall → List ℕ → Option (List ℕ) → Option (List ℕ) → Type 0
 IsWorkersOutput t n limit Done book read before now = WroteShown t n limit Done book read before now
 IsWorkersOutput t n limit WriteFault book read before now = WroteShown t n limit WriteFault book read before now
 IsWorkersOutput t n limit DiskFault book read before now = WroteNone t n limit book read before now
@@ -285,7 +285,7 @@ IsWorkersEnd NoMemory read = Unit {0}
 IsWorkersEnd status read = ⊥
 
 -- the statuses at which lines were done need the whole input; where memory was wanting, and it wasn't read to its end, the book is empty
-abbrev pub NeedsWholeScript : Status → Book StoreCall → Type 0 → Type 0
+abbrev pub NeedsWholeScript : Status → Book BookCall → Type 0 → Type 0
 NeedsWholeScript Done book P = P
 NeedsWholeScript WriteFault book P = P
 NeedsWholeScript DiskFault book P = P
@@ -293,7 +293,7 @@ NeedsWholeScript NoMemory book P = (book ≡ []) ⊎ P
 NeedsWholeScript status book P = Unit {0}
 
 -- how many of a book's commits are sure to be found: all, where something may be written
-abbrev pub durable_at : Status → Book StoreCall → ℕ
+abbrev pub durable_at : Status → Book BookCall → ℕ
 durable_at Done book = length (commits book)
 durable_at WriteFault book = length (commits book)
 durable_at status book = 0
@@ -301,7 +301,7 @@ durable_at status book = 0
 -- `workers` over a store that was opened as a tree and a number. One book, sound and that which the store kept, shows what was written;
 -- the files, now and as a crash leaves them at any moment, stand for the tree after the first of its commits, and after all where anything was written.
 pub record WorkersRan (t : Tree) (n limit : ℕ) (status : Status) (opening : Pair) (o : Outcome) : Type 0 where
-  pub book : Book StoreCall
+  pub book : Book BookCall
   pub sound : IsSoundBook t n limit book
   pub output : IsWorkersOutput t n limit status book o.read o.before o.now
   pub end : IsWorkersEnd status o.read
@@ -323,7 +323,7 @@ CommandRan t n limit (Some (gen seed count)) status opening o = DocumentRan t n 
 CommandRan t n limit None status opening o = ⊥
 
 -- its book: of a script's lines, of what was asked in turn, or of what workers did
-abbrev pub book_of : (t : Tree) (n limit : ℕ) (c : Option Command) (status : Status) (opening : Pair) (o : Outcome) → CommandRan t n limit c status opening o → Book StoreCall
+abbrev pub book_of : (t : Tree) (n limit : ℕ) (c : Option Command) (status : Status) (opening : Pair) (o : Outcome) → CommandRan t n limit c status opening o → Book BookCall
 book_of t n limit (Some run) status opening o ran = ran.script.book
 book_of t n limit (Some workers) status opening o ran = ran.book
 book_of t n limit (Some (put name)) status opening o ran = (after_asked (start t n limit) ran.asked).book

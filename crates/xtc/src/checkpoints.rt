@@ -3,7 +3,7 @@ ghost use Rattle.std.specs.Prelude.{◌≡◌, Bool, Err, IsTrue, None, OnOk};
 ghost use Rattle.checkpoint.specs.Renewals.{MayRenew};
 ghost use Rattle.call_contract.specs.Sessions.{commits_in};
 ghost use Rattle.call_contract.specs.States.{State};
-ghost use Rattle.command_lines.specs.declared.command.StoreCall.{StoreCall};
+ghost use Rattle.session_driver.specs.Asking.{BookCall};
 ghost use Rattle.xtc.specs.StoreMachine.{HasAnswered, HasPages, HasRested, Stands, faults_of, file_of};
 ghost use Rattle.xtc.specs.inside.Renewing.{DamagedWhere, KeepsStanding, LeftAsBefore, MadeFromEach, StoreCounts, is_due_at_end, is_due_behind, kept};
 
@@ -125,7 +125,7 @@ impl<P: Disk + Drop> Checkpoints<P> {
         requires may { MayRenew P.is_known P.history core.old journal.old }
         requires inside { self.old.pages ≡ None }
         requires opened { self.old.opened ≡ core.old.number }
-        requires stands { IsTrue P.is_known → (s : State StoreCall) × Stands P.is_known P.history core.old s }
+        requires stands { IsTrue P.is_known → (s : State BookCall) × Stands P.is_known P.history core.old s }
         ensures made { OnOk result (MadeFromEach P.Disk
             (is_due_at_end self.old (commits_in core.old.book)) core.old core.new) }
         ensures again { OnOk result (MayRenew P.is_known P.history core.new journal.new) }
@@ -152,7 +152,7 @@ impl<P: Disk + Drop> Checkpoints<P> {
     ) -> Result<(), OpenError>
         requires may { MayRenew P.is_known P.history core.old journal.old }
         requires inside { self.old.pages ≡ None }
-        requires stands { IsTrue P.is_known → (s : State StoreCall) × Stands P.is_known P.history core.old s }
+        requires stands { IsTrue P.is_known → (s : State BookCall) × Stands P.is_known P.history core.old s }
         ensures again { OnOk result (MayRenew P.is_known P.history core.new journal.new) }
         ensures made { OnOk result (MadeFromEach P.Disk due core.old core.new) }
         ensures others { self.new ≡ record self.old { pages = self.new.pages } }

@@ -5,14 +5,14 @@ use Rattle.std.proofs.lemmas.List.{take_all}
 use Rattle.tree_model.specs.Tree.{Tree, empty_tree, map_of}
 use Rattle.call_contract.specs.Books.{Book, commits}
 use Rattle.call_contract.specs.SerialRuns.{Committed, serial}
-use Rattle.command_lines.specs.declared.command.StoreCall.{StoreCall}
+use Rattle.session_driver.specs.Asking.{BookCall}
 use Rattle.command_words.specs.Commands.{Command, gen, run, workers}
 use Rattle.store_calls.specs.StoreCalls.{store_meaning}
 use Rattle.xtc.specs.Checkpoints.{AreMade, MadeBehind, fits, is_made, is_positive, is_tried, last_made, last_of_command, made_or, tree_after, tried_in}
 use Rattle.xtc_callers.specs.InPages.{HoldAllOfWorkers, HoldAllThatFits, HoldAllWhereDue, tree_of_commits}
 
 -- where one is tried behind this commit, and fits, it is the last one
-last_here : (tried : ℕ → Bool) (t : Tree) (n : ℕ) (book : Book StoreCall) (k : ℕ) → 1 ≤ k → tried k ≡ true → fits (tree_after t book k) (n + k) ≡ true
+last_here : (tried : ℕ → Bool) (t : Tree) (n : ℕ) (book : Book BookCall) (k : ℕ) → 1 ≤ k → tried k ≡ true → fits (tree_after t book k) (n + k) ≡ true
     → last_made tried t n book k ≡ Some k
 last_here tried t n book zero positive due fit = absurd (omega (arith, positive))
 last_here tried t n book (suc k) positive due fit =
@@ -32,12 +32,12 @@ some_number : (k : ℕ) → 1 ≤ k → IsTrue (is_positive k)
 some_number zero positive = absurd (omega (arith, positive))
 some_number (suc k) positive = refl
 
-module _ (every : ℕ) (book : Book StoreCall) (journal pages : List ℕ) where
+module _ (every : ℕ) (book : Book BookCall) (journal pages : List ℕ) where
   abbrev count : ℕ
   count = length (commits book)
 
   all_taken : tree_after empty_tree book count ≡ tree_of_commits book
-  all_taken = ap (λ (cs : List (Committed StoreCall)). (serial store_meaning cs empty_tree).tree) (take_all count (commits book) (omega arith))
+  all_taken = ap (λ (cs : List (Committed BookCall)). (serial store_meaning cs empty_tree).tree) (take_all count (commits book) (omega arith))
 
   counted : 0 + count ≡ count
   counted = omega arith

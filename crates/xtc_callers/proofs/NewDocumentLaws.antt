@@ -20,7 +20,7 @@ use Rattle.store_contents.specs.StoredTrees.{StandFor}
 use Rattle.call_contract.specs.Books.{Book, commits}
 use Rattle.call_contract.specs.SerialRuns.{serial}
 use Rattle.call_contract.specs.States.{State, start}
-use Rattle.command_lines.specs.declared.command.StoreCall.{StoreCall}
+use Rattle.session_driver.specs.Asking.{BookCall}
 use Rattle.session_driver.specs.Lines.{Asked}
 use Rattle.session_driver.specs.Progress.{Progress}
 use Rattle.store_calls.specs.StoreCalls.{store_meaning}
@@ -42,7 +42,7 @@ use Rattle.xtc_callers.proofs.NewStoreLaws.{all_read, alone, one_tree, stands_un
 abbrev an_element : Fragment → Result Fragment FragmentError
 an_element element = Ok element
 
-abbrev no_asks : FragmentError → Result (List (Asked StoreCall)) Status
+abbrev no_asks : FragmentError → Result (List (Asked BookCall)) Status
 no_asks why = Err (NotJsonMl why)
 
 -- what isn't asked for isn't an element
@@ -51,12 +51,12 @@ no_element_asked name (Ok element) why is = absurd cc
 no_element_asked name (Err e) why is = let same : e ≡ why = cc in ap Err same
 
 -- what is asked for is
-record HasElement (name : Name) (r : Result Fragment FragmentError) (asked : List (Asked StoreCall)) : Type 0 where
+record HasElement (name : Name) (r : Result Fragment FragmentError) (asked : List (Asked BookCall)) : Type 0 where
   element : Fragment
   is : r ≡ Ok element
   asks : asked ≡ put_asks name element
 
-element_asked : (name : Name) (r : Result Fragment FragmentError) (asked : List (Asked StoreCall)) → put_asks_of name r ≡ Ok asked → HasElement name r asked
+element_asked : (name : Name) (r : Result Fragment FragmentError) (asked : List (Asked BookCall)) → put_asks_of name r ≡ Ok asked → HasElement name r asked
 element_asked name (Ok element) asked is = record { element = element; is = refl; asks = let same : put_asks name element ≡ asked = cc in sym same }
 element_asked name (Err e) asked is = absurd cc
 
@@ -65,7 +65,7 @@ same_error : {e f : FragmentError} → no_asks e ≡ no_asks f → e ≡ f
 same_error is = cc
 
 -- what was asked
-abbrev pub asked_in : Result (List (Asked StoreCall)) Status → List (Asked StoreCall)
+abbrev pub asked_in : Result (List (Asked BookCall)) Status → List (Asked BookCall)
 asked_in (Ok asked) = asked
 asked_in (Err why) = []
 
@@ -78,7 +78,7 @@ no_reason None is = refl
 no_reason (Some why) is = absurd cc
 
 -- these are the first of what the element's input asks
-of_first : (name : Name) (input : List ℕ) (asked : List (Asked StoreCall)) (r : Result Fragment FragmentError) → element_in input ≡ r → AreFirst asked (put_asks_of name r) → OfWholeInput name input asked
+of_first : (name : Name) (input : List ℕ) (asked : List (Asked BookCall)) (r : Result Fragment FragmentError) → element_in input ≡ r → AreFirst asked (put_asks_of name r) → OfWholeInput name input asked
 of_first name input asked (Ok element) is first = inr (element, is, first.0, first.1)
 of_first name input asked (Err why) is first = inl first
 
@@ -116,7 +116,7 @@ module _ (empty : StandFor [] [] empty_tree 0) (name : Name) (every : ℕ) (o : 
     asks_none whole = ap (λ (read : List ℕ). put_asks_of name (element_in read)) (read_all whole) ∙ ap (put_asks_of name) none
 
     -- then nothing was asked
-    not_asked : (asked : List (Asked StoreCall)) → IsWhole o.left o.read → asks_of (put name) new_store o.read ≡ Ok asked → ⊥
+    not_asked : (asked : List (Asked BookCall)) → IsWhole o.left o.read → asks_of (put name) new_store o.read ≡ Ok asked → ⊥
     not_asked asked whole is = let no : no_asks why ≡ Ok asked = sym (asks_none whole) ∙ is in cc
 
     judged : (status : Status) → OpenedStoreLeaves tx_limit (Some (put name)) every status o → UnlessFailed status (status ≡ NotJsonMl why)
@@ -162,19 +162,19 @@ module _ (empty : StandFor [] [] empty_tree 0) (name : Name) (every : ℕ) (o : 
     all_stand journal pages after =
         let all : after_asked new_store (take after.count ran.asked) ≡ put_new name element = ap (after_asked new_store) (take_all after.count ran.asked (omega (arith, ran.all_but, after.enough))) ∙ did in
         let count : 0 + length (commits (after_asked new_store (take after.count ran.asked)).book) ≡ length (commits (put_new name element).book)
-        = omega (arith, ap (λ (p : Progress StoreCall). length (commits p.book)) all) in
-        subst (λ (x : Book StoreCall × ℕ). StandFor journal pages (serial store_meaning (commits x.0) empty_tree).tree x.1) (λ i. ((all i).book, count i)) after.opens
+        = omega (arith, ap (λ (p : Progress BookCall). length (commits p.book)) all) in
+        subst (λ (x : Book BookCall × ℕ). StandFor journal pages (serial store_meaning (commits x.0) empty_tree).tree x.1) (λ i. ((all i).book, count i)) after.opens
 
     unrefused : reason_in (put_new name element).lines ≡ None
-    unrefused = ap (λ (p : Progress StoreCall). reason_in p.lines) (sym did) ∙ no_reason _ ran.end.1
+    unrefused = ap (λ (p : Progress BookCall). reason_in p.lines) (sym did) ∙ no_reason _ ran.end.1
 
     document_put : PutOnTree empty_tree 0 tx_limit name element (put_new name element) → element_in input ≡ Ok element → PutDone name input text o.new.journal o.new.pages
     document_put law is = record {
       element = element;
       of_input = is;
-      answered = took_all o text before now _ ran.wrote ∙ ap (λ (p : Progress StoreCall). label_line (label_in p.lines)) did;
-      tree = ap (λ (p : Progress StoreCall). (serial store_meaning (commits p.book) empty_tree).tree) (sym did) ∙ ran.sound.book.serial.tree ∙ ap (λ (s : State StoreCall). s.tree) ran.sound.state
-          ∙ ap (λ (p : Progress StoreCall). p.state.tree) did ∙ law.tree unrefused;
+      answered = took_all o text before now _ ran.wrote ∙ ap (λ (p : Progress BookCall). label_line (label_in p.lines)) did;
+      tree = ap (λ (p : Progress BookCall). (serial store_meaning (commits p.book) empty_tree).tree) (sym did) ∙ ran.sound.book.serial.tree ∙ ap (λ (s : State BookCall). s.tree) ran.sound.state
+          ∙ ap (λ (p : Progress BookCall). p.state.tree) did ∙ law.tree unrefused;
       stored = all_stand o.new.journal.now.reads o.new.pages.now.reads ran.reads;
       durable = λ journal pages of_journal of_pages. all_stand journal pages (ran.left journal pages of_journal of_pages);
     }
@@ -234,12 +234,12 @@ got_document law name element at document command status every o text stands tre
     let leaves : OpenedStoreLeaves tx_limit (Some (get name)) every Done o = subst (λ (x : Option Command × Status). Leaves tx_limit x.0 every x.1 o) (λ i. (named i, is i)) leaves_so in
     let t : Tree = leaves.tree in
     let here : t ≡ tree_of_document name element = one_tree _ _ t _ leaves.number _ leaves.stood stands ∙ tree_is in
-    let st : State StoreCall = start t leaves.number tx_limit in
+    let st : State BookCall = start t leaves.number tx_limit in
     let ran : DocumentRan t leaves.number tx_limit (get name) Done leaves.opening o = leaves.ran in
     let asks : get_asks st name ≡ ran.asked = ap asked_in ran.end.0 in
     let got : after_asked st (get_asks st name) ≡ after_asked st ran.asked = ap (after_asked st) asks in
-    let none : reason_in (after_asked st (get_asks st name)).lines ≡ None = ap (λ (p : Progress StoreCall). reason_in p.lines) got ∙ no_reason _ ran.end.1 in
+    let none : reason_in (after_asked st (get_asks st name)).lines ≡ None = ap (λ (p : Progress BookCall). reason_in p.lines) got ∙ no_reason _ ran.end.1 in
     let on_tree = law t leaves.number tx_limit name in
     let left : leaves.number ≢ tx_limit = λ spent. none_is_no_reason _ _ none (on_tree.limited spent) in
     let found = on_tree.dumped at document left (ap (λ (u : Tree). (dom (Doc name) u).0) here ∙ doc) (ap (λ (u : Tree). (dom (Dump at) u).0) here ∙ dump) in
-    took_all o text before now _ ran.wrote ∙ ap (λ (p : Progress StoreCall). tree_line (tree_in p.lines)) (sym got) ∙ ap tree_line found.1
+    took_all o text before now _ ran.wrote ∙ ap (λ (p : Progress BookCall). tree_line (tree_in p.lines)) (sym got) ∙ ap tree_line found.1

@@ -8,7 +8,7 @@ use Rattle.store_contents.specs.StoredTrees.{StandFor}
 use Rattle.call_contract.specs.Books.{Book, IsSerial, commits}
 use Rattle.call_contract.specs.States.{start}
 use Rattle.call_contract.specs.SerialRuns.{serial}
-use Rattle.command_lines.specs.declared.command.StoreCall.{StoreCall}
+use Rattle.session_driver.specs.Asking.{BookCall}
 use Rattle.command_words.specs.Commands.{Command, gen}
 use Rattle.durable_sessions.specs.Reasons.{first_reason, limit_of}
 use Rattle.durable_sessions.specs.declared.reasons.Reason.{Reason}
@@ -30,7 +30,7 @@ use Rattle.xtc_callers.specs.NewStores.{StandForCommits, new_store}
 use Rattle.xtc_callers.proofs.NewStoreLaws.{alone, took_all}
 
 -- what was asked
-abbrev asks_in : Result (List (Asked StoreCall)) Status → List (Asked StoreCall)
+abbrev asks_in : Result (List (Asked BookCall)) Status → List (Asked BookCall)
 asks_in (Ok asked) = asked
 asks_in (Err why) = []
 
@@ -40,13 +40,13 @@ ended_for None why is = absurd cc
 ended_for (Some other) why is = let same : other ≡ why = cc in ap Some same
 
 -- files that stand for the tree after the commits of all that was asked
-all_stand : (asked : List (Asked StoreCall)) (least : ℕ) (journal pages : List ℕ) → length asked ≤ least → OpenAfterAsked empty_tree 0 tx_limit least asked journal pages
+all_stand : (asked : List (Asked BookCall)) (least : ℕ) (journal pages : List ℕ) → length asked ≤ least → OpenAfterAsked empty_tree 0 tx_limit least asked journal pages
     → StandForCommits (after_asked new_store asked).book journal pages
 all_stand asked least journal pages whole after =
     let all : after_asked new_store (take after.count asked) ≡ after_asked new_store asked = ap (after_asked new_store) (take_all after.count asked (omega (arith, whole, after.enough))) in
     let count : 0 + length (commits (after_asked new_store (take after.count asked)).book) ≡ length (commits (after_asked new_store asked).book)
-    = omega (arith, ap (λ (p : Progress StoreCall). length (commits p.book)) all) in
-    subst (λ (x : Book StoreCall × ℕ). StandFor journal pages (serial store_meaning (commits x.0) empty_tree).tree x.1) (λ i. ((all i).book, count i)) after.opens
+    = omega (arith, ap (λ (p : Progress BookCall). length (commits p.book)) all) in
+    subst (λ (x : Book BookCall × ℕ). StandFor journal pages (serial store_meaning (commits x.0) empty_tree).tree x.1) (λ i. ((all i).book, count i)) after.opens
 
 -- ---- over two empty files
 
@@ -82,15 +82,15 @@ module _ (empty : StandFor [] [] empty_tree 0) (seed count : ℕ) (every : ℕ) 
     did = ap (after_asked new_store) asked_all
 
     stand : (j p : List ℕ) → OpenAfterAsked empty_tree 0 tx_limit ran.answered ran.asked j p → StandForCommits (generated_new seed count).book j p
-    stand j p after = subst (λ (d : Progress StoreCall). StandForCommits d.book j p) did (all_stand ran.asked ran.answered j p (omega (arith, ran.all_but)) after)
+    stand j p after = subst (λ (d : Progress BookCall). StandForCommits d.book j p) did (all_stand ran.asked ran.answered j p (omega (arith, ran.all_but)) after)
 
     all_done : GenDone every seed count text o.new.journal o.new.pages
     all_done = record {
       answered = took_all o text before now _ ran.wrote;
-      serial = subst (λ (d : Progress StoreCall). IsSerial store_meaning empty_tree 0 tx_limit d.book) did ran.sound.book.serial;
+      serial = subst (λ (d : Progress BookCall). IsSerial store_meaning empty_tree 0 tx_limit d.book) did ran.sound.book.serial;
       stored = stand o.new.journal.now.reads o.new.pages.now.reads ran.reads;
       durable = λ j p of_journal of_pages. stand j p (ran.left j p of_journal of_pages);
-      in_pages = subst (λ (d : Progress StoreCall). HoldAllWhereDue every d.book o.new.pages.now.reads) did
+      in_pages = subst (λ (d : Progress BookCall). HoldAllWhereDue every d.book o.new.pages.now.reads) did
           (held_by_gen every (after_asked new_store ran.asked).book o.new.journal.now.reads o.new.pages.now.reads seed count made);
     }
 

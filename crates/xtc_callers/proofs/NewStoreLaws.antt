@@ -22,7 +22,7 @@ use Rattle.script_runs.specs.Runs.{AskedLines}
 use Rattle.script_runs.proofs.FeedingLaws.{ended_on}
 use Rattle.call_contract.specs.Books.{Book, commits}
 use Rattle.call_contract.specs.SerialRuns.{serial}
-use Rattle.command_lines.specs.declared.command.StoreCall.{StoreCall}
+use Rattle.session_driver.specs.Asking.{BookCall}
 use Rattle.session_driver.specs.Progress.{Progress}
 use Rattle.store_calls.specs.StoreCalls.{store_meaning}
 use Rattle.xtc.specs.Book.{script_of, replies_text}
@@ -67,12 +67,12 @@ all_read script read (Some rest) gave none = sym (same_Some _ _ gave ∙ ap (λ 
 all_read script read None gave none = cc
 
 -- files that stand for the commits of at least so many lines, which are all, stand for all commits
-all_commits : (least : ℕ) (lines : List (List ℕ)) (done : Progress StoreCall) (journal pages : List ℕ) → length lines ≤ least → done ≡ script_of new_store lines
+all_commits : (least : ℕ) (lines : List (List ℕ)) (done : Progress BookCall) (journal pages : List ℕ) → length lines ≤ least → done ≡ script_of new_store lines
     → OpenAfterLines empty_tree 0 tx_limit least lines journal pages → StandForCommits done.book journal pages
 all_commits least lines done journal pages whole is after =
     let all : script_of new_store (take after.count lines) ≡ done = ap (script_of new_store) (take_all after.count lines (omega (arith, whole, after.enough))) ∙ sym is in
-    let count : 0 + length (commits (script_of new_store (take after.count lines)).book) ≡ length (commits done.book) = omega (arith, ap (λ (p : Progress StoreCall). length (commits p.book)) all) in
-    subst (λ (x : Book StoreCall × ℕ). StandFor journal pages (serial store_meaning (commits x.0) empty_tree).tree x.1) (λ i. ((all i).book, count i)) after.opens
+    let count : 0 + length (commits (script_of new_store (take after.count lines)).book) ≡ length (commits done.book) = omega (arith, ap (λ (p : Progress BookCall). length (commits p.book)) all) in
+    subst (λ (x : Book BookCall × ℕ). StandFor journal pages (serial store_meaning (commits x.0) empty_tree).tree x.1) (λ i. ((all i).book, count i)) after.opens
 
 -- what a run to the end of its script has, by a tree and a number
 record Scripted (t : Tree) (n every : ℕ) (opening : Pair) (o : Outcome) : Type 0 where
@@ -167,7 +167,7 @@ module _ (o : Outcome) (text : List ℕ) (before : o.before ≡ Some []) (now : 
     none_unwritten none took =
         let sum : ran.done + ran.further ≡ ran.done = omega (arith, ran.at_most, none) in
         let same : ran.script ≡ script_of new_store (take ran.done ran.lines) = ran.is ∙ ap (λ (k : ℕ). script_of new_store (take k ran.lines)) sum in
-        ([], append-nil text ∙ took_all _ took ∙ ap (λ (p : Progress StoreCall). replies_text p.lines) same, refl)
+        ([], append-nil text ∙ took_all _ took ∙ ap (λ (p : Progress BookCall). replies_text p.lines) same, refl)
 
   unwritten : (status : Status) (opening : Pair) (ran : ScriptRan empty_tree 0 tx_limit status opening o) → Unwritten status (of_done status opening ran)
   unwritten Done opening ran = none_unwritten Done opening ran refl ran.exact.2

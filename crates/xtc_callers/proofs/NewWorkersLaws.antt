@@ -14,7 +14,7 @@ use Rattle.recovery.specs.Openings.{HasImages}
 use Rattle.store_contents.specs.StoredTrees.{StandFor}
 use Rattle.call_contract.specs.Books.{Book, commits}
 use Rattle.call_contract.specs.SerialRuns.{Committed, serial}
-use Rattle.command_lines.specs.declared.command.StoreCall.{StoreCall}
+use Rattle.session_driver.specs.Asking.{BookCall}
 use Rattle.command_words.specs.Commands.{Command, workers}
 use Rattle.store_calls.specs.StoreCalls.{store_meaning}
 use Rattle.xtc.specs.Checkpoints.{AreMade, is_positive}
@@ -30,11 +30,11 @@ use Rattle.xtc_callers.proofs.InPagesLaws.{held_by_workers}
 use Rattle.xtc_callers.proofs.NewStoreLaws.{all_read, alone, took_all}
 
 -- files that stand for the tree after all of a book's commits
-all_stand : (book : Book StoreCall) (journal pages : List ℕ) → OpenAfterCommits empty_tree 0 (length (commits book)) book journal pages → StandForCommits book journal pages
+all_stand : (book : Book BookCall) (journal pages : List ℕ) → OpenAfterCommits empty_tree 0 (length (commits book)) book journal pages → StandForCommits book journal pages
 all_stand book journal pages after =
     let all : take after.count (commits book) ≡ commits book = take_all after.count (commits book) after.enough in
     let count : 0 + after.count ≡ length (commits book) = omega (arith, after.enough, after.within) in
-    subst (λ (x : List (Committed StoreCall) × ℕ). StandFor journal pages (serial store_meaning x.0 empty_tree).tree x.1) (λ i. (all i, count i)) after.opens
+    subst (λ (x : List (Committed BookCall) × ℕ). StandFor journal pages (serial store_meaning x.0 empty_tree).tree x.1) (λ i. (all i, count i)) after.opens
 
 -- ---- over two empty files
 

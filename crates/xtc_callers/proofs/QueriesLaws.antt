@@ -15,7 +15,7 @@ use Rattle.store_contents.specs.StoredTrees.{StandFor}
 use Rattle.call_contract.specs.Books.{commits}
 use Rattle.call_contract.specs.SerialRuns.{serial}
 use Rattle.call_contract.specs.States.{State, start}
-use Rattle.command_lines.specs.declared.command.StoreCall.{StoreCall}
+use Rattle.session_driver.specs.Asking.{BookCall}
 use Rattle.command_words.specs.Commands.{Command, query}
 use Rattle.durable_sessions.specs.Reasons.{reason_in}
 use Rattle.session_driver.specs.Progress.{Progress}
@@ -55,11 +55,11 @@ module _ (name : Name) (text : List ℕ) (every : ℕ) (o : Outcome) (command : 
       let leaves = opened in
       let ran : DocumentRan leaves.tree leaves.number tx_limit (query name text) Done leaves.opening o = leaves.ran in
       let here : leaves.tree ≡ t = one_tree _ _ leaves.tree _ leaves.number _ leaves.stood stands in
-      let st : State StoreCall = start leaves.tree leaves.number tx_limit in
+      let st : State BookCall = start leaves.tree leaves.number tx_limit in
       let asks : query_asks st name path ≡ ran.asked = ap asked_in (ap (query_asks_of st name) (sym is_path) ∙ ran.end.0) in
       let queried : after_asked st (query_asks st name path) ≡ after_asked st ran.asked = ap (after_asked st) asks in
-      let none : reason_in (after_asked st (query_asks st name path)).lines ≡ None = ap (λ (p : Progress StoreCall). reason_in p.lines) queried ∙ no_reason _ ran.end.1 in
+      let none : reason_in (after_asked st (query_asks st name path)).lines ≡ None = ap (λ (p : Progress BookCall). reason_in p.lines) queried ∙ no_reason _ ran.end.1 in
       let on_tree = law leaves.tree leaves.number tx_limit name path in
       let left : leaves.number ≢ tx_limit = λ spent. none_is_no_reason _ _ none (on_tree.limited spent) in
       let found = on_tree.found finds.at hits left (ap (λ (u : Tree). (dom (Doc name) u).0) here ∙ finds.document) (ap (λ (u : Tree). found_at finds.at (plain_path path) u) here ∙ finds.found) in
-      took_all o held before now _ ran.wrote ∙ ap (λ (p : Progress StoreCall). hits_line (hits_in p.lines)) (sym queried) ∙ ap hits_line found.1
+      took_all o held before now _ ran.wrote ∙ ap (λ (p : Progress BookCall). hits_line (hits_in p.lines)) (sym queried) ∙ ap hits_line found.1

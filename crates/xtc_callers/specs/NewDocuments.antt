@@ -13,7 +13,7 @@ use Rattle.tree_model.specs.declared.reply.Reply.TheVariants as reply
 use Rattle.jsonml_io.specs.declared.fragment_error.FragmentError.{FragmentError}
 use Rattle.call_contract.specs.Books.{commits}
 use Rattle.call_contract.specs.SerialRuns.{serial}
-use Rattle.command_lines.specs.declared.command.StoreCall.{StoreCall}
+use Rattle.session_driver.specs.Asking.{BookCall}
 use Rattle.command_words.specs.Commands.{command_of, get, put}
 use Rattle.session_driver.specs.Lines.{Asked}
 use Rattle.session_driver.specs.Progress.{Progress}
@@ -46,7 +46,7 @@ abbrev pub TellsNoElement : List ℕ → Status → FragmentError → Type 0
 TellsNoElement input status why = element_in input ≡ Err why → length input ≤ whole_limit → UnlessFailed status (status ≡ NotJsonMl why)
 
 -- what `put` of this element into a new store does
-abbrev pub put_new : Name → Fragment → Progress StoreCall
+abbrev pub put_new : Name → Fragment → Progress BookCall
 put_new name element = after_asked new_store (put_asks name element)
 
 -- the tree with the document alone
@@ -65,12 +65,12 @@ pub record PutDone (name : Name) (input text : List ℕ) (journal pages : Histor
   pub durable : PairsHave (StandForCommits (put_new name element).book) (pair_of journal pages)
 
 -- these are the first of what `put` of the whole input asks, if any
-abbrev pub OfWholeInput : Name → List ℕ → List (Asked StoreCall) → Type 0
-OfWholeInput name input asked = (asked ≡ []) ⊎ ((element : Fragment) × (element_in input ≡ Ok element) × (rest : List (Asked StoreCall)) × (asked ++ rest ≡ put_asks name element))
+abbrev pub OfWholeInput : Name → List ℕ → List (Asked BookCall) → Type 0
+OfWholeInput name input asked = (asked ≡ []) ⊎ ((element : Fragment) × (element_in input ≡ Ok element) × (rest : List (Asked BookCall)) × (asked ++ rest ≡ put_asks name element))
 
 -- `put` was begun, whatever its end: the files stand for nothing, or for what the commit of the whole input leaves
 pub record PutBegun (name : Name) (input : List ℕ) (journal pages : List ℕ) : Type 0 where
-  pub asked : List (Asked StoreCall)
+  pub asked : List (Asked BookCall)
   pub of_input : OfWholeInput name input asked
   pub stored : OpenAfterAsked empty_tree 0 tx_limit 0 asked journal pages
 

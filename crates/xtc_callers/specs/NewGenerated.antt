@@ -5,7 +5,7 @@ use Rattle.outside_traits.specs.DiskPairs.{PairsHave, pair_of}
 use Rattle.outside_traits.specs.Moments.{History}
 use Rattle.tree_model.specs.Tree.{empty_tree}
 use Rattle.call_contract.specs.Books.{IsSerial}
-use Rattle.command_lines.specs.declared.command.StoreCall.{StoreCall}
+use Rattle.session_driver.specs.Asking.{BookCall}
 use Rattle.command_words.specs.Commands.{command_of, gen}
 use Rattle.durable_sessions.specs.InTurn as turn
 use Rattle.durable_sessions.specs.Reasons.{first_reason, limit_of}
@@ -29,7 +29,7 @@ abbrev pub WhereGenForReason : List (String Global) → (ℕ → ℕ → Reason 
 WhereGenForReason words Q = (seed count : ℕ) (why : Reason) → command_of words ≡ Some (gen seed count) → Q seed count why
 
 -- what a generator's script does over a new store
-abbrev pub generated_new : (seed count : ℕ) → Progress StoreCall
+abbrev pub generated_new : (seed count : ℕ) → Progress BookCall
 generated_new seed count = after_asked new_store (generated (script seed count))
 
 -- The generator's script was done over a new store: this text is the line of its summary, and the files stand for the tree after its commits.
@@ -44,8 +44,8 @@ pub record GenDone (every seed count : ℕ) (text : List ℕ) (journal pages : H
 
 -- It was refused: it was done up to the first begin or commit that is refused, and that for this reason. Nothing is written, and all commits before that are there.
 pub record GenRefused (seed count : ℕ) (why : Reason) (text : List ℕ) (journal pages : History) : Type 0 where
-  pub asked : List (Asked StoreCall)
-  pub behind : List (Asked StoreCall)
+  pub asked : List (Asked BookCall)
+  pub behind : List (Asked BookCall)
   pub of_script : asked ++ behind ≡ generated (script seed count)
   pub refused : first_reason limit_of (after_asked new_store asked).lines ≡ Some why
   pub stops : turn.StopsAtRefusal store_meaning limit_of new_store asked

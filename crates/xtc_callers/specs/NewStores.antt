@@ -9,7 +9,7 @@ use Rattle.script_runs.specs.Lines.{lines_of}
 use Rattle.call_contract.specs.Books.{Book, commits}
 use Rattle.call_contract.specs.SerialRuns.{serial}
 use Rattle.call_contract.specs.States.{State, start}
-use Rattle.command_lines.specs.declared.command.StoreCall.{StoreCall}
+use Rattle.session_driver.specs.Asking.{BookCall}
 use Rattle.session_driver.specs.Progress.{Progress}
 use Rattle.store_calls.specs.StoreCalls.{store_meaning}
 use Rattle.xtc.specs.Book.{script_of, replies_text}
@@ -20,11 +20,11 @@ use Rattle.xtc_callers.specs.InPages.{HoldAllWhereDue}
 use Rattle.xtc_callers.specs.declared.new_store.MemRun.{MemRun}
 
 -- the sessions of a new store, at the empty tree
-abbrev pub new_store : State StoreCall
+abbrev pub new_store : State BookCall
 new_store = start empty_tree 0 tx_limit
 
 -- two files stand for the tree after a book's commits, run one after the other by one thread from the empty tree on, and for their number
-abbrev pub StandForCommits : Book StoreCall → List ℕ → List ℕ → Type 0
+abbrev pub StandForCommits : Book BookCall → List ℕ → List ℕ → Type 0
 StandForCommits book journal pages = StandFor journal pages (serial store_meaning (commits book) empty_tree).tree (length (commits book))
 
 -- ---- what a run in memory leaves
@@ -42,7 +42,7 @@ file_reads disk = (history_of disk).now.reads
 -- A script was done over a new store: this text is what it was answered, and these are the files now.
 -- All of it is said by what the script's lines do to the sessions: the book that they make, and their replies.
 pub record ScriptDone (every : ℕ) (script text : List ℕ) (journal pages : History) : Type 0 where
-  pub done : Progress StoreCall
+  pub done : Progress BookCall
   -- of the script's lines, in sessions that begin with the empty tree
   pub of_lines : done ≡ script_of new_store (lines_of script)
   pub answered : text ≡ replies_text done.lines

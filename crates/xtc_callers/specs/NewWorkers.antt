@@ -4,7 +4,7 @@ use Rattle.outside_traits.specs.DiskPairs.{PairsHave, pair_of}
 use Rattle.outside_traits.specs.Moments.{History}
 use Rattle.tree_model.specs.Tree.{empty_tree}
 use Rattle.call_contract.specs.Books.{Book, IsBookFrom, IsSerial}
-use Rattle.command_lines.specs.declared.command.StoreCall.{StoreCall}
+use Rattle.session_driver.specs.Asking.{BookCall}
 use Rattle.command_lines.specs.declared.line_reply.LineReply.{LineReply}
 use Rattle.store_calls.specs.StoreCalls.{IsValidStoreCall, store_meaning}
 use Rattle.workers_text.specs.Entries.{entries_of}
@@ -19,7 +19,7 @@ use Rattle.xtc_callers.specs.NewStores.{StandForCommits}
 -- and the files stand for the tree and number after all its commits.
 pub record WorkersDone (every : ℕ) (script text : List ℕ) (journal pages : History) : Type 0 where
   pub within : too_long script ≡ None
-  pub book : Book StoreCall
+  pub book : Book BookCall
   pub legal : IsBookFrom IsValidStoreCall store_meaning empty_tree 0 tx_limit book
   pub serial : IsSerial store_meaning empty_tree 0 tx_limit book
   pub replies : List LineReply

@@ -12,7 +12,7 @@ use Rattle.tree_model.specs.declared.fragment.Fragment.{Fragment}
 use Rattle.node_seq.specs.Trees.{StandsFor}
 use Rattle.journal.specs.Views.{JournalView}
 use Rattle.call_contract.specs.States.{State, start}
-use Rattle.command_lines.specs.declared.command.StoreCall.{StoreCall}
+use Rattle.session_driver.specs.Asking.{BookCall}
 use Rattle.command_lines.specs.declared.line_reply.LineReply.{LineReply}
 use Rattle.session_driver.specs.Lines.{Asked, AreValid}
 use Rattle.session_driver.specs.Progress.{Progress}
@@ -37,51 +37,51 @@ use Rattle.xtc.specs.declared.status.Status.TheVariants.{Done, Usage, LineTooLon
 -- ---- the states of the store's sessions
 
 -- a fact of each state that a core stands in
-abbrev pub EachState : {B : Type 0} → (B → Option Entries) → CoreView StoreCall B → (State StoreCall → Type 0) → Type 0
+abbrev pub EachState : {B : Type 0} → (B → Option Entries) → CoreView BookCall B → (State BookCall → Type 0) → Type 0
 EachState contents core Q = standing.FromEach store_meaning contents core Q
 
 -- a fact of each state that a store may be opened in, over this map and with this number
-abbrev pub FromOpening : Option Entries → ℕ → (State StoreCall → Type 0) → Type 0
+abbrev pub FromOpening : Option Entries → ℕ → (State BookCall → Type 0) → Type 0
 FromOpening map number Q = (t : Tree) → StandsFor map t → Q (start t number tx_limit)
 
 -- what a session that is asked this does from a state
-abbrev pub done_for : State StoreCall → ℕ → Doing StoreCall → Progress StoreCall
+abbrev pub done_for : State BookCall → ℕ → Doing BookCall → Progress BookCall
 done_for s session doing = asked_from store_meaning s session doing
 
 -- each state that the core stood in has led to this one
-abbrev pub LeadsEach : {B J : Type 0} → (B → Option Entries) → DiskOf J → (core core_now : CoreView StoreCall B) (journal journal_now : JournalView) → (State StoreCall → State StoreCall) → Type 0
+abbrev pub LeadsEach : {B J : Type 0} → (B → Option Entries) → DiskOf J → (core core_now : CoreView BookCall B) (journal journal_now : JournalView) → (State BookCall → State BookCall) → Type 0
 LeadsEach contents j core core_now journal journal_now next =
     EachState contents core (λ s. LeadsTo store_meaning contents j.is_known journal.history core_now journal_now.history s (next s))
 
 -- ---- asking in turn, of the store's calls
 
 -- session 1 is asked these
-abbrev pub all_asks : List (Doing StoreCall) → List (Asked StoreCall)
+abbrev pub all_asks : List (Doing BookCall) → List (Asked BookCall)
 all_asks doings = turn.all_asks 1 doings
 
-abbrev pub AreValidAsks : List (Asked StoreCall) → Type 0
+abbrev pub AreValidAsks : List (Asked BookCall) → Type 0
 AreValidAsks asked = AreValid IsValidStoreCall asked
 
 -- the state after these, and what was answered to them
-abbrev pub after : State StoreCall → List (Asked StoreCall) → State StoreCall
+abbrev pub after : State BookCall → List (Asked BookCall) → State BookCall
 after s asked = turn.after store_meaning s asked
 
-abbrev pub said : State StoreCall → List (Asked StoreCall) → List LineReply
+abbrev pub said : State BookCall → List (Asked BookCall) → List LineReply
 said s asked = turn.said store_meaning s asked
 
 -- beside these pages the journal stands for what is committed after the first of these, and so on the way
-abbrev pub HoldsFirst : State StoreCall → List (Asked StoreCall) → List ℕ → List ℕ → Type 0
+abbrev pub HoldsFirst : State BookCall → List (Asked BookCall) → List ℕ → List ℕ → Type 0
 HoldsFirst s asked pages journal = turn.HoldsFirst store_meaning s asked pages journal
 
-abbrev pub LeavesFirst : Bool → State StoreCall → List (Asked StoreCall) → History → History → Type 0
+abbrev pub LeavesFirst : Bool → State BookCall → List (Asked BookCall) → History → History → Type 0
 LeavesFirst is_known s asked old new = turn.LeavesFirst store_meaning is_known s asked old new
 
 -- a crash now leaves what is committed after these, or after these and more
-abbrev pub LeftEither : Bool → State StoreCall → List (Asked StoreCall) → List (Asked StoreCall) → History → History → Type 0
+abbrev pub LeftEither : Bool → State BookCall → List (Asked BookCall) → List (Asked BookCall) → History → History → Type 0
 LeftEither is_known s answered more old new = turn.LeftEither store_meaning is_known s answered more old new
 
 -- the first were answered, and it stopped behind them or within the next one
-abbrev pub Stopped : (LineReply → Option Reason) → Bool → State StoreCall → List (Asked StoreCall) → History → History → Stop → Type 0
+abbrev pub Stopped : (LineReply → Option Reason) → Bool → State BookCall → List (Asked BookCall) → History → History → Stop → Type 0
 Stopped by is_known s all old new stop = turn.Stopped IsValidStoreCall store_meaning by is_known s all old new stop
 
 -- a status with which it stops
@@ -129,9 +129,9 @@ CountsDiskFault result before now = DisksCountedWhere (result ≡ Err DiskFault)
 -- ---- a command of one document, from a state on and with this input
 
 -- what it did to the journal, by its status
-pub record DocumentWent (is_known : Bool) (s : State StoreCall) (c : Command) (read : List ℕ) (old new : History) (status : Status) : Type 0 where
-  pub answered : List (Asked StoreCall)
-  pub more : List (Asked StoreCall)
+pub record DocumentWent (is_known : Bool) (s : State BookCall) (c : Command) (read : List ℕ) (old new : History) (status : Status) : Type 0 where
+  pub answered : List (Asked BookCall)
+  pub more : List (Asked BookCall)
   pub first : AreFirst (answered ++ more) (asks_of c s read)
   pub few : length more ≤ slack status
   pub valid : AreValidAsks (answered ++ more)
@@ -143,20 +143,20 @@ pub record DocumentWent (is_known : Bool) (s : State StoreCall) (c : Command) (r
   pub still : may_commit (Some c) ≡ false → new ≡ old
 
 -- it went to its end, and this text is to be written; or it stopped
-pub record HasText (is_known : Bool) (s : State StoreCall) (c : Command) (read : List ℕ) (old new : History) (text : List ℕ) : Type 0 where
+pub record HasText (is_known : Bool) (s : State BookCall) (c : Command) (read : List ℕ) (old new : History) (text : List ℕ) : Type 0 where
   pub went : DocumentWent is_known s c read old new Done
   pub shown : text ≡ text_of c s (went.answered ++ went.more)
 
-abbrev pub DocumentDone : {T : Type 0} → Bool → State StoreCall → Command → List ℕ → History → History → (T → List ℕ) → Result T Status → Type 0
+abbrev pub DocumentDone : {T : Type 0} → Bool → State BookCall → Command → List ℕ → History → History → (T → List ℕ) → Result T Status → Type 0
 DocumentDone is_known s c read old new bytes (Ok text) = HasText is_known s c read old new (bytes text)
 DocumentDone is_known s c read old new bytes (Err status) = DocumentWent is_known s c read old new status
 
 -- the same, and what needs the whole input; `whole` says that it was read to its end
-pub record WentAndJudged (is_known : Bool) (s : State StoreCall) (c : Command) (read : List ℕ) (whole : Type 0) (old new : History) (status : Status) : Type 0 where
+pub record WentAndJudged (is_known : Bool) (s : State BookCall) (c : Command) (read : List ℕ) (whole : Type 0) (old new : History) (status : Status) : Type 0 where
   pub went : DocumentWent is_known s c read old new status
   pub judged : NeedsWhole status (went.answered ++ went.more) whole
 
-abbrev pub InputDone : {T : Type 0} → Bool → State StoreCall → Command → List ℕ → Type 0 → History → History → (T → List ℕ) → Result T Status → Type 0
+abbrev pub InputDone : {T : Type 0} → Bool → State BookCall → Command → List ℕ → Type 0 → History → History → (T → List ℕ) → Result T Status → Type 0
 InputDone is_known s c read whole old new bytes (Ok text) = HasText is_known s c read old new (bytes text) × whole
 InputDone is_known s c read whole old new bytes (Err status) = WentAndJudged is_known s c read whole old new status
 
@@ -165,7 +165,7 @@ abbrev pub HasReadWhole : Through Input → (List ℕ → Type 0) → Type 0
 HasReadWhole input Q = (read : List ℕ) × Gave input.before.left input.now.left read × (input.now.given ≡ input.before.given + length read) × (length read ≤ whole_limit + piece) × Q read
 
 -- the input was read as a whole and put as a document, from each state of the store that `From` speaks of
-abbrev pub PutsInput : {J : Type 0} → ((State StoreCall → Type 0) → Type 0) → DiskOf J → Name → Through Input → (journal journal_now : JournalView) → ToWrite → Type 0
+abbrev pub PutsInput : {J : Type 0} → ((State BookCall → Type 0) → Type 0) → DiskOf J → Name → Through Input → (journal journal_now : JournalView) → ToWrite → Type 0
 PutsInput From j name input journal journal_now result =
     HasReadWhole input (λ read. From (λ s. InputDone j.is_known s (put name) read (IsWhole input.now.left read) journal.history journal_now.history (λ text. text.items) result))
 
@@ -185,6 +185,6 @@ IsReadElement read (Err NoMemory) = length read ≤ whole_limit + piece
 IsReadElement read (Err status) = ⊥
 
 -- an element that was read so was put as a document, from each state that the core stood in
-abbrev pub PutsElement : {B J : Type 0} → (B → Option Entries) → DiskOf J → Name → Fragment → CoreView StoreCall B → (journal journal_now : JournalView) → ToWrite → Type 0
+abbrev pub PutsElement : {B J : Type 0} → (B → Option Entries) → DiskOf J → Name → Fragment → CoreView BookCall B → (journal journal_now : JournalView) → ToWrite → Type 0
 PutsElement contents j name element core journal journal_now result = EachState contents core (λ s. (read : List ℕ) → element_in read ≡ Ok element → length read ≤ whole_limit
     → DocumentDone j.is_known s (put name) read journal.history journal_now.history (λ text. text.items) result)

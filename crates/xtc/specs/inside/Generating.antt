@@ -11,7 +11,7 @@ use Rattle.checkpoint.specs.Bases.{contents_of}
 use Rattle.checkpoint.specs.declared.base.Base.{Base}
 use Rattle.call_contract.specs.States.{State, start}
 use Rattle.script_runs.specs.Counts.{Counts}
-use Rattle.command_lines.specs.declared.command.StoreCall.{StoreCall}
+use Rattle.session_driver.specs.Asking.{BookCall}
 use Rattle.command_words.specs.Commands.{Command, gen}
 use Rattle.session_driver.specs.Lines.{Asked}
 use Rattle.tx_core.specs.Cores.{CoreView, opened_over}
@@ -38,9 +38,9 @@ abbrev pub FromTree : Bool → Bool → Option Entries → ℕ → Pair → (Tre
 FromTree journal_known pages_known map n files Q = IsTrue journal_known → IsTrue pages_known → (t : Tree) → StandsFor map t → StandFor (start t n tx_limit) files → Q t
 
 -- what a command that reads no input did to both files, by its status
-pub record WentOver (s : State StoreCall) (c : Command) (old new : Pair) (status : Status) : Type 0 where
-  pub answered : List (Asked StoreCall)
-  pub more : List (Asked StoreCall)
+pub record WentOver (s : State BookCall) (c : Command) (old new : Pair) (status : Status) : Type 0 where
+  pub answered : List (Asked BookCall)
+  pub more : List (Asked BookCall)
   pub first : AreFirst (answered ++ more) (asks_of c s [])
   pub few : length more ≤ slack status
   pub valid : AreValidAsks (answered ++ more)
@@ -79,7 +79,7 @@ GeneratesIn j p seed count base n k journal journal_now done = FromTree j.is_kno
     (λ t. has_documents t ≡ false → DoneOverFiles t n (gen seed count) k.every (files_beside p.history journal base k) (files_behind p.history journal_now done) (λ text. text.items) done.text)
 
 -- the same over the base of a core
-abbrev pub RunsGenerated : {J P : Type 0} → DiskOf J → DiskOf P → (seed count : ℕ) → (core core_now : CoreView StoreCall (Base P)) → (journal journal_now : JournalView)
+abbrev pub RunsGenerated : {J P : Type 0} → DiskOf J → DiskOf P → (seed count : ℕ) → (core core_now : CoreView BookCall (Base P)) → (journal journal_now : JournalView)
     → (k k_now : Checkpoints P) → ToWrite → Type 0
 RunsGenerated j p seed count core core_now journal journal_now k k_now result =
     GeneratesIn j p seed count core.base core.number k journal journal_now (record { text = result; base = core_now.base; checkpoints = k_now })

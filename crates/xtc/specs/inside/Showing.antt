@@ -11,7 +11,7 @@ use Rattle.node_seq.specs.Trees.{StandsFor}
 use Rattle.call_contract.specs.States.{State, start}
 use Rattle.tree_model.specs.declared.reply.Reply.{Reply}
 use Rattle.tree_model.specs.declared.reply.Reply.TheVariants as reply
-use Rattle.command_lines.specs.declared.command.StoreCall.{StoreCall}
+use Rattle.session_driver.specs.Asking.{BookCall}
 use Rattle.command_lines.specs.declared.line_reply.LineAnswer.TheVariants as answer
 use Rattle.command_lines.specs.declared.line_reply.LineReply.{LineReply}
 use Rattle.command_lines.specs.declared.line_reply.LineReply.TheVariants.{Said}
@@ -47,7 +47,7 @@ abbrev pub said_line : Reply → LineReply
 said_line r = Said 1 false (answer.Reply r)
 
 -- what is asked of the document with a name is valid, and these are its lines
-pub record AreLinesOf (s : State StoreCall) (name : Name) (q : Question) (lines : List LineReply) : Type 0 where
+pub record AreLinesOf (s : State BookCall) (name : Name) (q : Question) (lines : List LineReply) : Type 0 where
   pub valid : AreValidAsks (show_asks s name q)
   pub same : lines ≡ said s (show_asks s name q)
 
@@ -57,10 +57,10 @@ pub record AddsAnswer (q : Question) (at : Label) (t : Tree) (before now : List 
   pub lines : now ≡ before ++ said_line (store_meaning.reply (call_of q at) t) ∷ said_line reply.Nothing ∷ []
 
 -- from a state on the command asks this of the document with a name, and writes the answer
-pub record Shows (c : Command) (s : State StoreCall) (name : Name) (q : Question) : Type 0 where
+pub record Shows (c : Command) (s : State BookCall) (name : Name) (q : Question) : Type 0 where
   pub asks : asks_of c s [] ≡ Ok (show_asks s name q)
   pub stops : stops_at c ≡ reason_of
-  pub text : (asked : List (Asked StoreCall)) → text_of c s asked ≡ answer_line q (after_asked s asked).lines
+  pub text : (asked : List (Asked BookCall)) → text_of c s asked ≡ answer_line q (after_asked s asked).lines
   pub uncommitted : may_commit (Some c) ≡ false
 
 -- a command of a document that reads no input

@@ -11,7 +11,7 @@ use Rattle.recovery.specs.Openings.{TakesBehind}
 use Rattle.script_runs.specs.Counts.{Counts}
 use Rattle.call_contract.specs.Books.{Book, IsBookFrom, commits}
 use Rattle.call_contract.specs.States.{start}
-use Rattle.command_lines.specs.declared.command.StoreCall.{StoreCall}
+use Rattle.session_driver.specs.Asking.{BookCall}
 use Rattle.command_lines.specs.declared.line_reply.LineReply.{LineReply}
 use Rattle.command_words.specs.Commands.{workers}
 use Rattle.store_calls.specs.StoreCalls.{IsValidStoreCall, store_meaning}
@@ -40,7 +40,7 @@ use Rattle.xtc.specs.inside.CommandRuns.{HasTree, StandSettled}
 -- ---- the store
 
 -- nothing was asked of this core since it was opened
-abbrev pub IsNew : {B : Type 0} → (B → Option Entries) → CoreView StoreCall B → Type 0
+abbrev pub IsNew : {B : Type 0} → (B → Option Entries) → CoreView BookCall B → Type 0
 IsNew contents core = core ≡ opened_over core.base (contents core.base) core.number tx_limit
 
 -- the files: that of the journal, and the pages of a base, or those which a checkpoint that failed has handed out
@@ -68,7 +68,7 @@ pub record IsBegun {P : Type 0} (is_known : Bool) (history : P → History) (bas
   pub opened : checkpoints.opened ≡ number
 
 -- The workers have ended over this core, and all commits of its book are in the journal, which was the first one at the opening; it was opened over the map of a tree.
-pub record MayEnd {P : Type 0} (journal_known is_known : Bool) (history : P → History) (first : JournalView) (core : CoreView StoreCall (Base P)) (journal : JournalView) (checkpoints : Checkpoints P) : Type 0 where
+pub record MayEnd {P : Type 0} (journal_known is_known : Bool) (history : P → History) (first : JournalView) (core : CoreView BookCall (Base P)) (journal : JournalView) (checkpoints : Checkpoints P) : Type 0 where
   pub begun : IsBegun is_known history core.base core.number first checkpoints
   pub opened : IsTrue (is_paged core.opening)
   pub tree : IsTrue is_known → HasTree (contents_of is_known history core.opening)
@@ -81,17 +81,17 @@ FromSettled j p map n files Q = IsTrue j.is_known → IsTrue p.is_known → (t :
 -- ---- the commits
 
 -- a crash on the way leaves the first of a book's commits, and without checkpoints the pages stay
-pub record LeavesCommits (t : Tree) (n every : ℕ) (book : Book StoreCall) (old new : Pair) : Type 0 where
+pub record LeavesCommits (t : Tree) (n every : ℕ) (book : Book BookCall) (old new : Pair) : Type 0 where
   pub moments : PairsLeave (OpenAfterCommits t n 0 book) old new
   pub still : is_positive every ≡ false → new.pages ≡ old.pages
 
 -- a crash leaves all of them, and with checkpoints the pages hold what the last one has made of them
-pub record HasCommits (t : Tree) (n every : ℕ) (book : Book StoreCall) (files : Pair) : Type 0 where
+pub record HasCommits (t : Tree) (n every : ℕ) (book : Book BookCall) (files : Pair) : Type 0 where
   pub durable : PairsHave (OpenAfterCommits t n (length (commits book)) book) files
   pub made : IsTrue (is_positive every) → AreMade (Some workers) every t n book files.journal.now.reads files.pages.now.reads
 
 -- so it is of the book of a core that was opened over the map of a tree, with this journal first; and where there is a text a crash leaves all
-abbrev pub LeavesBook : {J P : Type 0} → DiskOf J → DiskOf P → JournalView → CoreView StoreCall (Base P) → Checkpoints P → WorkedOver J P → Type 0
+abbrev pub LeavesBook : {J P : Type 0} → DiskOf J → DiskOf P → JournalView → CoreView BookCall (Base P) → Checkpoints P → WorkedOver J P → Type 0
 LeavesBook j p first core k worked = IsTrue j.is_known → IsTrue p.is_known → (t : Tree) → StandsFor (contents_of p.is_known p.history core.opening) t
     → IsBookFrom IsValidStoreCall store_meaning t core.number core.limit core.book → StandSettled (files_beside p.history first core.base k) t core.number
     → LeavesCommits t core.number k.every core.book (files_beside p.history first core.base k) (files_left p.history worked)
@@ -100,15 +100,15 @@ LeavesBook j p first core k worked = IsTrue j.is_known → IsTrue p.is_known →
 -- ---- the lines
 
 -- the workers did the first of these lines: one book has of each session those that it came to
-pub record WorkedSome (t : Tree) (n every : ℕ) (lines : List (Line StoreCall)) (old new : Pair) : Type 0 where
-  pub book : Book StoreCall
+pub record WorkedSome (t : Tree) (n every : ℕ) (lines : List (Line BookCall)) (old new : Pair) : Type 0 where
+  pub book : Book BookCall
   pub legal : IsBookFrom IsValidStoreCall store_meaning t n tx_limit book
   pub did : (s : ℕ) → DoesSome store_meaning s (start t n tx_limit) book (asked_of s lines)
   pub leaves : LeavesCommits t n every book old new
 
 -- they did all of them: one book shows this text, and its commits are durable
-pub record WorkedAll (t : Tree) (n every : ℕ) (lines : List (Line StoreCall)) (old new : Pair) (bytes : List ℕ) : Type 0 where
-  pub book : Book StoreCall
+pub record WorkedAll (t : Tree) (n every : ℕ) (lines : List (Line BookCall)) (old new : Pair) (bytes : List ℕ) : Type 0 where
+  pub book : Book BookCall
   pub legal : IsBookFrom IsValidStoreCall store_meaning t n tx_limit book
   pub text : List LineReply
   pub shows : IsShownBy store_meaning t n tx_limit book lines text
@@ -118,7 +118,7 @@ pub record WorkedAll (t : Tree) (n every : ℕ) (lines : List (Line StoreCall)) 
 
 -- Known files that stood for the tree and the number at the start: the lines were done, and all is durable.
 -- Or a disk failed, or memory was wanting, before the last line was done or behind it.
-abbrev pub ScriptDone : {T : Type 0} → Tree → ℕ → ℕ → List (Line StoreCall) → Pair → Pair → (T → List ℕ) → Result T Status → Type 0
+abbrev pub ScriptDone : {T : Type 0} → Tree → ℕ → ℕ → List (Line BookCall) → Pair → Pair → (T → List ℕ) → Result T Status → Type 0
 ScriptDone t n every lines old new bytes (Ok text) = WorkedAll t n every lines old new (bytes text)
 ScriptDone t n every lines old new bytes (Err DiskFault) = WorkedSome t n every lines old new
 ScriptDone t n every lines old new bytes (Err NoMemory) = WorkedSome t n every lines old new
@@ -137,7 +137,7 @@ InputWorked t n every read whole old new bytes (Ok text) = (too_long read ≡ No
 InputWorked t n every read whole old new bytes (Err status) = InputFailed t n every read whole old new status
 
 -- workers did these lines over a base, from its tree
-abbrev pub WorksOver : {J P : Type 0} → DiskOf J → DiskOf P → List (Line StoreCall) → JournalView → Base P → Checkpoints P → ℕ → WorkedOver J P → Type 0
+abbrev pub WorksOver : {J P : Type 0} → DiskOf J → DiskOf P → List (Line BookCall) → JournalView → Base P → Checkpoints P → ℕ → WorkedOver J P → Type 0
 WorksOver j p lines journal base k n worked = FromSettled j p (contents_of p.is_known p.history base) n (files_beside p.history journal base k)
     (λ t. ScriptDone t n k.every lines (files_beside p.history journal base k) (files_left p.history worked) (λ text. text.items) worked.text)
 

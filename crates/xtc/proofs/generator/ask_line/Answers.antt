@@ -1,6 +1,6 @@
 use Rattle.std.proofs.Common.{refl, sym, ap, subst, ◌∙◌, List}
 use Rattle.journal.specs.Views.{JournalView}
-use Rattle.command_lines.specs.declared.command.StoreCall.{StoreCall}
+use Rattle.session_driver.specs.Asking.{BookCall}
 use Rattle.session_driver.specs.Lines.{Asked}
 use Rattle.xtc.specs.Book.{IsValidLine}
 use Rattle.durable_sessions.specs.Reasons.{limit_of}
@@ -22,8 +22,8 @@ returns-in_err-read-clause-asked g c = λ s stands.
 
 pub returns-in-Asked-clause-asked : goal.returns-in-Asked-clause-asked
 returns-in-Asked-clause-asked g c = λ s stands.
-    let asked : Asked StoreCall = record { session = c.in-Asked.session; doing = c.in-Asked.doing } in
-    subst (λ (l : List (Asked StoreCall)). AskedLine g.B.NodeRead.contents g.J.Disk.is_known s l c.args.journal.now.history c.answer.new.core c.answer.new.journal.history c.answer.new.replies.items c.answer.result)
+    let asked : Asked BookCall = record { session = c.in-Asked.session; doing = c.in-Asked.doing } in
+    subst (λ (l : List (Asked BookCall)). AskedLine g.B.NodeRead.contents g.J.Disk.is_known s l c.args.journal.now.history c.answer.new.core c.answer.new.journal.history c.answer.new.replies.items c.answer.result)
     (line_asks c.args.line _ (ap line_in (sym c.in-Asked.is) ∙ c.in_ok-read.ensures.line))
     (line_done g.B.NodeRead.contents c.answer.result g.J.Disk.is_known s asked (subst (λ read. IsValidLine (line_in read)) c.in-Asked.is c.in_ok-read.ensures.valid)
     c.args.journal.now.history c.answer.new.journal.history (λ other. ap (λ (j : JournalView). j.history) (c.answer.ensures.durable_first.still other)) c.args.core.now c.answer.new.core
@@ -33,7 +33,7 @@ returns-in-Asked-clause-asked g c = λ s stands.
 
 pub returns-in-Asked-clause-book : goal.returns-in-Asked-clause-book
 returns-in-Asked-clause-book g c =
-    let asked : Asked StoreCall = record { session = c.in-Asked.session; doing = c.in-Asked.doing } in
+    let asked : Asked BookCall = record { session = c.in-Asked.session; doing = c.in-Asked.doing } in
     book_asked g.B.NodeRead.contents c.answer.result c.args.line asked c.args.core.now c.answer.new.core (line_asks c.args.line _ (ap line_in (sym c.in-Asked.is) ∙ c.in_ok-read.ensures.line))
     (does_book store_meaning g.B.NodeRead.contents g.J.Disk.is_known c.in-Asked.session c.in-Asked.doing c.args.core.now c.answer.new.core c.args.journal.now c.answer.new.journal c.args.replies.now.items c.answer.new.replies.items c.answer.result c.answer.ensures.does)
 

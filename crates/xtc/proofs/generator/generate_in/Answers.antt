@@ -4,7 +4,7 @@ use Rattle.outside_traits.specs.DiskPairs.{Pair, pair_of}
 use Rattle.checkpoint.specs.Bases.{contents_of}
 use Rattle.checkpoint.specs.declared.base.Base.{Base}
 use Rattle.call_contract.specs.States.{start}
-use Rattle.command_lines.specs.declared.command.StoreCall.{StoreCall}
+use Rattle.session_driver.specs.Asking.{BookCall}
 use Rattle.command_words.specs.Commands.{gen}
 use Rattle.script_runs.specs.Counts.{DisksCountedWhere}
 use Rattle.tx_core.specs.Cores.{CoreView}
@@ -24,13 +24,13 @@ run_script-text-requires-clause-opened g c = opened_new (contents_of g.P.Disk.is
 
 pub run_script-text-requires-clause-rested : goal.run_script-text-requires-clause-rested
 run_script-text-requires-clause-rested g c =
-    subst (λ (v : CoreView StoreCall (Base g.row.P.Denot)). HasRested g.P.Disk.is_known g.P.Disk.history (kept v c.args.journal.now c.args.checkpoints)) (sym c.in-Ok.ensures.ok) c.requires.rested
+    subst (λ (v : CoreView BookCall (Base g.row.P.Denot)). HasRested g.P.Disk.is_known g.P.Disk.history (kept v c.args.journal.now c.args.checkpoints)) (sym c.in-Ok.ensures.ok) c.requires.rested
 
 pub returns-in-Ok-clause-done : goal.returns-in-Ok-clause-done
 returns-in-Ok-clause-done g c =
     let history = g.P.Disk.history in
     let run = c.run_script-text in
-    subst (λ (x : CoreView StoreCall (Base g.row.P.Denot) × Base g.row.P.Denot).
+    subst (λ (x : CoreView BookCall (Base g.row.P.Denot) × Base g.row.P.Denot).
     FromTree g.J.Disk.is_known g.P.Disk.is_known (contents_of g.P.Disk.is_known history x.0.base) x.0.number (files_of history (kept x.0 c.args.journal.now c.args.checkpoints))
     (λ t. has_documents t ≡ false → DoneOverFiles t x.0.number (gen c.args.seed c.args.count) c.args.checkpoints.every (files_of history (kept x.0 c.args.journal.now c.args.checkpoints))
     (pair_of run.new.journal.history (file_of history x.1 run.new.checkpoints.pages)) (λ text. text.items) run.result))
@@ -40,14 +40,14 @@ pub returns-in-Ok-clause-pages : goal.returns-in-Ok-clause-pages
 returns-in-Ok-clause-pages g c =
     let history = g.P.Disk.history in
     let run = c.run_script-text in
-    subst (λ (x : CoreView StoreCall (Base g.row.P.Denot) × Base g.row.P.Denot). LeftPages g.P.Disk.is_known history c.args.checkpoints.every (file_in history (kept x.0 c.args.journal.now c.args.checkpoints)) x.1 run.new.checkpoints.pages)
+    subst (λ (x : CoreView BookCall (Base g.row.P.Denot) × Base g.row.P.Denot). LeftPages g.P.Disk.is_known history c.args.checkpoints.every (file_in history (kept x.0 c.args.journal.now c.args.checkpoints)) x.1 run.new.checkpoints.pages)
     (λ i. (c.in-Ok.ensures.ok i, sym c.into_base.ensures i)) run.ensures.pages
 
 pub returns-in-Ok-clause-counts : goal.returns-in-Ok-clause-counts
 returns-in-Ok-clause-counts g c =
     let faults = g.P.Disk.faults in
     let run = c.run_script-text in
-    subst (λ (x : CoreView StoreCall (Base g.row.P.Denot) × Base g.row.P.Denot). DisksCountedWhere (run.result ≡ Err DiskFault) (counts_in faults (kept x.0 c.args.journal.now c.args.checkpoints))
+    subst (λ (x : CoreView BookCall (Base g.row.P.Denot) × Base g.row.P.Denot). DisksCountedWhere (run.result ≡ Err DiskFault) (counts_in faults (kept x.0 c.args.journal.now c.args.checkpoints))
     (record { journal = run.new.journal.faults; pages = faults_of faults x.1 run.new.checkpoints.pages }))
     (λ i. (c.in-Ok.ensures.ok i, sym c.into_base.ensures i)) run.ensures.counts
 

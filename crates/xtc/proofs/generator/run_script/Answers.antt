@@ -1,6 +1,6 @@
 use Rattle.std.proofs.Common.{List, not, ◌&&◌, refl, ap, subst}
 use Rattle.std.specs.Prelude.{Err}
-use Rattle.command_lines.specs.declared.command.StoreCall.{StoreCall}
+use Rattle.session_driver.specs.Asking.{BookCall}
 use Rattle.checkpoint.specs.declared.base.Base.{Base}
 use Rattle.command_words.specs.Commands.{gen}
 use Rattle.call_contract.specs.States.{State, start}
@@ -27,7 +27,7 @@ returns-in_err-run_lines-clause-done g c = λ kj kp t is files empty.
     let first : KeptStore g.row.P.Denot = kept c.args.core.now c.args.journal.now c.args.checkpoints.now in
     let new : KeptStore g.row.P.Denot = kept c.run_lines.new.core c.run_lines.new.journal c.run_lines.new.checkpoints in
     let status = c.in_err-run_lines.field-0.0 in
-    let s : State StoreCall = start t n tx_limit in
+    let s : State BookCall = start t n tx_limit in
     done_failed c.from_residual.result status t n (gen c.args.seed c.args.count) c.args.checkpoints.now.every (files_of history first) (files_of history new) (λ text. text.items) c.from_residual.ensures.1
     (stopped_went s c.args.seed c.args.count empty (files_of history first) (files_of history new) status
     (subst (λ (l : List Line). StoppedOver s (generated l) (files_of history first) (files_of history new) status) c.new-script.ensures
@@ -48,7 +48,7 @@ returns-in_err-line_of-clause-done g c = λ kj kp t is files empty.
     let n = c.args.core.now.number in
     let first : KeptStore g.row.P.Denot = kept c.args.core.now c.args.journal.now c.args.checkpoints.now in
     let new : KeptStore g.row.P.Denot = kept c.run_lines.new.core c.run_lines.new.journal c.run_lines.new.checkpoints in
-    let s : State StoreCall = start t n tx_limit in
+    let s : State BookCall = start t n tx_limit in
     let ran : AllCounted known history s (script c.args.seed c.args.count) first new (nothing_yet c.args.count) c.run_lines.new.summary =
     subst (λ (x : List Line × Summary). AllCounted known history s x.0 first new x.1 c.run_lines.new.summary) (λ i. (c.new-script.ensures i, c.new-summary.ensures i))
     (c.in_ok-run_lines.ensures.ran kj kp s (new_stands known history first.core c.requires.opened t is) files) in
@@ -73,9 +73,9 @@ returns-clause-done g c = λ kj kp t is files empty.
     let n = c.args.core.now.number in
     let first : KeptStore g.row.P.Denot = kept c.args.core.now c.args.journal.now c.args.checkpoints.now in
     let new : KeptStore g.row.P.Denot = kept c.run_lines.new.core c.run_lines.new.journal c.run_lines.new.checkpoints in
-    let s : State StoreCall = start t n tx_limit in
+    let s : State BookCall = start t n tx_limit in
     let ran : AllCounted known history s (script c.args.seed c.args.count) first new (nothing_yet c.args.count) c.run_lines.new.summary =
     subst (λ (x : List Line × Summary). AllCounted known history s x.0 first new x.1 c.run_lines.new.summary) (λ i. (c.new-script.ensures i, c.new-summary.ensures i))
     (c.in_ok-run_lines.ensures.ran kj kp s (new_stands known history first.core c.requires.opened t is) files) in
     goes_to_text known history t n c.args.seed c.args.count c.args.checkpoints.now.every empty first new c.run_lines.new.summary ran c.in_ok-line_of.field-0.items c.in_ok-line_of.ensures
-    kp (new_tree known history first.core c.requires.opened t is) refl (ap (λ (v : CoreView StoreCall (Base g.row.P.Denot)). v.book) c.requires.opened) refl c.in_ok-run_lines.ensures.goes_on (λ known. c.in_ok-run_lines.ensures.reads kj)
+    kp (new_tree known history first.core c.requires.opened t is) refl (ap (λ (v : CoreView BookCall (Base g.row.P.Denot)). v.book) c.requires.opened) refl c.in_ok-run_lines.ensures.goes_on (λ known. c.in_ok-run_lines.ensures.reads kj)

@@ -6,7 +6,7 @@ use Rattle.call_contract.specs.Books.{IsBookFrom}
 use Rattle.checkpoint.specs.Bases.{contents_of, unchanged_count}
 use Rattle.checkpoint.specs.declared.base.Base.{Base}
 use Rattle.command_lines.specs.Replies.{reply_text}
-use Rattle.command_lines.specs.declared.command.StoreCall.{StoreCall}
+use Rattle.session_driver.specs.Asking.{BookCall}
 use Rattle.command_words.specs.Commands.{workers}
 use Rattle.journal.specs.Views.{JournalView}
 use Rattle.script_runs.specs.Counts.{Counts, DisksCountedWhere}
@@ -25,7 +25,7 @@ use Rattle.xtc.proofs.workers.work.Goals as goal
 
 pub answer_script-core-requires-clause-begin : goal.answer_script-core-requires-clause-begin
 answer_script-core-requires-clause-begin g c = λ κs within. record {
-  book = ap (λ (v : CoreView StoreCall (Base g.row.P.Denot)). v.book) c.requires.opened;
+  book = ap (λ (v : CoreView BookCall (Base g.row.P.Denot)). v.book) c.requires.opened;
   takes = c.requires.begun.takes.usable;
   next = c.requires.begun.takes.next;
 }

@@ -4,7 +4,7 @@ use Rattle.node_seq.specs.Trees.{StandsFor}
 use Rattle.checkpoint.specs.Bases.{contents_of}
 use Rattle.checkpoint.specs.declared.base.Base.{Base}
 use Rattle.script_runs.specs.Counts.{DisksCountedWhere}
-use Rattle.command_lines.specs.declared.command.StoreCall.{StoreCall}
+use Rattle.session_driver.specs.Asking.{BookCall}
 use Rattle.tx_core.specs.Cores.{CoreView}
 use Rattle.workers_text.specs.Shown.{lines_in}
 use Rattle.xtc.specs.StoreMachine.{HasPages}
@@ -19,22 +19,22 @@ work-requires-clause-opened g c = λ κs within. new_core (contents_of g.P.Disk.
 
 pub work-requires-clause-begun : goal.work-requires-clause-begun
 work-requires-clause-begun g c = λ κs within.
-    subst (λ (v : CoreView StoreCall (Base g.row.P.Denot)). IsBegun g.P.Disk.is_known g.P.Disk.history v.base v.number c.args.journal c.args.checkpoints) (sym c.in-Ok.ensures.ok) c.requires.begun
+    subst (λ (v : CoreView BookCall (Base g.row.P.Denot)). IsBegun g.P.Disk.is_known g.P.Disk.history v.base v.number c.args.journal c.args.checkpoints) (sym c.in-Ok.ensures.ok) c.requires.begun
 
 pub work-requires-clause-tree : goal.work-requires-clause-tree
 work-requires-clause-tree g c = λ κs within.
-    subst (λ (v : CoreView StoreCall (Base g.row.P.Denot)). IsTrue g.P.Disk.is_known → HasTree (contents_of g.P.Disk.is_known g.P.Disk.history v.base)) (sym c.in-Ok.ensures.ok) c.requires.tree
+    subst (λ (v : CoreView BookCall (Base g.row.P.Denot)). IsTrue g.P.Disk.is_known → HasTree (contents_of g.P.Disk.is_known g.P.Disk.history v.base)) (sym c.in-Ok.ensures.ok) c.requires.tree
 
 pub returns-in-Ok-clause-done : goal.returns-in-Ok-clause-done
 returns-in-Ok-clause-done g c = λ kj kp t.
     let history = g.P.Disk.history in
     let every = c.args.checkpoints.every in
-    subst (λ (v : CoreView StoreCall (Base g.row.P.Denot)). StandsFor (contents_of g.P.Disk.is_known history v.base) t → StandSettled (files_beside history c.args.journal v.base c.args.checkpoints) t v.number
+    subst (λ (v : CoreView BookCall (Base g.row.P.Denot)). StandsFor (contents_of g.P.Disk.is_known history v.base) t → StandSettled (files_beside history c.args.journal v.base c.args.checkpoints) t v.number
     → ScriptDone t v.number every (lines_in c.args.script.now.entries) (files_beside history c.args.journal v.base c.args.checkpoints)
     (files_beside history c.work.result.journal c.work.result.base c.work.result.checkpoints) (λ text. text.items) c.work.result.text) c.in-Ok.ensures.ok (c.work.ensures.done kj kp t)
 
 pub returns-in-Ok-clause-counts : goal.returns-in-Ok-clause-counts
-returns-in-Ok-clause-counts g c = subst (λ (v : CoreView StoreCall (Base g.row.P.Denot)). DisksCountedWhere (c.work.result.text ≡ Err DiskFault)
+returns-in-Ok-clause-counts g c = subst (λ (v : CoreView BookCall (Base g.row.P.Denot)). DisksCountedWhere (c.work.result.text ≡ Err DiskFault)
     (counts_beside g.P.Disk.faults c.args.journal v.base c.args.checkpoints) (counts_beside g.P.Disk.faults c.work.result.journal c.work.result.base c.work.result.checkpoints)) c.in-Ok.ensures.ok c.work.ensures.counts
 
 pub returns-in-Err-clause-done : goal.returns-in-Err-clause-done

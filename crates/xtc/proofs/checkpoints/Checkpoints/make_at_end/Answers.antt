@@ -1,7 +1,7 @@
 use Rattle.std.proofs.Common.{Bool, IsTrue, subst}
 use Rattle.std.specs.Prelude.{OnOk}
 use Rattle.call_contract.specs.States.{State}
-use Rattle.command_lines.specs.declared.command.StoreCall.{StoreCall}
+use Rattle.session_driver.specs.Asking.{BookCall}
 use Rattle.checkpoint.specs.Renewals.{pages_of}
 use Rattle.xtc.specs.StoreMachine.{Stands}
 use Rattle.xtc.specs.inside.Renewing.{DamagedWhere, IsMadeWhere, LeftAsBefore}
@@ -9,7 +9,7 @@ use Rattle.xtc.proofs.checkpoints.Checkpoints.make_at_end.Goals as goal
 
 pub returns-clause-made : goal.returns-clause-made
 returns-clause-made g c =
-    subst (λ (b : Bool). OnOk c.make_where.result (IsTrue g.P.Disk.is_known → (s : State StoreCall) → Stands g.P.Disk.is_known g.P.Disk.history c.args.core.now s
+    subst (λ (b : Bool). OnOk c.make_where.result (IsTrue g.P.Disk.is_known → (s : State BookCall) → Stands g.P.Disk.is_known g.P.Disk.history c.args.core.now s
     → IsMadeWhere b s (pages_of g.P.Disk.history c.args.core.now.base) (pages_of g.P.Disk.history c.make_where.new.core.base))) c.is_due_at_end-due.ensures c.make_where.ensures.made
 
 pub returns-clause-left : goal.returns-clause-left
