@@ -96,7 +96,10 @@ fn search<S: NodeRead>(alloc: Global, seq: &mut S) -> Result<u32, SeqError> {
 /// A time in nanoseconds.
 fn nanos(time: io::Result<Duration>) -> u64 {
     match time {
-        Ok(time) => time.as_nanos() as u64,
+        Ok(time) => time
+            .as_secs()
+            .saturating_mul(1_000_000_000)
+            .saturating_add(u64::from(time.subsec_nanos())),
         Err(_) => 0,
     }
 }
