@@ -147,6 +147,7 @@ module _ {C : Type 0} (m : CallMeaning C) where
 
   -- the last one of a serial run was answered on the tree that the others make
   last_answered : (ds : List (Committed C)) (own : Committed C) (t : Tree) → (serial m (ds ++ own ∷ []) t).replies ≡ all_given (ds ++ own ∷ []) → replies m own.calls (serial m ds t).tree ≡ given own.calls
+  unfolding head_of tail_of
   last_answered [] own t is = ap head_of is
   last_answered (d ∷ ds) own t is = last_answered ds own (view m d.calls t) (ap tail_of is)
 
